@@ -1,0 +1,2 @@
+-- The proofs of the demands that specs/ states.
+pub mod Runs

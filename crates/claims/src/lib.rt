@@ -1,0 +1,1 @@
+// No code: the demands as theorems about the definitions (specs/ states them, proofs/ proves them).

@@ -1,0 +1,34 @@
+use denote.Ref.{now}
+use mathlib.Core.Path.{_≡_, ap, _∙_}
+use Rattle.step.specs.declared.Answer.{Answer}
+use Rattle.simulation.specs.Simulation.{traceOutput}
+use Rattle.deepchalk.specs.Packed.{packed}
+use borrow.Author.Needs.{needs}
+use Rattle.deepchalk.proofs.deepchalk_simulate.Statement.{statement}
+use Rattle.deepchalk.proofs.deepchalk_simulate.Tie as tie
+use Rattle.deepchalk.proofs.deepchalk_simulate.Reads as reads
+use Rattle.deepchalk.proofs.deepchalk_simulate.Lts as lts
+use Rattle.deepchalk.proofs.pack.Reads as pack-reads
+use Rattle.simulation.proofs.simulate.Reads as simulate-reads
+
+-- src/lib.rt:35:9
+simulate-requires : tie.Need-simulate-requires
+simulate-requires c κs = search needs
+
+-- src/lib.rt:36:5
+pack-requires : tie.Need-pack-requires
+pack-requires c κs = search needs
+
+-- src/lib.rt:29:1
+same-length : tie.Need-same-length
+same-length c = search needs
+
+-- src/lib.rt:29:1
+returns : tie.Need-returns
+returns c = 
+  let s = c .before .before .before .simulate .ensures in
+  let a = c .before .before .before .before .before .before .before .before .before .args in
+  (c .pack .ensures ∙ ap packed (s .0), s .1 ∙ ap (λ (r : Answer). traceOutput r (now (a .set)) (now (a .map)) (now (a .schedule)) (now (a .trace))) (s .0))
+
+pub deepchalk-simulate-spec : {M : Type 1} → statement M
+deepchalk-simulate-spec = tie.close (tie.spec simulate-requires pack-requires same-length returns)

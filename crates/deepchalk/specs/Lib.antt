@@ -1,0 +1,2 @@
+-- The boundary: an answer as one number.
+pub mod Packed

@@ -1,0 +1,24 @@
+-- What each answer is to a caller in C or Rust: one number of 64 bits. Assumes nothing.
+use Prim.Native.Nat.{ℕ, _+_, _*_}
+use Rattle.step.specs.declared.Answer.{Answer}
+use Rattle.step.specs.declared.Answer.the-variants.{Ran, Refused}
+use Rattle.step.specs.declared.End.{End}
+use Rattle.step.specs.declared.End.the-variants.{Code, Stuck, Open}
+
+-- the end: 0 for a code, 1 stuck, 2 open
+abbrev pub endNumber : End → ℕ
+endNumber (Code code) = 0
+endNumber Stuck = 1
+endNumber Open = 2
+
+-- the code, 0 without one
+abbrev pub endCode : End → ℕ
+endCode (Code code) = code
+endCode Stuck = 0
+endCode Open = 0
+
+-- Bits 0 to 7 are the refusal's number, 0 on success; on a refusal bits 32 to 63 are its place.
+-- On success bits 8 to 15 are the end, 16 to 31 the code and 32 to 47 the steps.
+abbrev pub packed : Answer → ℕ
+packed (Ran steps end) = 256 * endNumber end + 65536 * endCode end + 4294967296 * steps
+packed (Refused number place) = number + 4294967296 * place

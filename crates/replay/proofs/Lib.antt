@@ -1,0 +1,2 @@
+-- Laws of a replayed step.
+pub mod Judged

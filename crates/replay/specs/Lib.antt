@@ -1,0 +1,2 @@
+-- Replay of a trace: its answer.
+pub mod Replay

@@ -1,0 +1,5 @@
+-- Laws of what simulation and replay share.
+pub mod MapCells
+pub mod Tests
+pub mod Steps
+pub mod Layouts

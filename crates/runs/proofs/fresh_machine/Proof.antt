@@ -1,0 +1,29 @@
+use mathlib.Core.Path.{_≡_, refl, sym}
+use Rattle.step.specs.Machine.{State, fresh, unmarked}
+use mathlib.Core.Bool.{false}
+use Rattle.step.proofs.Four.{four}
+use borrow.Author.Needs.{needs}
+use Rattle.runs.proofs.fresh_machine.Statement.{statement}
+use Rattle.runs.proofs.fresh_machine.Tie as tie
+use Rattle.runs.proofs.fresh_machine.Reads as reads
+use Rattle.runs.proofs.fresh_machine.Lts as lts
+use Rattle.step.proofs.Thread.fresh.Reads as fresh-reads
+
+-- src/lib.rt:28:9
+fresh-requires : tie.Need-fresh-requires
+fresh-requires c κs = search needs
+
+-- src/lib.rt:25:1
+returns : tie.Need-returns
+returns c = 
+  let e = c .fresh .ensures in
+  λ memory k. record
+    { threads = four _ _ _ _ fresh (λ t. fresh) e e e e (λ t h. refl) k
+    ; marks = four unmarked unmarked unmarked unmarked unmarked (λ t. unmarked) refl refl refl refl (λ t h. refl) k
+    ; memory = memory
+    ; ended = false
+    ; code = 0
+    }
+
+pub fresh-machine-spec : {M : Type 1} → statement M
+fresh-machine-spec = tie.close (tie.spec fresh-requires returns)

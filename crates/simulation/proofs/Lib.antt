@@ -1,0 +1,3 @@
+-- Laws of simulation, and document 01's samples computed by its definition.
+mod Samples
+pub mod Written

@@ -1,0 +1,45 @@
+-- Simulation by a given schedule (document 01): its answer for every input, and the lent output afterwards. Assumes nothing.
+use Prim.Native.Nat.{ℕ, _*_}
+use mathlib.Core.Bool.{Bool, cond, _&&_}
+use mathlib.Core.List.{List}
+use lib.Dec.{ltb}
+use lib.ListN.{length, take}
+use mathlib.Core.Path.{_≡_}
+use Rattle.base.specs.Bytes.{over}
+use Rattle.records.specs.Maps.{mapAccepted, mapValue}
+use Rattle.records.specs.Sets.{Set, setOf, setAccepted}
+use Rattle.step.specs.Machine.{start, noWrite}
+use Rattle.step.specs.Maps.{begin, follow}
+use Rattle.step.specs.Runs.{choices}
+use Rattle.step.specs.Traces.{trace}
+use Rattle.step.specs.declared.Answer.{Answer}
+use Rattle.step.specs.declared.Answer.the-variants.{Ran, Refused}
+
+-- 17, a schedule above 64 steps; 11, an output below 24 bytes a step; then the steps: 12 and 14 in each.
+unfoldable pub limited : Set → (map schedule : List ℕ) (room : ℕ) → Answer
+limited S map schedule room =
+    cond (ltb 64 (length schedule)) (Refused 17 0)
+    (cond (ltb room (24 * length schedule)) (Refused 11 0)
+    (follow S (begin map) 0 (choices schedule)))
+
+-- 9 comes first.
+unfoldable pub simulated : (set map schedule : List ℕ) (room : ℕ) → Answer
+simulated set map schedule room =
+    cond (setAccepted set && mapAccepted 256 map) (limited (setOf set) map schedule room) (Refused 9 0)
+
+-- the trace of the schedule's run over the map
+unfoldable pub scheduleTrace : (set map schedule : List ℕ) → List ℕ
+scheduleTrace set map schedule = trace (setOf set) (start (mapValue map)) noWrite (choices schedule)
+
+-- an output after an answer: a trace over its start, and as it was where the call is refused
+abbrev pub outputOver : Answer → (trace out : List ℕ) → List ℕ
+outputOver (Ran steps end) trace out = over trace out
+outputOver (Refused number place) trace out = out
+
+abbrev pub traceOutput : Answer → (set map schedule out : List ℕ) → List ℕ
+traceOutput answer set map schedule out = outputOver answer (scheduleTrace set map schedule) out
+
+-- bytes begin with a trace, where the answer has one
+abbrev pub Begins : Answer → (trace bytes : List ℕ) → Type 0
+Begins (Ran steps end) trace bytes = take (length trace) bytes ≡ trace
+Begins (Refused number place) trace bytes = Unit {0}

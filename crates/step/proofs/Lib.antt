@@ -1,0 +1,7 @@
+-- Laws of the machine's definitions, which the proofs of this crate and of those above cite.
+pub mod Cells
+pub mod Four
+pub mod Loads
+pub mod Runs
+pub mod Permitted
+pub mod Settled

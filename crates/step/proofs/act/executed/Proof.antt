@@ -1,0 +1,21 @@
+use mathlib.Core.Path.{_≡_, ap₂}
+use Rattle.step.specs.Machine.{withPc}
+use borrow.Author.Needs.{needs}
+use Rattle.step.proofs.act.executed.Statement.{statement}
+use Rattle.step.proofs.act.executed.Tie as tie
+use Rattle.step.proofs.act.executed.Reads as reads
+use Rattle.step.proofs.act.executed.Lts as lts
+use Rattle.step.proofs.act.next_pc.Reads as next-pc-reads
+use Rattle.step.proofs.registers.row.Reads as row-reads
+
+next-pc-requires : tie.Need-next-pc-requires
+next-pc-requires c κs = search needs
+
+row-requires : tie.Need-row-requires
+row-requires c κs = search needs
+
+returns : tie.Need-returns
+returns c = ap₂ withPc (c .before .next-pc .ensures) (c .row .ensures)
+
+pub executed-spec : {M : Type 1} → statement M
+executed-spec = tie.close (tie.spec next-pc-requires row-requires returns)

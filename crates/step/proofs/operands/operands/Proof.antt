@@ -1,0 +1,86 @@
+use Rattle.records.specs.Instructions.{isMemory}
+use denote.Ref.{now}
+use lib.Dec.{eqb}
+use mathlib.Core.Path.{_≡_, _∙_, sym, ap, refl}
+use mathlib.Core.Bool.{Bool, true, false, not, _&&_}
+use borrow.Author.Tests.{eq-eqb, ne-eqb}
+use Rattle.base.proofs.Choice.{and-true, and-false, and-right-false, and-yes}
+use Rattle.step.specs.Machine.{takesWord}
+use Rattle.step.specs.Held.{memoryIn, knownIn}
+use Rattle.step.proofs.Loads.{knows-from, word-none, plain}
+use borrow.Author.Needs.{needs}
+use Rattle.step.proofs.operands.operands.Statement.{statement}
+use Rattle.step.proofs.operands.operands.Tie as tie
+use Rattle.step.proofs.operands.operands.Reads as reads
+use Rattle.step.proofs.operands.operands.Lts as lts
+use Rattle.records.proofs.is_memory.Reads as is-memory-reads
+use Rattle.step.proofs.operands.address.Reads as address-reads
+use Rattle.step.proofs.operands.word.Reads as word-reads
+
+-- past the first test the statement is a memory word
+memoryWord : (c : tie.After-address) → isMemory (c .before .before .before .before .before .args .i .number) ≡ true
+memoryWord c = sym (c .before .before .is-memory .ensures) ∙ c .before .if1 .taken
+
+is-memory-requires : tie.Need-is-memory-requires
+is-memory-requires c κs = search needs
+
+address-requires : tie.Need-address-requires
+address-requires c κs = sym (c .before .is-memory .ensures) ∙ c .if1 .taken
+
+returns : tie.Need-returns
+returns c =
+    let s = c .before .before .before .before .before .before .before in
+    let a = s .args in
+    let t : takesWord (a .i .number) ≡ false = and-right-false (isMemory (a .i .number)) (ap not (eq-eqb _ _ (c .if2 .taken))) in
+    let w = word-none (a .i) (a .x) (memoryIn (now (a .addresses)) (now (a .values))) (knownIn (now (a .addresses))) t in
+    let e = c .before .before .address .ensures in (
+      sym (and-yes _) ∙ knows-from (a .i) (a .x) (memoryIn (now (a .addresses)) (now (a .values))) (knownIn (now (a .addresses))) _ true (e .0) (w .0),
+      e .1,
+      w .1,
+    )
+
+word-requires : tie.Need-word-requires
+word-requires c κs =
+    (and-true (memoryWord (c .before .before)) (ap not (ne-eqb _ _ (c .if2 .left))), c .before .before .address .ensures .1)
+
+returns-2 : tie.Need-returns-2
+returns-2 c =
+    let s = c .before .before .before .before .before .before .before .before .before in
+    let a = s .args in
+    let e = c .before .before .before .before .address .ensures in
+    let w = c .before .word .ensures in (
+      sym (ap (λ (b : Bool). b && c .before .word .result .known) (c .if3 .taken))
+          ∙ knows-from (a .i) (a .x) (memoryIn (now (a .addresses)) (now (a .values))) (knownIn (now (a .addresses))) _ _ (e .0) (rw (e .1) at (w .0)),
+      e .1,
+      w .1,
+    )
+
+returns-3 : tie.Need-returns-3
+returns-3 c =
+    let s = c .before .before .before .before .before .before .before .before .before in
+    let a = s .args in
+    let e = c .before .before .before .before .address .ensures in
+    let w = c .before .word .ensures in (
+      sym (and-false (c .before .word .result .known) (c .if3 .left))
+          ∙ knows-from (a .i) (a .x) (memoryIn (now (a .addresses)) (now (a .values))) (knownIn (now (a .addresses))) _ _ (e .0) (rw (e .1) at (w .0)),
+      e .1,
+      w .1,
+    )
+
+returns-4 : tie.Need-returns-4
+returns-4 c =
+    let s = c .before .before .before .before in
+    let a = s .args in
+    plain (a .i) (a .x) (memoryIn (now (a .addresses)) (now (a .values))) (knownIn (now (a .addresses))) (sym (c .before .is-memory .ensures) ∙ c .if1 .left)
+
+pub operands-spec : {M : Type 1} → statement M
+operands-spec =
+    tie.close
+    (tie.spec
+    is-memory-requires
+    address-requires
+    returns
+    word-requires
+    returns-2
+    returns-3
+    returns-4)

@@ -1,0 +1,91 @@
+-- How the code holds a state and what is known of memory: four threads and marks, and the sparse memory's two arrays with a filled count.
+-- Assumes nothing.
+use Prim.Native.Nat.{ℕ, _+_, _≤_}
+use mathlib.Core.Path.{_≡_}
+use mathlib.Core.Bool.{Bool, true, cond, not, _&&_, _||_}
+use mathlib.Core.List.{List}
+use lib.Dec.{eqb, leb, ltb}
+use lib.ListN.{length, getD}
+use Rattle.records.specs.Maps.{holds, content}
+use Rattle.records.specs.Instructions.{EXIT, CHECK}
+use Rattle.records.specs.Sets.{Set}
+use Rattle.records.specs.declared.Layout.{Layout}
+use Rattle.records.specs.declared.Statement.{Statement}
+use Rattle.step.specs.Machine.{State, fresh, unmarked, opened, cleared, allHalted, written, noWrite}
+use Rattle.step.specs.declared.Mark.{Mark}
+use Rattle.step.specs.declared.Outcome.{Outcome}
+use Rattle.step.specs.declared.Outcome.the-variants.{Taken, NotPermitted, Lacking}
+use Rattle.step.specs.declared.Stepped.{Stepped}
+use Rattle.step.specs.declared.Thread.{Thread}
+use Rattle.step.specs.Maps.{Held, outcome, advanced}
+use Rattle.step.specs.declared.Choice.{Choice}
+use Rattle.step.specs.declared.Machine.{Machine}
+
+abbrev pub stateOf : Machine → (ℕ → ℕ) → State
+stateOf m memory = record {
+  threads = λ t. getD (m .threads) t fresh;
+  marks = λ t. getD (m .marks) t unmarked;
+  memory = memory;
+  ended = m .ended;
+  code = m .code;
+}
+
+-- the threads once thread t has registers y
+abbrev pub threadsSettled : (ℕ → Thread) → ℕ → Thread → ℕ → Thread
+threadsSettled threads t y u = cond (eqb u t) y (threads u)
+
+-- the marks after thread t's statement i
+abbrev pub marksSettled : Set → (ℕ → Mark) → ℕ → Statement → ℕ → Mark
+marksSettled S marks t i u =
+    cond (eqb (i .number) CHECK && not (opened S marks (i .argument)) && eqb u t)
+    (record { on = true; checkpoint = i .argument })
+    (cleared S marks u)
+
+-- the state once thread t has registers y after statement i, memory apart: marks cleared and left, and the end
+abbrev pub settled : Set → State → ℕ → Thread → Statement → State
+settled S s t y i = record {
+  threads = threadsSettled (s .threads) t y;
+  marks = marksSettled S (s .marks) t i;
+  memory = s .memory;
+  ended = s .ended || eqb (i .number) EXIT || allHalted S (threadsSettled (s .threads) t y);
+  code = cond (eqb (i .number) EXIT) (i .argument) (s .code);
+}
+
+-- the first `filled` cells of the sparse memory
+abbrev pub memoryOf : List ℕ → List ℕ → ℕ → ℕ → ℕ
+memoryOf addresses values filled a = content (λ k. getD addresses k 0) (λ k. getD values k 0) filled a
+
+abbrev pub knownOf : List ℕ → ℕ → ℕ → Bool
+knownOf addresses filled a = holds (λ k. getD addresses k 0) filled a
+
+-- the whole of two slices
+abbrev pub memoryIn : List ℕ → List ℕ → ℕ → ℕ
+memoryIn addresses values = memoryOf addresses values (length addresses)
+
+abbrev pub knownIn : List ℕ → ℕ → Bool
+knownIn addresses = knownOf addresses (length addresses)
+
+abbrev pub heldOf : Machine → List ℕ → List ℕ → ℕ → Held
+heldOf m addresses values filled = record { state = stateOf m (memoryOf addresses values filled); known = knownOf addresses filled }
+
+-- at most four threads, and room for one cell more: every run of at most 64 steps over at most 256 cells has it in arrays of 320
+abbrev pub hasRoom : Layout → (addresses values filled : ℕ) → Bool
+hasRoom layout addresses values filled = leb (layout .threads) 4 && ltb filled addresses && ltb filled values
+
+-- a step that is not taken: nothing changes
+abbrev pub still : Bool → Machine → ℕ → Stepped
+still fit m filled = record { fit = fit; outcome = NotPermitted; machine = m; filled = filled; wrote = noWrite }
+
+-- x where the step was taken, else y
+abbrev pub onTaken : {A : Type 0} → Outcome → A → A → A
+onTaken Taken x y = x
+onTaken NotPermitted x y = y
+onTaken Lacking x y = y
+
+-- what a call that takes a step promises: its outcome, and the state afterwards, which is as it was where the step is not taken
+pub record Advances (fit : Bool) (S : Set) (before : Held) (c : Choice) (filled : ℕ) (r : Stepped) (afterwards : Held) : Type 0 where
+  pub fits : r .fit ≡ fit
+  pub came : r .outcome ≡ cond fit (outcome S before c) NotPermitted
+  pub held : afterwards ≡ onTaken (r .outcome) (advanced S before c) before
+  pub wrote : r .wrote ≡ onTaken (r .outcome) (written S (before .state) c) noWrite
+  pub more : r .filled ≤ filled + 1

@@ -1,0 +1,102 @@
+// The machine: threads, checkpoints and a sparse memory, and one step. The rule that simulation, replay, encoder and decoder stand on.
+pub mod act;
+mod checkpoints;
+pub mod choices;
+mod memory;
+mod operands;
+mod registers;
+
+ghost use mathlib.Core.Path.{_≡_};
+ghost use Rattle.step.specs.Machine.{fresh};
+
+// A thread's registers.
+pub struct Thread {
+    pub accu: u16,
+    pub mem: u16,
+    pub adr: u16,
+    pub val: u16,
+    pub full: bool,
+    pub pc: u16,
+    pub halted: bool,
+}
+
+// Where a thread is marked, if it is.
+pub struct Mark {
+    pub on: bool,
+    pub checkpoint: u16,
+}
+
+// A step: one thread executing or one thread flushing.
+pub enum Choice {
+    Execute(u8),
+    Flush(u8),
+}
+
+// The cell that a step wrote, if it wrote one.
+pub struct Written {
+    pub done: bool,
+    pub address: u16,
+    pub value: u16,
+}
+
+// The machine apart from its memory.
+pub struct Machine {
+    pub threads: [Thread; 4],
+    pub marks: [Mark; 4],
+    pub ended: bool,
+    pub code: u16,
+}
+
+// How a step came out: taken, not permitted, or a cell read that is not known.
+pub enum Outcome {
+    Taken,
+    NotPermitted,
+    Lacking,
+}
+
+// What a step gave: its outcome, the machine and the filled count afterwards, and what was written.
+// fit is false where the layout has more than four threads or the lent arrays have no room for a cell more.
+pub struct Stepped {
+    pub fit: bool,
+    pub outcome: Outcome,
+    pub machine: Machine,
+    pub filled: usize,
+    pub wrote: Written,
+}
+
+// How a run stands: ended with a code, stuck, or open.
+pub enum End {
+    Code(u16),
+    Stuck,
+    Open,
+}
+
+// What simulation and replay answer.
+pub enum Answer {
+    Ran { steps: u16, end: End },
+    Refused { number: u8, place: u32 },
+}
+
+impl Machine {
+    // Steps that a schedule or a trace may have.
+    pub const STEPS: usize = 64;
+
+    // Cells that a run keeps: 256 of the map and 64 written.
+    pub const CELLS: usize = 320;
+}
+
+impl Thread {
+    pub fn fresh() -> Self
+        ensures { λ r. ⌜ r ≡ fresh ⌝ }
+    {
+        Thread {
+            accu: 0,
+            mem: 0,
+            adr: 0,
+            val: 0,
+            full: false,
+            pc: 0,
+            halted: false,
+        }
+    }
+}

@@ -1,0 +1,80 @@
+/* Deepchalk's proved calls for C: simulation by a given schedule, and replay of a trace.
+ * Link libdeepchalk.a. Numbers, records and steps are those of document 01; multi-byte fields are
+ * little-endian.
+ *
+ * Buffers are passed as a pointer and a length in bytes. A pointer must not be null, also where its
+ * length is 0. Inputs of any length and content are taken. Buffers must not overlap an output.
+ *
+ *   set       statement records, 8 bytes each: thread, instruction number, mode (1 indirect), 0,
+ *             argument (2), pc (2)
+ *   map       at most 256 cells, 4 bytes each: address (2), value (2); addresses strictly ascend
+ *   schedule  a byte for each step, at most 64: t executes thread t, 128 + t flushes it
+ *   trace     24 bytes for each step, at most 64
+ */
+#ifndef DEEPCHALK_H
+#define DEEPCHALK_H
+
+#include <stddef.h>
+#include <stdint.h>
+
+#ifdef __cplusplus
+extern "C" {
+#endif
+
+/* Refusals that these calls return. Place is the step, from 0, for 12 to 14, else 0. */
+enum {
+    DEEPCHALK_RECORDS = 9,        /* statement or map records not as document 01 has them */
+    DEEPCHALK_ROOM = 11,          /* lent output too short */
+    DEEPCHALK_NOT_PERMITTED = 12, /* choice not permitted, or machine has exited */
+    DEEPCHALK_DIFFERS = 13,       /* trace field differs */
+    DEEPCHALK_LACKS_CELL = 14,    /* first cell read that the map lacks */
+    DEEPCHALK_LENGTH = 17         /* schedule or trace above 64 steps, or trace not whole records */
+};
+
+/* How a run ended. */
+enum {
+    DEEPCHALK_CODE = 0,  /* by a code */
+    DEEPCHALK_STUCK = 1, /* not ended, and no choice is permitted */
+    DEEPCHALK_OPEN = 2   /* not ended, and some choice is permitted */
+};
+
+/* Runs the schedule over the set and the map and writes its trace to the front of `trace`.
+ * Checks in order: 9, 17, 11 (24 bytes for each schedule byte), then 12 and 14 in each step.
+ * A refusal leaves every byte of `trace` as it was, a success those beyond the steps. */
+uint64_t deepchalk_simulate(const uint8_t *set, size_t set_len,
+                            const uint8_t *map, size_t map_len,
+                            const uint8_t *schedule, size_t schedule_len,
+                            uint8_t *trace, size_t trace_len);
+
+/* Compares the trace, step by step, with the run that its choices make over the set and the map.
+ * Checks in order: 9, 17, then 12, 13 and 14 in each step. */
+uint64_t deepchalk_replay(const uint8_t *set, size_t set_len,
+                          const uint8_t *map, size_t map_len,
+                          const uint8_t *trace, size_t trace_len);
+
+/* The answer's parts. The number is 0 on success; end, code and steps are then the run's. On a
+ * refusal the place goes with the number, and end and code are 0. */
+
+static inline unsigned deepchalk_number(uint64_t answer) { return (unsigned)(answer & 0xff); }
+
+/* 0 on success. */
+static inline uint32_t deepchalk_place(uint64_t answer)
+{
+    return deepchalk_number(answer) == 0 ? 0 : (uint32_t)(answer >> 32);
+}
+
+static inline unsigned deepchalk_end(uint64_t answer) { return (unsigned)(answer >> 8 & 0xff); }
+
+static inline uint16_t deepchalk_code(uint64_t answer) { return (uint16_t)(answer >> 16 & 0xffff); }
+
+/* 0 on a refusal. */
+static inline uint16_t deepchalk_steps(uint64_t answer)
+{
+    return deepchalk_number(answer) == 0 ? (uint16_t)(answer >> 32 & 0xffff) : 0;
+}
+
+#ifdef __cplusplus
+}
+#endif
+
+#endif

@@ -1,0 +1,262 @@
+//! Time of the library's calls beside the second simulator's, in one run:
+//! cargo run --release --example bench
+
+use reference::records::{map_bytes, set_bytes};
+use reference::trace::STEP_BYTES;
+use reference::Instruction::{self, *};
+use reference::{Cell, Statement};
+use std::hint::black_box;
+use std::time::{Duration, Instant};
+use testing::schedules::trace_of;
+
+/// Timings of each call; medians are reported.
+const TIMINGS: usize = 101;
+/// One timing makes as many calls as take about this long.
+const TIMING: Duration = Duration::from_millis(1);
+
+struct Workload {
+    name: &'static str,
+    set: Vec<u8>,
+    map: Vec<u8>,
+    schedule: Vec<u8>,
+    trace: Vec<u8>,
+}
+
+impl Workload {
+    fn new(
+        name: &'static str,
+        threads: &[Vec<Statement>],
+        map: Vec<u8>,
+        schedule: Vec<u8>,
+    ) -> Workload {
+        let set = set_bytes(threads);
+        let trace = trace_of(&set, &map, &schedule);
+        Workload {
+            name,
+            set,
+            map,
+            schedule,
+            trace,
+        }
+    }
+}
+
+fn direct(statements: &[(Instruction, u16)]) -> Vec<Statement> {
+    statements
+        .iter()
+        .map(|&(instruction, argument)| Statement::new(instruction, argument))
+        .collect()
+}
+
+fn cells(count: u16) -> Vec<u8> {
+    let cells: Vec<Cell> = (0..count)
+        .map(|index| Cell {
+            address: index * 509,
+            value: (index * 7 % count) * 509,
+        })
+        .collect();
+    map_bytes(&cells)
+}
+
+/// The choices in turn, each one taken where it is permitted, for 64 steps.
+fn in_turn(threads: &[Vec<Statement>], map: &[u8], turns: &[u8]) -> Vec<u8> {
+    let set = reference::accept_set(&set_bytes(threads)).expect("an accepted set");
+    let map = reference::accept_map(map, 256).expect("an accepted map");
+    let mut machine = reference::Machine::fresh(&set, map);
+    let mut schedule = Vec::new();
+    for &byte in turns.iter().cycle() {
+        if schedule.len() == reference::trace::MAX_STEPS {
+            break;
+        }
+        let choice = reference::Choice::from_schedule(byte);
+        if machine.permitted(choice) {
+            machine.step(choice).expect("the map has every cell read");
+            schedule.push(byte);
+        }
+    }
+    schedule
+}
+
+fn store_loop() -> Workload {
+    let threads = [direct(&[(Addi, 1), (Store, 7), (Jmp, 0)])];
+    let schedule = in_turn(&threads, &[], &[0, 0, 128, 0]);
+    Workload::new(
+        "one thread, store loop, 64 steps",
+        &threads,
+        Vec::new(),
+        schedule,
+    )
+}
+
+/// Four threads of 32 statements; every second statement touches memory, half of these indirectly.
+fn memory_heavy() -> Workload {
+    let map = cells(128);
+    let threads: Vec<Vec<Statement>> = (0..4)
+        .map(|thread| {
+            let mut statements: Vec<Statement> = (0..31)
+                .map(|pc| {
+                    let address = (thread * 31 + pc * 3) % 128 * 509;
+                    match pc % 8 {
+                        0 => Statement::indirect(Load, address),
+                        1 => Statement::new(Store, address),
+                        2 => Statement::indirect(Mem, address),
+                        3 => Statement::new(Add, address),
+                        4 => Statement::new(Fence, 0),
+                        5 => Statement::new(Cas, address),
+                        6 => Statement::indirect(Sub, address),
+                        _ => Statement::new(Load, address),
+                    }
+                })
+                .collect();
+            statements.push(Statement::new(Jmp, 0));
+            statements
+        })
+        .collect();
+    let schedule = in_turn(&threads, &map, &[0, 1, 2, 3, 128, 129, 130, 131]);
+    Workload::new(
+        "four threads of 32, map of 128, 64 steps",
+        &threads,
+        map,
+        schedule,
+    )
+}
+
+fn small() -> Workload {
+    let threads = [direct(&[(Jmp, 0)]), direct(&[(Addi, 1), (Exit, 3)])];
+    Workload::new("small run of 3 steps", &threads, Vec::new(), vec![1, 0, 1])
+}
+
+fn checkpoints() -> Workload {
+    let checks: Vec<(Instruction, u16)> = (0..8).map(|number| (Check, number)).collect();
+    let thread = direct(&[checks.as_slice(), &[(Jmp, 0)]].concat());
+    let threads = vec![thread; 4];
+    let schedule = in_turn(&threads, &[], &[0, 1, 2, 3]);
+    Workload::new(
+        "four threads, eight checkpoints, 64 steps",
+        &threads,
+        Vec::new(),
+        schedule,
+    )
+}
+
+/// The schedule's byte for step 60 names no thread, and that step of the trace has a wrong field.
+fn refused_late() -> Workload {
+    let mut workload = store_loop();
+    workload.name = "refused at step 60";
+    workload.schedule[60] = 1;
+    workload.trace[60 * STEP_BYTES + 8] ^= 1;
+    workload
+}
+
+/// Nanoseconds of one call of the library and of the second simulator, and the ratio. The timings
+/// alternate and the ratio is the median over neighbours, since the processor's speed changes.
+struct Times {
+    library: f64,
+    reference: f64,
+    ratio: f64,
+}
+
+fn side_by_side(mut library: impl FnMut(), mut reference: impl FnMut()) -> Times {
+    let calls = calls_for(&mut library, TIMING).max(calls_for(&mut reference, TIMING));
+    let timings: Vec<(f64, f64)> = (0..TIMINGS)
+        .map(|_| {
+            (
+                nanoseconds(&mut library, calls),
+                nanoseconds(&mut reference, calls),
+            )
+        })
+        .collect();
+    Times {
+        library: median(timings.iter().map(|pair| pair.0).collect()),
+        reference: median(timings.iter().map(|pair| pair.1).collect()),
+        ratio: median(timings.iter().map(|pair| pair.0 / pair.1).collect()),
+    }
+}
+
+/// How many calls take at least this long.
+fn calls_for(call: &mut impl FnMut(), time: Duration) -> u32 {
+    let mut calls = 1;
+    while nanoseconds(call, calls) * f64::from(calls) < time.as_nanos() as f64 {
+        calls *= 2;
+    }
+    calls
+}
+
+fn nanoseconds(call: &mut impl FnMut(), calls: u32) -> f64 {
+    let start = Instant::now();
+    for _ in 0..calls {
+        call();
+    }
+    start.elapsed().as_nanos() as f64 / f64::from(calls)
+}
+
+fn median(mut timings: Vec<f64>) -> f64 {
+    timings.sort_by(f64::total_cmp);
+    timings[timings.len() / 2]
+}
+
+fn print_row(name: &str, call: &str, times: Times) {
+    println!(
+        "{name:<42} {call:<9} {:>10.0} {:>10.0} {:>7.2}",
+        times.library, times.reference, times.ratio
+    );
+}
+
+fn simulations(work: &Workload) -> Times {
+    let (set, map, schedule) = (&work.set, &work.map, &work.schedule);
+    let mut trace = vec![0; schedule.len() * STEP_BYTES];
+    let mut second_trace = trace.clone();
+    assert_eq!(
+        format!("{:?}", deepchalk::simulate(set, map, schedule, &mut trace)),
+        format!(
+            "{:?}",
+            reference::simulate(set, map, schedule, &mut second_trace)
+        ),
+    );
+    assert_eq!(trace, second_trace);
+    side_by_side(
+        || {
+            let (set, map, schedule) = black_box((set, map, schedule));
+            let _ = black_box(deepchalk::simulate(set, map, schedule, &mut trace));
+        },
+        || {
+            let (set, map, schedule) = black_box((set, map, schedule));
+            let _ = black_box(reference::simulate(set, map, schedule, &mut second_trace));
+        },
+    )
+}
+
+fn replays(work: &Workload) -> Times {
+    let (set, map, trace) = (&work.set, &work.map, &work.trace);
+    assert_eq!(
+        format!("{:?}", deepchalk::replay(set, map, trace)),
+        format!("{:?}", reference::replay(set, map, trace)),
+    );
+    side_by_side(
+        || {
+            let (set, map, trace) = black_box((set, map, trace));
+            let _ = black_box(deepchalk::replay(set, map, trace));
+        },
+        || {
+            let (set, map, trace) = black_box((set, map, trace));
+            let _ = black_box(reference::replay(set, map, trace));
+        },
+    )
+}
+
+fn main() {
+    println!(
+        "{:<42} {:<9} {:>10} {:>10} {:>7}",
+        "", "call", "library ns", "second ns", "ratio"
+    );
+    for work in [
+        store_loop(),
+        memory_heavy(),
+        small(),
+        checkpoints(),
+        refused_late(),
+    ] {
+        print_row(work.name, "simulate", simulations(&work));
+        print_row(work.name, "replay", replays(&work));
+    }
+}

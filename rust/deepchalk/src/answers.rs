@@ -1,0 +1,134 @@
+//! What the calls answer, taken from the packed number that the library returns.
+
+use std::error::Error;
+use std::fmt;
+
+/// How far a run went: it ended with a code, no choice was permitted any more, or some choice still
+/// was.
+#[derive(Clone, Copy, Debug, PartialEq, Eq)]
+pub enum End {
+    Code(u16),
+    Stuck,
+    Open,
+}
+
+/// A run that was accepted.
+#[derive(Clone, Copy, Debug, PartialEq, Eq)]
+pub struct Ran {
+    pub steps: u16,
+    pub end: End,
+}
+
+/// A refusal by its number in document 01's table. `place` is a line from 1, a step from 0 or a
+/// record from 0, as the number has it, else 0.
+#[derive(Clone, Copy, Debug, PartialEq, Eq)]
+pub struct Refusal {
+    pub number: u8,
+    pub place: u32,
+}
+
+impl Refusal {
+    /// What the number stands for.
+    pub fn meaning(&self) -> &'static str {
+        match self.number {
+            1 => "text above 16,384 bytes",
+            2 => "line malformed or forbidden byte",
+            3 => "number above 65,535",
+            4 => "threads not 1 to 4",
+            5 => "a thread's statements not 1 to 32",
+            6 => "label doubled in a thread, unknown, or target beyond the last statement",
+            7 => "more than 8 different checkpoints",
+            8 => "map address doubled, or above 128 cells in a text",
+            9 => "statement or map records not as they must be",
+            10 => "bound not 1 to 64",
+            11 => "lent output or work memory too short",
+            12 => "choice not permitted, or machine has exited",
+            13 => "trace field differs",
+            14 => "first cell read that the map lacks",
+            15 => "model not as it must be",
+            16 => "constraint or goal that is 0",
+            17 => "schedule or trace above 64 steps, or trace not whole records",
+            _ => "a number that no call returns",
+        }
+    }
+}
+
+impl fmt::Display for Refusal {
+    fn fmt(&self, f: &mut fmt::Formatter<'_>) -> fmt::Result {
+        write!(f, "refused {}: {}", self.number, self.meaning())?;
+        match self.number {
+            2 | 3 => write!(f, ", in line {}", self.place),
+            12..=14 => write!(f, ", at step {}", self.place),
+            16 => write!(f, ", in record {}", self.place),
+            _ => Ok(()),
+        }
+    }
+}
+
+impl Error for Refusal {}
+
+/// The answer of simulation or replay. Bits 0 to 7 are the refusal's number, 0 on success. On
+/// success bits 8 to 15 are the end, 16 to 31 the code, 32 to 47 the steps; on a refusal bits 32 to
+/// 63 are the place.
+pub(crate) fn run_answer(packed: u64) -> Result<Ran, Refusal> {
+    let number = packed as u8;
+    if number != 0 {
+        return Err(Refusal {
+            number,
+            place: (packed >> 32) as u32,
+        });
+    }
+    let end = match (packed >> 8) as u8 {
+        0 => End::Code((packed >> 16) as u16),
+        1 => End::Stuck,
+        2 => End::Open,
+        other => unreachable!("the library gave {other} as an end"),
+    };
+    Ok(Ran {
+        steps: (packed >> 32) as u16,
+        end,
+    })
+}
+
+#[cfg(test)]
+mod tests {
+    use super::*;
+
+    #[test]
+    fn packed_answers() {
+        let ran = |steps, end| Ok(Ran { steps, end });
+        assert_eq!(run_answer(0), ran(0, End::Code(0)));
+        assert_eq!(run_answer(0x0003_fffe_0000), ran(3, End::Code(65_534)));
+        assert_eq!(run_answer(0x0040_0000_0100), ran(64, End::Stuck));
+        assert_eq!(run_answer(0x0001_0000_0200), ran(1, End::Open));
+        assert_eq!(
+            run_answer(0x8000_0001_0000_0010),
+            Err(Refusal {
+                number: 16,
+                place: 0x8000_0001
+            })
+        );
+    }
+
+    #[test]
+    fn refusals_in_words() {
+        let words = |number, place| Refusal { number, place }.to_string();
+        assert_eq!(
+            words(2, 7),
+            "refused 2: line malformed or forbidden byte, in line 7"
+        );
+        assert_eq!(
+            words(9, 0),
+            "refused 9: statement or map records not as they must be"
+        );
+        assert_eq!(
+            words(12, 0),
+            "refused 12: choice not permitted, or machine has exited, at step 0"
+        );
+        assert_eq!(words(13, 63), "refused 13: trace field differs, at step 63");
+        assert_eq!(
+            words(16, 40),
+            "refused 16: constraint or goal that is 0, in record 40"
+        );
+    }
+}

@@ -1,0 +1,24 @@
+//! The functions that `libdeepchalk.a` exports, as `include/deepchalk.h` declares them.
+//! Each buffer is a pointer and a length; the pointer of an empty buffer is not null either.
+
+extern "C" {
+    pub fn deepchalk_simulate(
+        set: *const u8,
+        set_len: usize,
+        map: *const u8,
+        map_len: usize,
+        schedule: *const u8,
+        schedule_len: usize,
+        trace: *mut u8,
+        trace_len: usize,
+    ) -> u64;
+
+    pub fn deepchalk_replay(
+        set: *const u8,
+        set_len: usize,
+        map: *const u8,
+        map_len: usize,
+        trace: *const u8,
+        trace_len: usize,
+    ) -> u64;
+}

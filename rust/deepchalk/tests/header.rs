@@ -1,0 +1,40 @@
+//! The C header against the library: a C program is compiled, linked and run.
+
+use std::path::Path;
+use std::process::Command;
+
+#[test]
+fn a_c_program_gets_the_answers() {
+    let package = Path::new(env!("CARGO_MANIFEST_DIR"));
+    let program = Path::new(env!("CARGO_TARGET_TMPDIR")).join("header");
+    // The C compiler that Rust links with.
+    let compiled = Command::new("cc")
+        .args(["-std=c99", "-Wall", "-Wextra", "-Wpedantic", "-Werror"])
+        .arg("-I")
+        .arg(package.join("../../include"))
+        .arg("-o")
+        .arg(&program)
+        .arg(package.join("tests/header.c"))
+        .arg(env!("DEEPCHALK_LIB"))
+        .output()
+        .expect("cc runs");
+    assert!(
+        compiled.status.success(),
+        "{}",
+        String::from_utf8_lossy(&compiled.stderr)
+    );
+
+    let ran = Command::new(&program).output().expect("the program runs");
+    assert!(ran.status.success());
+    let lines = [
+        "0 0 0 3 3",
+        "0 0 0 3 3",
+        "0 0 2 0 2",
+        "12 3 0 0 0",
+        "11 0 0 0 0",
+        "17 0 0 0 0",
+        "13 1 0 0 0",
+    ];
+    let expected = lines.join("\n") + "\n";
+    assert_eq!(String::from_utf8_lossy(&ran.stdout), expected);
+}

@@ -1,0 +1,60 @@
+//! What the calls answer: a run's step count and end, or a numbered refusal with its place.
+
+/// "A run that has not ended is stuck if no choice is permitted, else open."
+#[derive(Clone, Copy, Debug, PartialEq, Eq)]
+pub enum End {
+    Code(u16),
+    Stuck,
+    Open,
+}
+
+/// A run that was accepted.
+#[derive(Clone, Copy, Debug, PartialEq, Eq)]
+pub struct Ran {
+    pub steps: u16,
+    pub end: End,
+}
+
+/// A refusal by its number in document 01's table, with its place.
+#[derive(Clone, Copy, Debug, PartialEq, Eq)]
+pub struct Refusal {
+    pub number: u8,
+    pub place: u32,
+}
+
+impl Refusal {
+    /// Statement or map records not as document 01 has them.
+    pub const RECORDS: Refusal = Refusal::plain(9);
+    /// Lent output too short.
+    pub const ROOM: Refusal = Refusal::plain(11);
+    /// Schedule or trace above 64 steps, or trace not whole records.
+    pub const LENGTH: Refusal = Refusal::plain(17);
+
+    /// A refusal whose place is 0 by rule.
+    const fn plain(number: u8) -> Refusal {
+        Refusal { number, place: 0 }
+    }
+
+    fn at_step(number: u8, step: usize) -> Refusal {
+        Refusal {
+            number,
+            // Runs have at most 64 steps.
+            place: step as u32,
+        }
+    }
+
+    /// Choice not permitted, or machine has exited.
+    pub fn not_permitted(step: usize) -> Refusal {
+        Refusal::at_step(12, step)
+    }
+
+    /// Trace field differs.
+    pub fn differs(step: usize) -> Refusal {
+        Refusal::at_step(13, step)
+    }
+
+    /// First cell read that the map lacks.
+    pub fn lacks_cell(step: usize) -> Refusal {
+        Refusal::at_step(14, step)
+    }
+}

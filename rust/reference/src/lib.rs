@@ -1,0 +1,20 @@
+//! The second simulator: document 01's machine, simulation and replay in plain Rust.
+//! It is written from document 01 alone, so that the proved library can be compared with it.
+
+pub mod answers;
+pub mod cases;
+pub mod instructions;
+pub mod machine;
+pub mod memory;
+pub mod records;
+pub mod replay;
+pub mod simulate;
+pub mod trace;
+
+pub use answers::{End, Ran, Refusal};
+pub use instructions::Instruction;
+pub use machine::{Choice, Machine, Report, Thread};
+pub use memory::{Cell, Memory};
+pub use records::{accept_map, accept_set, Set, Statement};
+pub use replay::replay;
+pub use simulate::simulate;

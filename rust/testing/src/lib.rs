@@ -1,0 +1,18 @@
+//! What the comparing tests share: random and damaged inputs, guarded buffers, and counts of what
+//! the runs reached. Everything is made from a seed, so that a failure can be made again.
+
+pub mod counts;
+pub mod damage;
+pub mod inputs;
+pub mod lent;
+pub mod maps;
+pub mod packed;
+pub mod random;
+pub mod schedules;
+pub mod sets;
+
+pub use counts::Counts;
+pub use inputs::Input;
+pub use lent::Lent;
+pub use packed::packed;
+pub use random::Random;
