@@ -1,15 +1,15 @@
 -- Demand 2 for runs (specs/Runs.antt states it): to replay a trace is to follow the run that its steps show.
--- That an accepted set is well formed is a parameter of the claims that need it, until crate records proves it.
+-- Assumes nothing.
 use Prim.Native.Nat.{ℕ, zero, suc, _*_, _/_, _%_, _≤_, _<_}
 use mathlib.Core.Path.{_≡_, refl, ap, ap₂, sym, _∙_}
-use mathlib.Core.Bool.{Bool, true, false, cond, not, _&&_, _||_}
+use mathlib.Core.Bool.{Bool, true, false, cond, _&&_}
 use mathlib.Core.List.{List, [], _∷_, _++_}
 use native.Mathlib.Omega.{arith}
-use lib.Dec.{eqb, ltb}
+use lib.Dec.{eqb, ltb, leb}
 use lib.ListN.{length, take, drop, length-drop, take-append-drop}
-use borrow.Author.Tests.{ltb-false, le-ltb, eqb-true, eq-eqb, not-false}
+use borrow.Author.Tests.{ltb-false, le-ltb, eqb-true, eq-eqb, leb-true, le-leb}
 use Rattle.base.specs.Bytes.{same}
-use Rattle.base.proofs.Choice.{chosen, passed, and-left, or-false, clash}
+use Rattle.base.proofs.Choice.{chosen, passed, and-true, and-left, and-right}
 use Rattle.records.specs.Maps.{mapAccepted, mapValue}
 use Rattle.records.specs.Sets.{Set, setOf, setAccepted, WellFormed}
 use Rattle.step.specs.Machine.{State, start, actor, step, written, noWrite}
@@ -22,13 +22,15 @@ use Rattle.step.specs.declared.Choice.{Choice}
 use Rattle.step.specs.declared.Choice.the-variants.{Execute, Flush}
 use Rattle.step.specs.declared.End.{End}
 use Rattle.step.specs.declared.Written.{Written}
-use Rattle.step.proofs.Runs.{same-self, same-equal, ran-after, ran-where, ran-taken}
+use Rattle.base.proofs.Bytes.{same-self, same-equal}
+use Rattle.records.proofs.Sets.{well-formed}
+use Rattle.step.proofs.Runs.{ran-after, ran-where, ran-taken}
 use Rattle.step.proofs.Runs.{Inside, inside-start, inside-step, takes-actor, run-first, run-rest}
 use Rattle.step.proofs.Runs.{scheduleOf, schedule, schedule-choices, choices-schedule, length-choices, length-schedule}
 use Rattle.step.proofs.Runs.{AllTaken, taken-takes, taken-run, follow-ran}
 use Rattle.step.proofs.Runs.{length-trace, take-trace, drop-trace, stepChoice-trace, stepChoices, length-stepChoices, stepChoices-trace}
-use Rattle.simulation.specs.Simulation.{simulated, scheduleTrace}
-use Rattle.replay.specs.Replay.{retrace, replayed}
+use Rattle.simulation.specs.Simulation.{simulated, limited, scheduleTrace}
+use Rattle.replay.specs.Replay.{retrace, replayed, limited as replay-limited}
 use Rattle.claims.specs.Runs.{Bytes, Simulates, ReplayAcceptsWhatSimulationWrites, OneSchedule, SimulationRuns}
 
 -- ---- replay and the run that a trace shows
@@ -81,15 +83,6 @@ retrace-ran S h w i (suc n) bytes m e l p =
 
 -- ---- calls that are not refused
 
--- where neither test holds
-or-left : (a b : Bool) → (a || b) ≡ false → a ≡ false
-or-left true b e = e
-or-left false b e = refl
-
-or-right : (a b : Bool) → (a || b) ≡ false → b ≡ false
-or-right true b e = clash refl e
-or-right false b e = e
-
 -- the set and the map are accepted, and the schedule's choices are followed over the map, n steps to the end e
 pub record SimulatedTo (set map schedule : List ℕ) (n : ℕ) (e : End) : Type 0 where
   pub accepted : (setAccepted set && mapAccepted 256 map) ≡ true
@@ -98,18 +91,18 @@ pub record SimulatedTo (set map schedule : List ℕ) (n : ℕ) (e : End) : Type 
 
 pub simulated-ran : (set map schedule : List ℕ) (room n : ℕ) (e : End) → simulated set map schedule room ≡ Ran n e →
     SimulatedTo set map schedule n e
-unfolding simulated
+unfolding simulated limited
 simulated-ran set map schedule room n e p =
-    let (a, p₁) = ran-after (not (setAccepted set && mapAccepted 256 map)) 9 0 p in
+    let (a, p₁) = ran-where (setAccepted set && mapAccepted 256 map) 9 0 p in
     let (b, p₂) = ran-after (ltb 64 (length schedule)) 17 0 p₁ in
     let (c, p₃) = ran-after (ltb room (24 * length schedule)) 11 0 p₂ in
-    record { accepted = not-false _ a; few = ltb-false 64 (length schedule) b; followed = p₃ }
+    record { accepted = a; few = ltb-false 64 (length schedule) b; followed = p₃ }
 
 pub ran-simulated : (set map schedule : List ℕ) (n : ℕ) (e : End) → SimulatedTo set map schedule n e →
     simulated set map schedule (24 * length schedule) ≡ Ran n e
-unfolding simulated
+unfolding simulated limited
 ran-simulated set map schedule n e s =
-    passed _ _ (ap not (s .accepted))
+    chosen _ _ (s .accepted)
     ∙ passed _ _ (le-ltb 64 (length schedule) (s .few))
     ∙ passed _ _ (le-ltb (24 * length schedule) (24 * length schedule) (omega arith))
     ∙ s .followed
@@ -122,20 +115,20 @@ pub record ReplayedTo (set map bytes : List ℕ) (n : ℕ) (e : End) : Type 0 wh
   pub retraced : retrace (setOf set) (begin map) noWrite 0 (length bytes / 24) bytes ≡ Ran n e
 
 pub replayed-ran : (set map bytes : List ℕ) (n : ℕ) (e : End) → replayed set map bytes ≡ Ran n e → ReplayedTo set map bytes n e
-unfolding replayed
+unfolding replayed replay-limited
 replayed-ran set map bytes n e p =
-    let (a, p₁) = ran-after (not (setAccepted set && mapAccepted 256 map)) 9 0 p in
-    let (b, p₂) = ran-after (not (eqb (length bytes % 24) 0) || ltb 64 (length bytes / 24)) 17 0 p₁ in
-    let z = eqb-true (length bytes % 24) 0 (not-false _ (or-left (not (eqb (length bytes % 24) 0)) _ b)) in
-    let few = ltb-false 64 (length bytes / 24) (or-right (not (eqb (length bytes % 24) 0)) _ b) in
-    record { accepted = not-false _ a; whole = omega arith; few = few; retraced = p₂ }
+    let (a, p₁) = ran-where (setAccepted set && mapAccepted 256 map) 9 0 p in
+    let (b, p₂) = ran-where (eqb (length bytes % 24) 0 && leb (length bytes / 24) 64) 17 0 p₁ in
+    let z = eqb-true (length bytes % 24) 0 (and-left (eqb (length bytes % 24) 0) (leb (length bytes / 24) 64) b) in
+    let few = leb-true (length bytes / 24) 64 (and-right (eqb (length bytes % 24) 0) (leb (length bytes / 24) 64) b) in
+    record { accepted = a; whole = omega arith; few = few; retraced = p₂ }
 
 pub ran-replayed : (set map bytes : List ℕ) (n : ℕ) (e : End) → ReplayedTo set map bytes n e → replayed set map bytes ≡ Ran n e
-unfolding replayed
+unfolding replayed replay-limited
 ran-replayed set map bytes n e r =
     let whole = r .whole in
-    passed _ _ (ap not (r .accepted))
-    ∙ passed _ _ (or-false (ap not (eq-eqb (length bytes % 24) 0 (omega arith))) (le-ltb 64 (length bytes / 24) (r .few)))
+    chosen _ _ (r .accepted)
+    ∙ chosen _ _ (and-true (eq-eqb (length bytes % 24) 0 (omega arith)) (le-leb (length bytes / 24) 64 (r .few)))
     ∙ r .retraced
 
 -- a run's schedule is made of bytes
@@ -161,74 +154,73 @@ simulation-runs set map schedule room n e p =
       end = f .end;
     }
 
-module _ (well-formed : (bytes : List ℕ) → setAccepted bytes ≡ true → WellFormed (setOf bytes)) where
-  well-set : (set map : List ℕ) → (setAccepted set && mapAccepted 256 map) ≡ true → WellFormed (setOf set)
-  well-set set map a = well-formed set (and-left (setAccepted set) (mapAccepted 256 map) a)
+well-set : (set map : List ℕ) → (setAccepted set && mapAccepted 256 map) ≡ true → WellFormed (setOf set)
+well-set set map a = well-formed set (and-left (setAccepted set) (mapAccepted 256 map) a)
 
-  -- simulation's trace shows its schedule
-  schedule-shown : (set map bytes : List ℕ) (n : ℕ) (e : End) (out : List ℕ) → Simulates set map bytes n e out →
-      bytes ≡ schedule (stepChoices n out)
-  unfolding scheduleTrace
-  schedule-shown set map bytes n e out s =
-      let S = setOf set in
-      let sim = simulated-ran set map bytes (24 * length bytes) n e (s .answer) in
-      let well = well-set set map (sim .accepted) in
-      let r = simulation-runs set map bytes (24 * length bytes) n e (s .answer) in
-      let shown = stepChoices-trace S (start (mapValue map)) noWrite (choices bytes) well (inside-start S well (mapValue map)) (r .run) in
-      sym (schedule-choices bytes)
-      ∙ ap schedule (sym shown ∙ ap₂ stepChoices (length-choices bytes ∙ sym (r .steps)) (s .writes))
+-- simulation's trace shows its schedule
+schedule-shown : (set map bytes : List ℕ) (n : ℕ) (e : End) (out : List ℕ) → Simulates set map bytes n e out →
+    bytes ≡ schedule (stepChoices n out)
+unfolding scheduleTrace
+schedule-shown set map bytes n e out s =
+    let S = setOf set in
+    let sim = simulated-ran set map bytes (24 * length bytes) n e (s .answer) in
+    let well = well-set set map (sim .accepted) in
+    let r = simulation-runs set map bytes (24 * length bytes) n e (s .answer) in
+    let shown = stepChoices-trace S (start (mapValue map)) noWrite (choices bytes) well (inside-start S well (mapValue map)) (r .run) in
+    sym (schedule-choices bytes)
+    ∙ ap schedule (sym shown ∙ ap₂ stepChoices (length-choices bytes ∙ sym (r .steps)) (s .writes))
 
-  pub one-schedule : OneSchedule
-  one-schedule set map first second out n e b c s t =
-      schedule-shown set map first n e out s ∙ sym (schedule-shown set map second n e out t)
+pub one-schedule : OneSchedule
+one-schedule set map first second out n e b c s t =
+    schedule-shown set map first n e out s ∙ sym (schedule-shown set map second n e out t)
 
-  -- what replay accepts, simulation writes; what simulation writes, replay accepts
-  simulation-writes : (set map bytes : List ℕ) (n : ℕ) (e : End) → replayed set map bytes ≡ Ran n e →
-      (schedule : List ℕ) × Bytes schedule × Simulates set map schedule n e bytes
-  unfolding begin scheduleTrace
-  simulation-writes set map bytes n e p =
-      let S = setOf set in
-      let r = replayed-ran set map bytes n e p in
-      let well = well-set set map (r .accepted) in
-      let run = stepChoices (length bytes / 24) bytes in
-      let (f, t) = retrace-ran S (begin map) noWrite 0 (length bytes / 24) bytes n e (r .whole) (r .retraced) in
-      let four = well .fourThreads in
-      let q = taken-run S (begin map) run (follow-ran S (begin map) 0 run n e f .taken) in
-      let back = choices-schedule S (start (mapValue map)) run (omega arith) q in
-      let few = r .few in (
-        schedule run,
-        schedule-bytes S (start (mapValue map)) run (omega arith) q,
-        record {
-          answer = ran-simulated set map (schedule run) n e (record {
-            accepted = r .accepted;
-            few = omega (arith, length-schedule run, length-stepChoices (length bytes / 24) bytes);
-            followed = ap (follow S (begin map) 0) back ∙ f;
-          });
-          writes = ap (trace S (start (mapValue map)) noWrite) back ∙ sym t;
-        },
-      )
+-- what replay accepts, simulation writes; what simulation writes, replay accepts
+simulation-writes : (set map bytes : List ℕ) (n : ℕ) (e : End) → replayed set map bytes ≡ Ran n e →
+    (schedule : List ℕ) × Bytes schedule × Simulates set map schedule n e bytes
+unfolding begin scheduleTrace
+simulation-writes set map bytes n e p =
+    let S = setOf set in
+    let r = replayed-ran set map bytes n e p in
+    let well = well-set set map (r .accepted) in
+    let run = stepChoices (length bytes / 24) bytes in
+    let (f, t) = retrace-ran S (begin map) noWrite 0 (length bytes / 24) bytes n e (r .whole) (r .retraced) in
+    let four = well .fourThreads in
+    let q = taken-run S (begin map) run (follow-ran S (begin map) 0 run n e f .taken) in
+    let back = choices-schedule S (start (mapValue map)) run (omega arith) q in
+    let few = r .few in (
+      schedule run,
+      schedule-bytes S (start (mapValue map)) run (omega arith) q,
+      record {
+        answer = ran-simulated set map (schedule run) n e (record {
+          accepted = r .accepted;
+          few = omega (arith, length-schedule run, length-stepChoices (length bytes / 24) bytes);
+          followed = ap (follow S (begin map) 0) back ∙ f;
+        });
+        writes = ap (trace S (start (mapValue map)) noWrite) back ∙ sym t;
+      },
+    )
 
-  replay-accepts : (set map bytes schedule : List ℕ) (n : ℕ) (e : End) → Simulates set map schedule n e bytes →
-      replayed set map bytes ≡ Ran n e
-  unfolding begin scheduleTrace
-  replay-accepts set map bytes schedule n e s =
-      let S = setOf set in
-      let sim = simulated-ran set map schedule (24 * length schedule) n e (s .answer) in
-      let well = well-set set map (sim .accepted) in
-      let run = choices schedule in
-      let taken = follow-ran S (begin map) 0 run n e (sim .followed) .taken in
-      let long : length bytes ≡ 24 * length run = ap length (sym (s .writes)) ∙ length-trace S (start (mapValue map)) noWrite run in
-      let steps : length bytes / 24 ≡ length run = omega arith in
-      let few = sim .few in
-      ran-replayed set map bytes n e (record {
-        accepted = sim .accepted;
-        whole = omega arith;
-        few = omega (arith, length-choices schedule);
-        retraced = ap₂ (retrace S (begin map) noWrite 0) steps (sym (s .writes))
-            ∙ retrace-trace S (begin map) noWrite 0 run well (inside-start S well (mapValue map)) taken
-            ∙ sim .followed;
-      })
+replay-accepts : (set map bytes schedule : List ℕ) (n : ℕ) (e : End) → Simulates set map schedule n e bytes →
+    replayed set map bytes ≡ Ran n e
+unfolding begin scheduleTrace
+replay-accepts set map bytes schedule n e s =
+    let S = setOf set in
+    let sim = simulated-ran set map schedule (24 * length schedule) n e (s .answer) in
+    let well = well-set set map (sim .accepted) in
+    let run = choices schedule in
+    let taken = follow-ran S (begin map) 0 run n e (sim .followed) .taken in
+    let long : length bytes ≡ 24 * length run = ap length (sym (s .writes)) ∙ length-trace S (start (mapValue map)) noWrite run in
+    let steps : length bytes / 24 ≡ length run = omega arith in
+    let few = sim .few in
+    ran-replayed set map bytes n e (record {
+      accepted = sim .accepted;
+      whole = omega arith;
+      few = omega (arith, length-choices schedule);
+      retraced = ap₂ (retrace S (begin map) noWrite 0) steps (sym (s .writes))
+          ∙ retrace-trace S (begin map) noWrite 0 run well (inside-start S well (mapValue map)) taken
+          ∙ sim .followed;
+    })
 
-  pub replay-accepts-what-simulation-writes : ReplayAcceptsWhatSimulationWrites
-  replay-accepts-what-simulation-writes set map bytes n e =
-      (simulation-writes set map bytes n e, λ w. replay-accepts set map bytes (w .0) n e (w .2))
+pub replay-accepts-what-simulation-writes : ReplayAcceptsWhatSimulationWrites
+replay-accepts-what-simulation-writes set map bytes n e =
+    (simulation-writes set map bytes n e, λ w. replay-accepts set map bytes (w .0) n e (w .2))

@@ -4,7 +4,6 @@ ghost use lib.ListN.{length};
 ghost use Rattle.simulation.specs.Simulation.{simulated, traceOutput};
 ghost use Rattle.replay.specs.Replay.{replayed};
 ghost use Rattle.deepchalk.specs.Packed.{packed};
-
 use step::Answer;
 use step::End;
 
@@ -27,9 +26,14 @@ fn pack(answer: Answer) -> u64
 
 // Simulates a schedule over a set and a map, and writes its trace.
 #[no_mangle]
-pub extern "C" fn deepchalk_simulate(set: &[u8], map: &[u8], schedule: &[u8], trace: &mut [u8]) -> u64
+pub extern "C" fn deepchalk_simulate(
+    set: &[u8],
+    map: &[u8],
+    schedule: &[u8],
+    trace: &mut [u8],
+) -> u64
     ensures { λ r. ⌜ (r ≡ packed (simulated (now (set .entry)) (now (map .entry)) (now (schedule .entry)) (length (now (trace .entry)))))
-      × (now (trace .exit) ≡ traceOutput (simulated (now (set .entry)) (now (map .entry)) (now (schedule .entry)) (length (now (trace .entry))))
+        × (now (trace .exit) ≡ traceOutput (simulated (now (set .entry)) (now (map .entry)) (now (schedule .entry)) (length (now (trace .entry))))
         (now (set .entry)) (now (map .entry)) (now (schedule .entry)) (now (trace .entry))) ⌝ }
 {
     let answer = simulation::simulate(set, map, schedule, trace);

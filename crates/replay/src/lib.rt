@@ -8,7 +8,6 @@ ghost use Rattle.step.specs.Held.{heldOf};
 ghost use Rattle.step.specs.Machine.{noWrite};
 ghost use Rattle.step.specs.Traces.{stepChoice};
 ghost use Rattle.replay.specs.Replay.{retrace, limited, replayed};
-
 use records::Layout;
 use step::Answer;
 use step::Choice;
@@ -41,9 +40,17 @@ fn refused(number: u8, step: usize) -> Answer
 }
 
 // Replays a trace's steps from a first machine over a sparse memory.
-fn run(set: &[u8], layout: Layout, first: Machine, trace: &[u8], addresses: &mut [u16], values: &mut [u16], cells: usize) -> Answer
+fn run(
+    set: &[u8],
+    layout: Layout,
+    first: Machine,
+    trace: &[u8],
+    addresses: &mut [u16],
+    values: &mut [u16],
+    cells: usize,
+) -> Answer
     requires { ⌜ (layout .threads ≤ 4) × (length (now trace) / 24 ≤ 64) × (cells + length (now trace) / 24 ≤ length (now addresses))
-      × (cells + length (now trace) / 24 ≤ length (now values)) ⌝ }
+        × (cells + length (now trace) / 24 ≤ length (now values)) ⌝ }
     ensures { λ r. ⌜ r ≡ retrace (setBy (now (set .entry)) layout) (heldOf first (now (addresses .entry)) (now (values .entry)) cells) noWrite 0 (length (now (trace .entry)) / 24) (now (trace .entry)) ⌝ }
 {
     let mut m = first;
@@ -104,8 +111,8 @@ fn accepted(set: &[u8], layout: Layout, map: &[u8], trace: &[u8]) -> Answer
     if Machine::STEPS < trace.len() / 24 {
         return refused(17, 0);
     }
-    let mut addresses = [0u16; 320];
-    let mut values = [0u16; 320];
+    let mut addresses = [0u16; Machine::CELLS];
+    let mut values = [0u16; Machine::CELLS];
     let filled = runs::begin(map, &mut addresses, &mut values);
     let m = runs::fresh_machine();
     run(set, layout, m, trace, &mut addresses, &mut values, filled)

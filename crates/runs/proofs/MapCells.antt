@@ -33,6 +33,7 @@ module _ (f g : ℕ → ℕ) (n : ℕ) (e : (k : ℕ) → k < n → f k ≡ g k)
 -- one element more is as it should be
 pub stored-more : (xs : List ℕ) (k v : ℕ) (g : ℕ → ℕ) → k < length xs → ((j : ℕ) → j < k → getD xs j 0 ≡ g j) → v ≡ g k →
     (j : ℕ) → j < k + 1 → getD (set xs k v) j 0 ≡ g j
-stored-more xs k v g l p q j h = elim (ℕ-discrete j k)
-  [ yes e ↦ ap (λ (i : ℕ). getD (set xs k v) i 0) e ∙ getD-set-same xs k v 0 l ∙ q ∙ ap g (sym e)
-  | no e ↦ getD-set-other xs k j v 0 e ∙ p j (omega arith) ]
+stored-more xs k v g l p q j h = elim (ℕ-discrete j k) [
+  | yes e ↦ ap (λ (i : ℕ). getD (set xs k v) i 0) e ∙ getD-set-same xs k v 0 l ∙ q ∙ ap g (sym e)
+  | no e ↦ getD-set-other xs k j v 0 e ∙ p j (omega arith)
+]

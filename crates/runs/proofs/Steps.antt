@@ -77,7 +77,7 @@ module _ (S : Set) (schedule : List ℕ) (i : ℕ) (l : i < length schedule) (c 
       ap (λ (t : List ℕ). take (24 * i) bytes ++ t) (trace-next s w)
       ∙ sym (append-assoc (take (24 * i) bytes) (traceStep S s w c) _)
       ∙ ap (λ (t : List ℕ). t ++ trace S (step S s c) (written S s c) (choices (drop (i + 1) schedule)))
-        (sym (take-placed bytes (24 * i) (traceStep S s w c) (omega arith)) ∙ ap (λ (k : ℕ). take k (placed bytes (24 * i) (traceStep S s w c))) m)
+      (sym (take-placed bytes (24 * i) (traceStep S s w c) (omega arith)) ∙ ap (λ (k : ℕ). take k (placed bytes (24 * i) (traceStep S s w c))) m)
 
 -- ---- the start over a map
 
@@ -85,10 +85,10 @@ pub begun : (map : List ℕ) (m : Machine) (addresses values : List ℕ) (r : �
     memoryOf addresses values r ≡ content (addressAt map) (valueAt map) r → knownOf addresses r ≡ holds (addressAt map) r → r ≡ cells map →
     heldOf m addresses values r ≡ begin map
 unfolding begin
-begun map m addresses values r f p q e k = record
-  { state = (f (memoryOf addresses values r) ∙ ap start (p ∙ ap (content (addressAt map) (valueAt map)) e)) k
-  ; known = (q ∙ ap (holds (addressAt map)) e) k
-  }
+begun map m addresses values r f p q e k = record {
+  state = (f (memoryOf addresses values r) ∙ ap start (p ∙ ap (content (addressAt map) (valueAt map)) e)) k;
+  known = (q ∙ ap (holds (addressAt map)) e) k;
+}
 
 -- all of the map's cells are there
 pub all-cells : (n a v r : ℕ) → r ≡ cond (leb n a && leb n v) n 0 → n ≤ a → n ≤ v → r ≡ n

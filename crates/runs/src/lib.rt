@@ -11,7 +11,6 @@ ghost use Rattle.step.specs.Machine.{fresh, start};
 ghost use Rattle.step.specs.Runs.{choiceOf, canAct};
 ghost use Rattle.step.specs.Traces.{bit, stepBytes, traceStep};
 ghost use Rattle.runs.specs.Ends.{endFor};
-
 use records::Layout;
 use records::Statement;
 use step::Choice;
@@ -51,8 +50,8 @@ pub fn choice_of(k: u8) -> Choice
 // Puts a map's cells into the sparse memory, if there is room, and gives the filled count.
 pub fn begin(map: &[u8], addresses: &mut [u16], values: &mut [u16]) -> usize
     ensures { λ r. ⌜ (r ≡ cond (leb (cells (now (map .entry))) (length (now (addresses .entry))) && leb (cells (now (map .entry))) (length (now (values .entry)))) (cells (now (map .entry))) 0)
-      × (memoryOf (now (addresses .exit)) (now (values .exit)) r ≡ content (addressAt (now (map .entry))) (valueAt (now (map .entry))) r)
-      × (knownOf (now (addresses .exit)) r ≡ holds (addressAt (now (map .entry))) r) ⌝ }
+        × (memoryOf (now (addresses .exit)) (now (values .exit)) r ≡ content (addressAt (now (map .entry))) (valueAt (now (map .entry))) r)
+        × (knownOf (now (addresses .exit)) r ≡ holds (addressAt (now (map .entry))) r) ⌝ }
 {
     let n = map.len() / 4;
     if addresses.len() < n {

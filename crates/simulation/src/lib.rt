@@ -10,7 +10,6 @@ ghost use Rattle.step.specs.Maps.{follow};
 ghost use Rattle.step.specs.Runs.{choices};
 ghost use Rattle.step.specs.Traces.{trace as traceOf};
 ghost use Rattle.simulation.specs.Simulation.{limited, outputOver, simulated, traceOutput, Begins};
-
 use records::Layout;
 use step::Answer;
 use step::Machine;
@@ -18,11 +17,20 @@ use step::Outcome;
 use step::Written;
 
 // Runs a schedule from a first machine over a sparse memory, and writes the trace of an accepted run.
-fn run(set: &[u8], layout: Layout, first: Machine, schedule: &[u8], addresses: &mut [u16], values: &mut [u16], cells: usize, trace: &mut [u8]) -> Answer
+fn run(
+    set: &[u8],
+    layout: Layout,
+    first: Machine,
+    schedule: &[u8],
+    addresses: &mut [u16],
+    values: &mut [u16],
+    cells: usize,
+    trace: &mut [u8],
+) -> Answer
     requires { ⌜ (layout .threads ≤ 4) × (length (now schedule) ≤ 64) × (cells + length (now schedule) ≤ length (now addresses))
-      × (cells + length (now schedule) ≤ length (now values)) × (24 * length (now schedule) ≤ length (now trace)) ⌝ }
+        × (cells + length (now schedule) ≤ length (now values)) × (24 * length (now schedule) ≤ length (now trace)) ⌝ }
     ensures { λ r. ⌜ (r ≡ follow (setBy (now (set .entry)) layout) (heldOf first (now (addresses .entry)) (now (values .entry)) cells) 0 (choices (now (schedule .entry))))
-      × Begins r (traceOf (setBy (now (set .entry)) layout) (stateOf first (memoryOf (now (addresses .entry)) (now (values .entry)) cells)) noWrite (choices (now (schedule .entry)))) (now (trace .exit)) ⌝ }
+        × Begins r (traceOf (setBy (now (set .entry)) layout) (stateOf first (memoryOf (now (addresses .entry)) (now (values .entry)) cells)) noWrite (choices (now (schedule .entry)))) (now (trace .exit)) ⌝ }
 {
     let mut m = first;
     let mut filled = cells;
@@ -72,7 +80,7 @@ fn run(set: &[u8], layout: Layout, first: Machine, schedule: &[u8], addresses: &
 fn accepted(set: &[u8], layout: Layout, map: &[u8], schedule: &[u8], trace: &mut [u8]) -> Answer
     requires { ⌜ (layout .threads ≤ 4) × (cells (now map) ≤ 256) ⌝ }
     ensures { λ r. ⌜ (r ≡ limited (setBy (now (set .entry)) layout) (now (map .entry)) (now (schedule .entry)) (length (now (trace .entry))))
-      × (now (trace .exit) ≡ outputOver r (traceOf (setBy (now (set .entry)) layout) (start (mapValue (now (map .entry)))) noWrite (choices (now (schedule .entry)))) (now (trace .entry))) ⌝ }
+        × (now (trace .exit) ≡ outputOver r (traceOf (setBy (now (set .entry)) layout) (start (mapValue (now (map .entry)))) noWrite (choices (now (schedule .entry)))) (now (trace .entry))) ⌝ }
 {
     let n = schedule.len();
     if Machine::STEPS < n {
@@ -87,12 +95,21 @@ fn accepted(set: &[u8], layout: Layout, map: &[u8], schedule: &[u8], trace: &mut
             place: 0,
         };
     }
-    let mut addresses = [0u16; 320];
-    let mut values = [0u16; 320];
+    let mut addresses = [0u16; Machine::CELLS];
+    let mut values = [0u16; Machine::CELLS];
     let mut bytes = [0u8; 1536];
     let filled = runs::begin(map, &mut addresses, &mut values);
     let m = runs::fresh_machine();
-    let answer = run(set, layout, m, schedule, &mut addresses, &mut values, filled, &mut bytes);
+    let answer = run(
+        set,
+        layout,
+        m,
+        schedule,
+        &mut addresses,
+        &mut values,
+        filled,
+        &mut bytes,
+    );
     match answer {
         Answer::Ran { steps, end } => {
             base::place(trace, 0, &bytes[..24 * n]);
@@ -105,7 +122,7 @@ fn accepted(set: &[u8], layout: Layout, map: &[u8], schedule: &[u8], trace: &mut
 // Simulates a schedule over a set and a map, and writes its trace.
 pub fn simulate(set: &[u8], map: &[u8], schedule: &[u8], trace: &mut [u8]) -> Answer
     ensures { λ r. ⌜ (r ≡ simulated (now (set .entry)) (now (map .entry)) (now (schedule .entry)) (length (now (trace .entry))))
-      × (now (trace .exit) ≡ traceOutput r (now (set .entry)) (now (map .entry)) (now (schedule .entry)) (now (trace .entry))) ⌝ }
+        × (now (trace .exit) ≡ traceOutput r (now (set .entry)) (now (map .entry)) (now (schedule .entry)) (now (trace .entry))) ⌝ }
 {
     let layout = records::set::layout(set);
     if layout.threads == 0 {

@@ -37,7 +37,7 @@ unmarked = record { on = false; checkpoint = 0 }
 abbrev pub start : (ℕ → ℕ) → State
 start first = record { threads = λ t. fresh; marks = λ t. unmarked; memory = first; ended = false; code = 0 }
 
--- ---- the store buffer: nothing else names adr, val and full
+-- ---- the store buffer; beside these a flush's write and the trace step name adr, val and full
 
 abbrev pub isEmpty : Thread → Bool
 isEmpty x = not (x .full)
@@ -240,7 +240,7 @@ abbrev pub exits : Set → State → Choice → Bool
 exits S s (Execute t) = eqb (current S s t .number) EXIT
 exits S s (Flush t) = false
 
--- When all threads have halted the machine ends, its code 0.
+-- When all threads have halted the machine ends, its code 0: the one it starts with, which EXIT alone changes.
 abbrev pub allHalted : Set → (ℕ → Thread) → Bool
 allHalted S threads = every (S .threads) (λ t. threads t .halted)
 

@@ -25,10 +25,10 @@ same-length c = search needs
 
 -- src/lib.rt:29:1
 returns : tie.Need-returns
-returns c = 
-  let s = c .before .before .before .simulate .ensures in
-  let a = c .before .before .before .before .before .before .before .before .before .args in
-  (c .pack .ensures ∙ ap packed (s .0), s .1 ∙ ap (λ (r : Answer). traceOutput r (now (a .set)) (now (a .map)) (now (a .schedule)) (now (a .trace))) (s .0))
+returns c =
+    let s = c .before .before .before .simulate .ensures in
+    let a = c .before .before .before .before .before .before .before .before .before .args in
+    (c .pack .ensures ∙ ap packed (s .0), s .1 ∙ ap (λ (r : Answer). traceOutput r (now (a .set)) (now (a .map)) (now (a .schedule)) (now (a .trace))) (s .0))
 
 pub deepchalk-simulate-spec : {M : Type 1} → statement M
 deepchalk-simulate-spec = tie.close (tie.spec simulate-requires pack-requires same-length returns)

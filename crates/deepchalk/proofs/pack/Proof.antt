@@ -79,22 +79,22 @@ add-result-4 c = search needs
 
 -- src/lib.rt:12:1
 returns : tie.Need-returns
-returns c = 
-  let steps = c .before .before .before .before .answer .given .0 .0 in
-  ap (λ (n : ℕ). n + 4294967296 * steps) (sym (zero-add (65536 * c .before .end .given .0 .0)))
-  ∙ sym (ap packed (c .before .before .before .before .answer .given .1) ∙ ap (λ (e : End). 256 * endNumber e + 65536 * endCode e + 4294967296 * steps) (c .before .end .given .1))
+returns c =
+    let steps = c .before .before .before .before .answer .given .0 .0 in
+    ap (λ (n : ℕ). n + 4294967296 * steps) (sym (zero-add (65536 * c .before .end .given .0 .0)))
+    ∙ sym (ap packed (c .before .before .before .before .answer .given .1) ∙ ap (λ (e : End). 256 * endNumber e + 65536 * endCode e + 4294967296 * steps) (c .before .end .given .1))
 
 -- src/lib.rt:12:1
 returns-2 : tie.Need-returns-2
-returns-2 c = 
-  let steps = c .before .before .before .answer .given .0 .0 in
-  sym (ap packed (c .before .before .before .answer .given .1) ∙ ap (λ (e : End). 256 * endNumber e + 65536 * endCode e + 4294967296 * steps) (c .enum-told .given .1))
+returns-2 c =
+    let steps = c .before .before .before .answer .given .0 .0 in
+    sym (ap packed (c .before .before .before .answer .given .1) ∙ ap (λ (e : End). 256 * endNumber e + 65536 * endCode e + 4294967296 * steps) (c .enum-told .given .1))
 
 -- src/lib.rt:12:1
 returns-3 : tie.Need-returns-3
-returns-3 c = 
-  let steps = c .before .before .before .answer .given .0 .0 in
-  sym (ap packed (c .before .before .before .answer .given .1) ∙ ap (λ (e : End). 256 * endNumber e + 65536 * endCode e + 4294967296 * steps) (c .enum-told2 .given .1))
+returns-3 c =
+    let steps = c .before .before .before .answer .given .0 .0 in
+    sym (ap packed (c .before .before .before .answer .given .1) ∙ ap (λ (e : End). 256 * endNumber e + 65536 * endCode e + 4294967296 * steps) (c .enum-told2 .given .1))
 
 -- src/lib.rt:12:1
 returns-4 : tie.Need-returns-4

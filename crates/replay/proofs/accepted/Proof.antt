@@ -33,9 +33,9 @@ refused-requires c κs = search needs
 -- src/lib.rt:102:9
 returns : tie.Need-returns
 unfolding limited
-returns c = 
-  let t = now (c .before .before .before .before .before .args .trace) in
-  c .refused .ensures ∙ sym (passed _ _ (and-false (leb (length t / 24) 64) (ne-eqb _ _ (c .before .if1 .taken))))
+returns c =
+    let t = now (c .before .before .before .before .before .args .trace) in
+    c .refused .ensures ∙ sym (passed _ _ (and-false (leb (length t / 24) 64) (ne-eqb _ _ (c .before .if1 .taken))))
 
 -- src/lib.rt:105:9
 refused-requires-2 : tie.Need-refused-requires-2
@@ -44,9 +44,9 @@ refused-requires-2 c κs = search needs
 -- src/lib.rt:105:9
 returns-2 : tie.Need-returns-2
 unfolding limited
-returns-2 c = 
-  let t = now (c .before .before .before .before .before .before .args .trace) in
-  c .refused2 .ensures ∙ sym (passed _ _ (and-right-false (eqb (length t % 24) 0) (lt-leb _ _ (c .before .if2 .taken))))
+returns-2 c =
+    let t = now (c .before .before .before .before .before .before .args .trace) in
+    c .refused2 .ensures ∙ sym (passed _ _ (and-right-false (eqb (length t % 24) 0) (lt-leb _ _ (c .before .if2 .taken))))
 
 -- src/lib.rt:109:35
 slice-aggregate-begin : tie.Need-slice-aggregate-begin
@@ -74,23 +74,23 @@ slice-aggregate-run-2 c = search needs
 
 -- src/lib.rt:111:5
 run-requires : tie.Need-run-requires
-run-requires c κs = 
-  let s = c .before .before .before .before .before .before .before .before .before .before .before .before .before in
-  let b = c .before .before .before .before .before in
-  let e = filled b in
-  (s .pre .0, c .before .before .before .before .before .before .before .before .if2 .left, omega (arith, e, s .pre .1, c .before .before .before .before .before .before .before .before .if2 .left, b .begin .kept .1 .0), omega (arith, e, s .pre .1, c .before .before .before .before .before .before .before .before .if2 .left, b .begin .kept .1 .1 .0))
+run-requires c κs =
+    let s = c .before .before .before .before .before .before .before .before .before .before .before .before .before in
+    let b = c .before .before .before .before .before in
+    let e = filled b in
+    (s .pre .0, c .before .before .before .before .before .before .before .before .if2 .left, omega (arith, e, s .pre .1, c .before .before .before .before .before .before .before .before .if2 .left, b .begin .kept .1 .0), omega (arith, e, s .pre .1, c .before .before .before .before .before .before .before .before .if2 .left, b .begin .kept .1 .1 .0))
 
 -- src/lib.rt:96:1
 returns-3 : tie.Need-returns-3
 unfolding limited
-returns-3 c = 
-  let r = c .before .before in
-  let b = r .before .before .before .before .before .before in
-  let a = c .before .before .before .before .before .before .before .before .before .before .before .before .before .before .before .before .args in
-  r .run .ensures
-  ∙ ap (λ (h : Held). retrace (setBy (now (a .set)) (a .layout)) h noWrite 0 (length (now (a .trace)) / 24) (now (a .trace)))
+returns-3 c =
+    let r = c .before .before in
+    let b = r .before .before .before .before .before .before in
+    let a = c .before .before .before .before .before .before .before .before .before .before .before .before .before .before .before .before .args in
+    r .run .ensures
+    ∙ ap (λ (h : Held). retrace (setBy (now (a .set)) (a .layout)) h noWrite 0 (length (now (a .trace)) / 24) (now (a .trace)))
     (begun (now (a .map)) (r .before .before .before .fresh-machine .result) (b .begin .last .1 .0) (b .begin .last .1 .1 .0) (b .begin .result) (r .before .before .before .fresh-machine .ensures) (b .begin .ensures .1) (b .begin .ensures .2) (filled b))
-  ∙ sym (chosen _ _ (and-true (eq-eqb _ _ (c .before .before .before .before .before .before .before .before .before .before .before .before .if1 .left)) (le-leb _ _ (c .before .before .before .before .before .before .before .before .before .before .before .if2 .left))))
+    ∙ sym (chosen _ _ (and-true (eq-eqb _ _ (c .before .before .before .before .before .before .before .before .before .before .before .before .if1 .left)) (le-leb _ _ (c .before .before .before .before .before .before .before .before .before .before .before .if2 .left))))
 
 pub accepted-spec : {M : Type 1} → statement M
 accepted-spec =

@@ -39,16 +39,16 @@ shared-slice-read-number c = search needs
 -- src/lib.rt:26:9
 returns : tie.Need-returns
 unfolding stepChoice
-returns c = 
-  let a = c .before .before .before .args in
-  sym (read (now (a .trace)) (a .at) ∙ chosen _ _ (eq-eqb _ _ (c .if1 .taken)))
+returns c =
+    let a = c .before .before .before .args in
+    sym (read (now (a .trace)) (a .at) ∙ chosen _ _ (eq-eqb _ _ (c .if1 .taken)))
 
 -- src/lib.rt:19:1
 returns-2 : tie.Need-returns-2
 unfolding stepChoice
-returns-2 c = 
-  let a = c .before .before .before .args in
-  sym (read (now (a .trace)) (a .at) ∙ passed _ _ (ne-eqb _ _ (c .if1 .left)))
+returns-2 c =
+    let a = c .before .before .before .args in
+    sym (read (now (a .trace)) (a .at) ∙ passed _ _ (ne-eqb _ _ (c .if1 .left)))
 
 pub choice-at-spec : {M : Type 1} → statement M
 choice-at-spec =

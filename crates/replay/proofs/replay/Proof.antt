@@ -32,10 +32,10 @@ refused-requires c κs = search needs
 -- src/lib.rt:120:9
 returns : tie.Need-returns
 unfolding replayed
-returns c = 
-  let l = c .before .before .before in
-  let a = l .before .before .before .before .args in
-  c .refused .ensures ∙ sym (passed _ _ (and-false (mapAccepted 256 (now (a .map))) (no-threads (now (a .set)) (l .layout .result) (l .layout .ensures) (c .before .if1 .taken))))
+returns c =
+    let l = c .before .before .before in
+    let a = l .before .before .before .before .args in
+    c .refused .ensures ∙ sym (passed _ _ (and-false (mapAccepted 256 (now (a .map))) (no-threads (now (a .set)) (l .layout .result) (l .layout .ensures) (c .before .if1 .taken))))
 
 -- src/lib.rt:122:8
 map-accepted-requires : tie.Need-map-accepted-requires
@@ -43,20 +43,20 @@ map-accepted-requires c κs = search needs
 
 -- src/lib.rt:123:9
 accepted-requires : tie.Need-accepted-requires
-accepted-requires c κs = 
-  let m = c .before in
-  let a = m .before .before .before .before .before .before .before .args in
-  (few-threads (now (a .set)) _ (m .before .before .before .layout .ensures) (good m), few-cells 256 (now (a .map)) (sym (m .map-accepted .ensures) ∙ c .if2 .taken))
+accepted-requires c κs =
+    let m = c .before in
+    let a = m .before .before .before .before .before .before .before .args in
+    (few-threads (now (a .set)) _ (m .before .before .before .layout .ensures) (good m), few-cells 256 (now (a .map)) (sym (m .map-accepted .ensures) ∙ c .if2 .taken))
 
 -- src/lib.rt:123:9
 returns-2 : tie.Need-returns-2
 unfolding replayed
-returns-2 c = 
-  let m = c .before .before in
-  let a = m .before .before .before .before .before .before .before .args in
-  c .accepted .ensures
-  ∙ ap (λ (S : Set). limited S (now (a .map)) (now (a .trace))) (set-read (now (a .set)) (m .before .before .before .layout .result) (m .before .before .before .layout .ensures) (good m))
-  ∙ sym (chosen _ _ (and-true (good m) (sym (m .map-accepted .ensures) ∙ c .before .if2 .taken)))
+returns-2 c =
+    let m = c .before .before in
+    let a = m .before .before .before .before .before .before .before .args in
+    c .accepted .ensures
+    ∙ ap (λ (S : Set). limited S (now (a .map)) (now (a .trace))) (set-read (now (a .set)) (m .before .before .before .layout .result) (m .before .before .before .layout .ensures) (good m))
+    ∙ sym (chosen _ _ (and-true (good m) (sym (m .map-accepted .ensures) ∙ c .before .if2 .taken)))
 
 -- src/lib.rt:125:5
 refused-requires-2 : tie.Need-refused-requires-2
@@ -65,10 +65,10 @@ refused-requires-2 c κs = search needs
 -- src/lib.rt:115:1
 returns-3 : tie.Need-returns-3
 unfolding replayed
-returns-3 c = 
-  let m = c .before .before in
-  let a = m .before .before .before .before .before .before .before .args in
-  c .refused2 .ensures ∙ sym (passed _ _ (and-right-false (setAccepted (now (a .set))) (sym (m .map-accepted .ensures) ∙ c .before .if2 .left)))
+returns-3 c =
+    let m = c .before .before in
+    let a = m .before .before .before .before .before .before .before .args in
+    c .refused2 .ensures ∙ sym (passed _ _ (and-right-false (setAccepted (now (a .set))) (sym (m .map-accepted .ensures) ∙ c .before .if2 .left)))
 
 pub replay-spec : {M : Type 1} → statement M
 replay-spec =

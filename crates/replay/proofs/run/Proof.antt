@@ -38,7 +38,7 @@ Inv-loop set layout trace addresses₀ values₀ cells m₀ filled₀ wrote₀ s
     (layout .threads ≤ 4) × (length trace / 24 ≤ 64) × (length addresses ≡ length addresses₀) × (length values ≡ length values₀)
     × (steps + budget ≡ length trace / 24) × (filled + budget ≤ length addresses) × (filled + budget ≤ length values)
     × (retrace (setBy set layout) (heldOf m₀ addresses₀ values₀ filled₀) noWrite 0 (length trace / 24) trace
-      ≡ retrace (setBy set layout) (heldOf m addresses values filled) wrote steps budget (drop (24 * steps) trace))
+    ≡ retrace (setBy set layout) (heldOf m addresses values filled) wrote steps budget (drop (24 * steps) trace))
 
 abbrev μ-loop : tie.MeasureT-loop
 μ-loop set layout trace addresses₀ values₀ cells m₀ filled₀ wrote₀ steps₀ budget₀ addresses values m filled wrote steps budget =
@@ -161,9 +161,9 @@ same-length-2 c = c .before .before .before .before .before .before .before .adv
 
 -- src/lib.rt:67:17
 returns : tie.Need-returns Inv-loop μ-loop
-returns c = 
-  let x = c .before .before .before .before .before .before .before in
-  c .refused .ensures ∙ sym (stepped x ∙ ap (λ (o : Outcome). judge o (equal-of x) (x .before .before .before .before .before .before .before .before .before .loop .steps) (rest-of x)) (c .before .enum-told .given .1))
+returns c =
+    let x = c .before .before .before .before .before .before .before in
+    c .refused .ensures ∙ sym (stepped x ∙ ap (λ (o : Outcome). judge o (equal-of x) (x .before .before .before .before .before .before .before .before .before .loop .steps) (rest-of x)) (c .before .enum-told .given .1))
 
 -- src/lib.rt:70:20
 enum-told-2 : tie.Need-enum-told-2 Inv-loop μ-loop
@@ -183,9 +183,9 @@ same-length-4 c = c .before .before .before .before .before .before .before .bef
 
 -- src/lib.rt:71:21
 returns-2 : tie.Need-returns-2 Inv-loop μ-loop
-returns-2 c = 
-  let x = c .before .before .before .before .before .before .before .before in
-  c .refused2 .ensures ∙ sym (stepped x ∙ ap₂ (λ (o : Outcome) (b : Bool). judge o b (x .before .before .before .before .before .before .before .before .before .loop .steps) (rest-of x)) (c .before .before .enum-told2 .given .1) (not-true _ (c .before .if1 .taken)))
+returns-2 c =
+    let x = c .before .before .before .before .before .before .before .before in
+    c .refused2 .ensures ∙ sym (stepped x ∙ ap₂ (λ (o : Outcome) (b : Bool). judge o b (x .before .before .before .before .before .before .before .before .before .loop .steps) (rest-of x)) (c .before .before .enum-told2 .given .1) (not-true _ (c .before .if1 .taken)))
 
 -- src/lib.rt:76:17
 add-steps : tie.Need-add-steps Inv-loop μ-loop
@@ -202,23 +202,24 @@ loop-less c = search needs
 -- src/lib.rt:57:5
 loop-again : tie.Need-loop-again Inv-loop μ-loop
 unfolding advanced
-loop-again c = 
-  let x = c .before .before .before .before .before .before .before .before .before in
-  let l = x .before .before .before .before .before .before .before .before .before .loop in
-  let i = l .steps in
-  let t = c .before .before .before .enum-told2 .given .1 in
-  let a = x .advance .ensures in
-  let lt = x .before .before .before .before .before .before .before .before .loop-test .taken in
-  let h = taken-held a (room x) t in
-  ( l .inv .0
-  , l .inv .1
-  , x .advance .kept .1 .1 .1 .0 ∙ l .inv .2
-  , x .advance .kept .1 .1 .1 .1 .0 ∙ l .inv .3
-  , omega (arith, lt, l .inv .4)
-  , omega (arith, lt, l .inv .5, x .advance .kept .1 .1 .1 .0, a .more)
-  , omega (arith, lt, l .inv .6, x .advance .kept .1 .1 .1 .1 .0, a .more)
-  , stepped x ∙ ap₂ (λ (o : Outcome) (b : Bool). judge o b i (rest-of x)) t (not-false _ (c .before .before .if1 .left))
-    ∙ ap₂ (λ (k : Held) (w : Written). retrace (set-of x) k w (i + 1) (l .budget - 1) (drop (24 * (i + 1)) (trace-of x))) (sym h) (sym (taken-wrote a (room x) t)))
+loop-again c =
+    let x = c .before .before .before .before .before .before .before .before .before in
+    let l = x .before .before .before .before .before .before .before .before .before .loop in
+    let i = l .steps in
+    let t = c .before .before .before .enum-told2 .given .1 in
+    let a = x .advance .ensures in
+    let lt = x .before .before .before .before .before .before .before .before .loop-test .taken in
+    let h = taken-held a (room x) t in (
+      l .inv .0,
+      l .inv .1,
+      x .advance .kept .1 .1 .1 .0 ∙ l .inv .2,
+      x .advance .kept .1 .1 .1 .1 .0 ∙ l .inv .3,
+      omega (arith, lt, l .inv .4),
+      omega (arith, lt, l .inv .5, x .advance .kept .1 .1 .1 .0, a .more),
+      omega (arith, lt, l .inv .6, x .advance .kept .1 .1 .1 .1 .0, a .more),
+      stepped x ∙ ap₂ (λ (o : Outcome) (b : Bool). judge o b i (rest-of x)) t (not-false _ (c .before .before .if1 .left))
+          ∙ ap₂ (λ (k : Held) (w : Written). retrace (set-of x) k w (i + 1) (l .budget - 1) (drop (24 * (i + 1)) (trace-of x))) (sym h) (sym (taken-wrote a (room x) t)),
+    )
 
 -- src/lib.rt:80:20
 enum-told-3 : tie.Need-enum-told-3 Inv-loop μ-loop
@@ -238,9 +239,9 @@ same-length-6 c = c .before .before .before .before .before .before .before .bef
 
 -- src/lib.rt:81:21
 returns-3 : tie.Need-returns-3 Inv-loop μ-loop
-returns-3 c = 
-  let x = c .before .before .before .before .before .before .before .before in
-  c .refused3 .ensures ∙ sym (stepped x ∙ ap₂ (λ (o : Outcome) (b : Bool). judge o b (x .before .before .before .before .before .before .before .before .before .loop .steps) (rest-of x)) (c .before .before .enum-told3 .given .1) (c .before .if2 .taken))
+returns-3 c =
+    let x = c .before .before .before .before .before .before .before .before in
+    c .refused3 .ensures ∙ sym (stepped x ∙ ap₂ (λ (o : Outcome) (b : Bool). judge o b (x .before .before .before .before .before .before .before .before .before .loop .steps) (rest-of x)) (c .before .before .enum-told3 .given .1) (c .before .if2 .taken))
 
 -- src/lib.rt:83:17
 refused-requires-4 : tie.Need-refused-requires-4 Inv-loop μ-loop
@@ -256,9 +257,9 @@ same-length-8 c = c .before .before .before .before .before .before .before .bef
 
 -- src/lib.rt:83:17
 returns-4 : tie.Need-returns-4 Inv-loop μ-loop
-returns-4 c = 
-  let x = c .before .before .before .before .before .before .before .before in
-  c .refused4 .ensures ∙ sym (stepped x ∙ ap₂ (λ (o : Outcome) (b : Bool). judge o b (x .before .before .before .before .before .before .before .before .before .loop .steps) (rest-of x)) (c .before .before .enum-told3 .given .1) (c .before .if2 .left))
+returns-4 c =
+    let x = c .before .before .before .before .before .before .before .before in
+    c .refused4 .ensures ∙ sym (stepped x ∙ ap₂ (λ (o : Outcome) (b : Bool). judge o b (x .before .before .before .before .before .before .before .before .before .loop .steps) (rest-of x)) (c .before .before .enum-told3 .given .1) (c .before .if2 .left))
 
 -- src/lib.rt:87:9
 end-of-requires : tie.Need-end-of-requires Inv-loop μ-loop
@@ -279,13 +280,13 @@ same-length-10 c = search needs
 -- src/lib.rt:43:1
 returns-5 : tie.Need-returns-5 Inv-loop μ-loop
 unfolding retrace
-returns-5 c = 
-  let l = c .before .before .loop in
-  let a = c .before .before .before .before .before .before .before .args in
-  let S = setBy (now (a .set)) (a .layout) in
-  let memory = memoryOf (l .addresses) (l .values) (l .filled) in
-  let z : l .budget ≡ 0 = omega (arith, c .before .loop-test .left) in
-  sym (l .inv .7 ∙ ap (λ (n : ℕ). retrace S (heldOf (l .m) (l .addresses) (l .values) (l .filled)) (l .wrote) (l .steps) n (drop (24 * l .steps) (now (a .trace)))) z
+returns-5 c =
+    let l = c .before .before .loop in
+    let a = c .before .before .before .before .before .before .before .args in
+    let S = setBy (now (a .set)) (a .layout) in
+    let memory = memoryOf (l .addresses) (l .values) (l .filled) in
+    let z : l .budget ≡ 0 = omega (arith, c .before .loop-test .left) in
+    sym (l .inv .7 ∙ ap (λ (n : ℕ). retrace S (heldOf (l .m) (l .addresses) (l .values) (l .filled)) (l .wrote) (l .steps) n (drop (24 * l .steps) (now (a .trace)))) z
     ∙ ap (Ran (l .steps)) (sym (c .end-of .ensures memory ∙ end-is (a .layout) S (stateOf (l .m) memory) (l .inv .0))))
 
 pub run-spec : {M : Type 1} → statement M

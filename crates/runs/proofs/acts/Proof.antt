@@ -21,13 +21,13 @@ permits-requires c κs = search needs
 
 -- src/lib.rt:78:9
 returns : tie.Need-returns
-returns c = 
-  let a = c .before .before .before .args in
-  λ memory.
+returns c =
+    let a = c .before .before .before .args in
+    λ memory.
     let s = stateOf (a .m) memory in
     let S = setBy (now (a .set)) (a .layout) in
     sym (and-or (leb (a .layout .threads) 4) (permitted S s (Execute (a .t))) (permitted S s (Flush (a .t)))
-      ∙ or-true (leb (a .layout .threads) 4 && permitted S s (Flush (a .t))) (sym (c .before .permits .ensures memory) ∙ c .if1 .taken))
+    ∙ or-true (leb (a .layout .threads) 4 && permitted S s (Flush (a .t))) (sym (c .before .permits .ensures memory) ∙ c .if1 .taken))
 
 -- src/lib.rt:80:5
 permits-requires-2 : tie.Need-permits-requires-2
@@ -35,13 +35,13 @@ permits-requires-2 c κs = search needs
 
 -- src/lib.rt:74:1
 returns-2 : tie.Need-returns-2
-returns-2 c = 
-  let a = c .before .before .before .before .args in
-  λ memory.
+returns-2 c =
+    let a = c .before .before .before .before .args in
+    λ memory.
     let s = stateOf (a .m) memory in
     let S = setBy (now (a .set)) (a .layout) in
     c .permits2 .ensures memory ∙ sym (and-or (leb (a .layout .threads) 4) (permitted S s (Execute (a .t))) (permitted S s (Flush (a .t)))
-      ∙ ap (λ (b : Bool). b || (leb (a .layout .threads) 4 && permitted S s (Flush (a .t)))) (sym (c .before .before .permits .ensures memory) ∙ c .before .if1 .left))
+    ∙ ap (λ (b : Bool). b || (leb (a .layout .threads) 4 && permitted S s (Flush (a .t)))) (sym (c .before .before .permits .ensures memory) ∙ c .before .if1 .left))
 
 pub acts-spec : {M : Type 1} → statement M
 acts-spec = tie.close (tie.spec permits-requires returns permits-requires-2 returns-2)

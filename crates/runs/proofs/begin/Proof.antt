@@ -18,9 +18,9 @@ use Rattle.runs.proofs.begin.Lts as lts
 use Rattle.base.proofs.word_at.Reads as word-at-reads
 
 abbrev Inv-loop : tie.InvT-loop
-Inv-loop map addresses₀ values₀ n k₀ addresses values k = 
-  (k ≤ n) × (n ≡ length map / 4) × (n ≤ length addresses₀) × (n ≤ length values₀) × (length addresses ≡ length addresses₀) × (length values ≡ length values₀)
-  × ((j : ℕ) → j < k → getD addresses j 0 ≡ addressAt map j) × ((j : ℕ) → j < k → getD values j 0 ≡ valueAt map j)
+Inv-loop map addresses₀ values₀ n k₀ addresses values k =
+    (k ≤ n) × (n ≡ length map / 4) × (n ≤ length addresses₀) × (n ≤ length values₀) × (length addresses ≡ length addresses₀) × (length values ≡ length values₀)
+    × ((j : ℕ) → j < k → getD addresses j 0 ≡ addressAt map j) × ((j : ℕ) → j < k → getD values j 0 ≡ valueAt map j)
 
 abbrev μ-loop : tie.MeasureT-loop
 μ-loop map addresses₀ values₀ n k₀ addresses values k = n - k
@@ -28,16 +28,16 @@ abbrev μ-loop : tie.MeasureT-loop
 -- src/lib.rt:59:9
 returns : tie.Need-returns Inv-loop μ-loop
 unfolding least
-returns c = 
-  let a = c .before .before .before .before .args in
-  (sym (passed _ _ (and-false (leb (cells (now (a .map))) (length (now (a .values)))) (lt-leb _ _ (c .if1 .taken)))), refl, refl)
+returns c =
+    let a = c .before .before .before .before .args in
+    (sym (passed _ _ (and-false (leb (cells (now (a .map))) (length (now (a .values)))) (lt-leb _ _ (c .if1 .taken)))), refl, refl)
 
 -- src/lib.rt:62:9
 returns-2 : tie.Need-returns-2 Inv-loop μ-loop
 unfolding least
-returns-2 c = 
-  let a = c .before .before .before .before .before .args in
-  (sym (passed _ _ (and-right-false (leb (cells (now (a .map))) (length (now (a .addresses)))) (lt-leb _ _ (c .if2 .taken)))), refl, refl)
+returns-2 c =
+    let a = c .before .before .before .before .before .args in
+    (sym (passed _ _ (and-right-false (leb (cells (now (a .map))) (length (now (a .addresses)))) (lt-leb _ _ (c .if2 .taken)))), refl, refl)
 
 -- src/lib.rt:65:5
 loop-holds : tie.Need-loop-holds Inv-loop μ-loop
@@ -89,14 +89,18 @@ loop-less c = search needs
 
 -- src/lib.rt:65:5
 loop-again : tie.Need-loop-again Inv-loop μ-loop
-loop-again c = 
-  let l = c .before .before .before .loop in
-  let a = c .before .before .before .before .before .before .before .before .before .args in
-  ( search needs, l .inv .1, l .inv .2, l .inv .3
-  , simp length-set (l .inv .4)
-  , simp length-set (l .inv .5)
-  , stored-more (l .addresses) (l .k) (c .before .word-at .result) (addressAt (now (a .map))) (omega arith) (l .inv .6) (c .before .word-at .ensures)
-  , stored-more (l .values) (l .k) (c .word-at2 .result) (valueAt (now (a .map))) (omega arith) (l .inv .7) (c .word-at2 .ensures))
+loop-again c =
+    let l = c .before .before .before .loop in
+    let a = c .before .before .before .before .before .before .before .before .before .args in (
+      search needs,
+      l .inv .1,
+      l .inv .2,
+      l .inv .3,
+      simp length-set (l .inv .4),
+      simp length-set (l .inv .5),
+      stored-more (l .addresses) (l .k) (c .before .word-at .result) (addressAt (now (a .map))) (omega arith) (l .inv .6) (c .before .word-at .ensures),
+      stored-more (l .values) (l .k) (c .word-at2 .result) (valueAt (now (a .map))) (omega arith) (l .inv .7) (c .word-at2 .ensures),
+    )
 
 -- src/lib.rt:52:1
 same-length : tie.Need-same-length Inv-loop μ-loop
@@ -108,13 +112,14 @@ same-length-2 c = search needs
 
 -- src/lib.rt:52:1
 returns-3 : tie.Need-returns-3 Inv-loop μ-loop
-returns-3 c = 
-  let l = c .before .loop in
-  let a = c .before .before .before .before .before .before .before .args in
-  let e : l .k ≡ cells (now (a .map)) = omega arith in
-  ( sym (chosen _ _ (and-true (le-leb (cells (now (a .map))) (length (now (a .addresses))) (omega arith)) (le-leb (cells (now (a .map))) (length (now (a .values))) (omega arith))))
-  , content-same (λ k. getD (l .addresses) k 0) (addressAt (now (a .map))) (cells (now (a .map))) (λ k h. l .inv .6 k (omega arith)) (λ k. getD (l .values) k 0) (valueAt (now (a .map))) (λ k h. l .inv .7 k (omega arith))
-  , holds-same (λ k. getD (l .addresses) k 0) (addressAt (now (a .map))) (cells (now (a .map))) (λ k h. l .inv .6 k (omega arith)))
+returns-3 c =
+    let l = c .before .loop in
+    let a = c .before .before .before .before .before .before .before .args in
+    let e : l .k ≡ cells (now (a .map)) = omega arith in (
+      sym (chosen _ _ (and-true (le-leb (cells (now (a .map))) (length (now (a .addresses))) (omega arith)) (le-leb (cells (now (a .map))) (length (now (a .values))) (omega arith)))),
+      content-same (λ k. getD (l .addresses) k 0) (addressAt (now (a .map))) (cells (now (a .map))) (λ k h. l .inv .6 k (omega arith)) (λ k. getD (l .values) k 0) (valueAt (now (a .map))) (λ k h. l .inv .7 k (omega arith)),
+      holds-same (λ k. getD (l .addresses) k 0) (addressAt (now (a .map))) (cells (now (a .map))) (λ k h. l .inv .6 k (omega arith)),
+    )
 
 pub begin-spec : {M : Type 1} → statement M
 begin-spec =

@@ -29,9 +29,9 @@ returns c = λ memory. sym (chosen _ _ (c .if1 .taken))
 
 -- src/lib.rt:91:5
 loop-holds : tie.Need-loop-holds Inv-loop μ-loop
-loop-holds c = 
-  let a = c .before .before .args in
-  (search needs, c .if1 .left, λ memory. guarded-none (leb (a .layout .threads) 4) (canAct (setBy (now (a .set)) (a .layout)) (stateOf (a .m) memory)))
+loop-holds c =
+    let a = c .before .before .args in
+    (search needs, c .if1 .left, λ memory. guarded-none (leb (a .layout .threads) 4) (canAct (setBy (now (a .set)) (a .layout)) (stateOf (a .m) memory)))
 
 -- src/lib.rt:92:12
 acts-requires : tie.Need-acts-requires Inv-loop μ-loop
@@ -40,10 +40,10 @@ acts-requires c κs = search needs
 -- src/lib.rt:93:13
 returns-2 : tie.Need-returns-2 Inv-loop μ-loop
 unfolding somePermitted
-returns-2 c = 
-  let l = c .before .before .before .before .loop in
-  let a = c .before .before .before .before .before .before .before .args in
-  λ memory. sym (passed _ _ (l .inv .1) ∙ chosen _ _ (guarded-at (leb (a .layout .threads) 4) (canAct (setBy (now (a .set)) (a .layout)) (stateOf (a .m) memory)) _ (l .t) (search needs) (sym (c .before .acts .ensures memory) ∙ c .if3 .taken)))
+returns-2 c =
+    let l = c .before .before .before .before .loop in
+    let a = c .before .before .before .before .before .before .before .args in
+    λ memory. sym (passed _ _ (l .inv .1) ∙ chosen _ _ (guarded-at (leb (a .layout .threads) 4) (canAct (setBy (now (a .set)) (a .layout)) (stateOf (a .m) memory)) _ (l .t) (search needs) (sym (c .before .acts .ensures memory) ∙ c .if3 .taken)))
 
 -- src/lib.rt:95:9
 add-t : tie.Need-add-t Inv-loop μ-loop
@@ -55,19 +55,19 @@ loop-less c = search needs
 
 -- src/lib.rt:91:5
 loop-again : tie.Need-loop-again Inv-loop μ-loop
-loop-again c = 
-  let l = c .before .before .before .before .loop in
-  let a = c .before .before .before .before .before .before .before .args in
-  (search needs, l .inv .1, λ memory. guarded-more (leb (a .layout .threads) 4) (canAct (setBy (now (a .set)) (a .layout)) (stateOf (a .m) memory)) (l .t) (l .inv .2 memory) (sym (c .before .acts .ensures memory) ∙ c .if3 .left))
+loop-again c =
+    let l = c .before .before .before .before .loop in
+    let a = c .before .before .before .before .before .before .before .args in
+    (search needs, l .inv .1, λ memory. guarded-more (leb (a .layout .threads) 4) (canAct (setBy (now (a .set)) (a .layout)) (stateOf (a .m) memory)) (l .t) (l .inv .2 memory) (sym (c .before .acts .ensures memory) ∙ c .if3 .left))
 
 -- src/lib.rt:84:1
 returns-3 : tie.Need-returns-3 Inv-loop μ-loop
 unfolding somePermitted
-returns-3 c = 
-  let l = c .before .before .loop in
-  let a = c .before .before .before .before .before .args in
-  let e : l .t ≡ a .layout .threads = omega arith in
-  λ memory. sym (passed _ _ (l .inv .1) ∙ passed _ _ (ap (λ (n : ℕ). leb (a .layout .threads) 4 && some n (canAct (setBy (now (a .set)) (a .layout)) (stateOf (a .m) memory))) (sym e) ∙ l .inv .2 memory))
+returns-3 c =
+    let l = c .before .before .loop in
+    let a = c .before .before .before .before .before .args in
+    let e : l .t ≡ a .layout .threads = omega arith in
+    λ memory. sym (passed _ _ (l .inv .1) ∙ passed _ _ (ap (λ (n : ℕ). leb (a .layout .threads) 4 && some n (canAct (setBy (now (a .set)) (a .layout)) (stateOf (a .m) memory))) (sym e) ∙ l .inv .2 memory))
 
 pub end-of-spec : {M : Type 1} → statement M
 end-of-spec =

@@ -15,14 +15,14 @@ fresh-requires c κs = search needs
 
 -- src/lib.rt:25:1
 returns : tie.Need-returns
-returns c = 
-  let e = c .fresh .ensures in
-  λ memory k. record
-    { threads = four _ _ _ _ fresh (λ t. fresh) e e e e (λ t h. refl) k
-    ; marks = four unmarked unmarked unmarked unmarked unmarked (λ t. unmarked) refl refl refl refl (λ t h. refl) k
-    ; memory = memory
-    ; ended = false
-    ; code = 0
+returns c =
+    let e = c .fresh .ensures in
+    λ memory k. record {
+      threads = four _ _ _ _ fresh (λ t. fresh) e e e e (λ t h. refl) k;
+      marks = four unmarked unmarked unmarked unmarked unmarked (λ t. unmarked) refl refl refl refl (λ t h. refl) k;
+      memory = memory;
+      ended = false;
+      code = 0;
     }
 
 pub fresh-machine-spec : {M : Type 1} → statement M

@@ -28,11 +28,11 @@ fresh-requires c κs = search needs
 
 -- src/lib.rt:142:1
 returns-2 : tie.Need-returns-2
-returns-2 c = 
-  let a = c .before .before .args in
-  let n : length (a .t1) ≡ 4 = search needs in
-  let h : length (a .t1) ≤ a .t = omega arith in
-  c .fresh .ensures ∙ sym (List·getD-eq-default (a .t1) fresh h)
+returns-2 c =
+    let a = c .before .before .args in
+    let n : length (a .t1) ≡ 4 = search needs in
+    let h : length (a .t1) ≤ a .t = omega arith in
+    c .fresh .ensures ∙ sym (List·getD-eq-default (a .t1) fresh h)
 
 pub thread-at-spec : {M : Type 1} → statement M
 thread-at-spec =

@@ -48,22 +48,22 @@ step-bytes-requires-2 c κs = search needs
 -- src/lib.rt:153:1
 returns : tie.Need-returns
 unfolding traceStep shown
-returns c = 
-  let a = c .before .before .before .before .before .before .before .before .args in
-  let S = setBy (now (a .set)) (a .layout) in
-  let t = c .before .before .before .before .choice .given .0 .0 in
-  λ memory. c .step-bytes .ensures
+returns c =
+    let a = c .before .before .before .before .before .before .before .before .args in
+    let S = setBy (now (a .set)) (a .layout) in
+    let t = c .before .before .before .before .choice .given .0 .0 in
+    λ memory. c .step-bytes .ensures
     ∙ ap₂ (λ (i : Statement) (x : Thread). stepBytes t i x (a .w)) (c .before .fetch .ensures ∙ ap (λ (x : Thread). S .statement t (x .pc)) (c .before .before .thread-at .ensures)) (c .before .before .thread-at .ensures)
     ∙ sym (ap (traceStep S (stateOf (a .m) memory) (a .w)) (c .before .before .before .before .choice .given .1))
 
 -- src/lib.rt:153:1
 returns-2 : tie.Need-returns-2
 unfolding traceStep shown
-returns-2 c = 
-  let a = c .before .before .before .before .before .before .before .args in
-  let S = setBy (now (a .set)) (a .layout) in
-  let t = c .before .before .before .choice2 .given .0 .0 in
-  λ memory. c .step-bytes2 .ensures
+returns-2 c =
+    let a = c .before .before .before .before .before .before .before .args in
+    let S = setBy (now (a .set)) (a .layout) in
+    let t = c .before .before .before .choice2 .given .0 .0 in
+    λ memory. c .step-bytes2 .ensures
     ∙ ap (λ (x : Thread). stepBytes t flushRecord x (a .w)) (c .before .thread-at2 .ensures)
     ∙ sym (ap (traceStep S (stateOf (a .m) memory) (a .w)) (c .before .before .before .choice2 .given .1))
 

@@ -129,12 +129,12 @@ slice-aggregate-run-3 c = search needs
 
 -- src/lib.rt:95:9
 run-requires : tie.Need-run-requires
-run-requires c κs = 
-  let s = c .before .before .before .before .before .before .before .before .before .before .before .before .before .before .before in
-  let b = c .before .before .before .before .before .before in
-  let e = filled b in
-  let l = c .before .before .before .before .before .before .before .before .before .before .if1 .left in
-  (s .pre .0, l, omega (arith, e, s .pre .1, l, b .begin .kept .1 .0), omega (arith, e, s .pre .1, l, b .begin .kept .1 .1 .0), omega (arith, l))
+run-requires c κs =
+    let s = c .before .before .before .before .before .before .before .before .before .before .before .before .before .before .before in
+    let b = c .before .before .before .before .before .before in
+    let e = filled b in
+    let l = c .before .before .before .before .before .before .before .before .before .before .if1 .left in
+    (s .pre .0, l, omega (arith, e, s .pre .1, l, b .begin .kept .1 .0), omega (arith, e, s .pre .1, l, b .begin .kept .1 .1 .0), omega (arith, l))
 
 -- src/lib.rt:97:23
 enum-known-answer : tie.Need-enum-known-answer
@@ -150,9 +150,9 @@ array-share-prefix-bytes c = search needs
 
 -- src/lib.rt:98:35
 slice-aggregate-place : tie.Need-slice-aggregate-place
-slice-aggregate-place c = 
-  let r = c .before .before .before .before .before .before .before .before in
-  sym (length-take-le (24 * length (schedule-of r)) (r .run .last .1 .1 .1 .1 .1 .1 .1 .0) (omega (arith, r .run .kept .1 .1 .1 .1 .1 .1 .1 .0, r .before .before .before .before .before .before .before .before .before .before .before .if1 .left)))
+slice-aggregate-place c =
+    let r = c .before .before .before .before .before .before .before .before in
+    sym (length-take-le (24 * length (schedule-of r)) (r .run .last .1 .1 .1 .1 .1 .1 .1 .0) (omega (arith, r .run .kept .1 .1 .1 .1 .1 .1 .1 .0, r .before .before .before .before .before .before .before .before .before .before .before .if1 .left)))
 
 -- src/lib.rt:98:13
 place-requires : tie.Need-place-requires
@@ -168,19 +168,20 @@ same-length c = search needs
 
 -- src/lib.rt:72:1
 returns-3 : tie.Need-returns-3
-returns-3 c = 
-  let r = c .before .before .before .before .before .before .before .before .before .before .before in
-  let t = c .before .before .before .before .before .before .answer .given .1 in
-  (sym (decided r ∙ t)
-  , c .before .before .place .ensures
-    ∙ ap (placed (now (r .before .before .before .before .before .before .before .before .before .before .before .before .before .before .before .before .args .trace)) 0) (begins r t)
-    ∙ placed-over (now (r .before .before .before .before .before .before .before .before .before .before .before .before .before .before .before .before .args .trace)) (output-of r) (omega (arith, output-length r, r .before .before .before .before .before .before .before .before .before .before .if2 .left)))
+returns-3 c =
+    let r = c .before .before .before .before .before .before .before .before .before .before .before in
+    let t = c .before .before .before .before .before .before .answer .given .1 in (
+      sym (decided r ∙ t),
+      c .before .before .place .ensures
+          ∙ ap (placed (now (r .before .before .before .before .before .before .before .before .before .before .before .before .before .before .before .before .args .trace)) 0) (begins r t)
+          ∙ placed-over (now (r .before .before .before .before .before .before .before .before .before .before .before .before .before .before .before .before .args .trace)) (output-of r) (omega (arith, output-length r, r .before .before .before .before .before .before .before .before .before .before .if2 .left)),
+    )
 
 -- src/lib.rt:72:1
 returns-4 : tie.Need-returns-4
-returns-4 c = 
-  let r = c .before .before .before .before .before .before in
-  (sym (decided r ∙ c .before .answer2 .given .1), refl)
+returns-4 c =
+    let r = c .before .before .before .before .before .before in
+    (sym (decided r ∙ c .before .answer2 .given .1), refl)
 
 pub accepted-spec : {M : Type 1} → statement M
 accepted-spec =

@@ -43,7 +43,7 @@ Running S schedule h₀ bytes m addresses values filled wrote steps budget =
     × (filled + budget ≤ length values)
     × (follow S h₀ 0 (choices schedule) ≡ follow S (heldOf m addresses values filled) steps (choices (drop steps schedule)))
     × (trace S (h₀ .state) noWrite (choices schedule)
-      ≡ take (24 * steps) bytes ++ trace S (stateOf m (memoryOf addresses values filled)) wrote (choices (drop steps schedule)))
+    ≡ take (24 * steps) bytes ++ trace S (stateOf m (memoryOf addresses values filled)) wrote (choices (drop steps schedule)))
 
 abbrev Inv-loop : tie.InvT-loop
 Inv-loop set layout schedule addresses₀ values₀ cells trace₀ m₀ filled₀ wrote₀ steps₀ budget₀ addresses values trace m filled wrote steps budget =
@@ -93,14 +93,14 @@ stepped x =
     l .inv .6 .3
     ∙ follow-next (set-of x) (schedule-of x) i (left x) (choice-of x) (x .before .before .before .before .before .before .before .before .before .choice-of .ensures) (held-of x)
     ∙ ap (λ (o : Outcome). onOutcome o i (follow (set-of x) (advanced (set-of x) (held-of x) (choice-of x)) (i + 1) (choices (drop (i + 1) (schedule-of x)))))
-      (sym (came-out (x .advance .ensures) (room x)))
+    (sym (came-out (x .advance .ensures) (room x)))
 
 -- the trace so far has one step more
 traced : (x : tie.After-advance Inv-loop μ-loop) →
     let i = x .before .before .before .before .before .before .before .before .before .before .before .before .loop .steps in
     trace (set-of x) (first-of x .state) noWrite (choices (schedule-of x))
     ≡ take (24 * (i + 1)) (x .before .before .before .before .before .place .last .0)
-      ++ trace (set-of x) (step (set-of x) (held-of x .state) (choice-of x)) (written (set-of x) (held-of x .state) (choice-of x)) (choices (drop (i + 1) (schedule-of x)))
+    ++ trace (set-of x) (step (set-of x) (held-of x .state) (choice-of x)) (written (set-of x) (held-of x .state) (choice-of x)) (choices (drop (i + 1) (schedule-of x)))
 traced x =
     let l = x .before .before .before .before .before .before .before .before .before .before .before .before .loop in
     let i = l .steps in
@@ -108,7 +108,7 @@ traced x =
     l .inv .6 .4
     ∙ trace-more (set-of x) (schedule-of x) i (left x) (choice-of x) (x .before .before .before .before .before .before .before .before .before .choice-of .ensures) s (l .wrote) (l .trace) (omega (arith, left x, l .inv .2))
     ∙ ap (λ (bytes : List ℕ). take (24 * (i + 1)) bytes ++ trace (set-of x) (step (set-of x) s (choice-of x)) (written (set-of x) s (choice-of x)) (choices (drop (i + 1) (schedule-of x))))
-      (sym (x .before .before .before .before .before .place .ensures ∙ ap (placed (l .trace) (24 * i)) (x .before .before .before .before .before .before .before .before .trace-step .ensures (s .memory))))
+    (sym (x .before .before .before .before .before .place .ensures ∙ ap (placed (l .trace) (24 * i)) (x .before .before .before .before .before .before .before .before .trace-step .ensures (s .memory))))
 
 -- src/lib.rt:35:5
 loop-holds : tie.Need-loop-holds Inv-loop μ-loop
@@ -161,26 +161,29 @@ loop-less c = search needs
 -- src/lib.rt:35:5
 loop-again : tie.Need-loop-again Inv-loop μ-loop
 unfolding advanced
-loop-again c = 
-  let x = c .before .before .before .before .before .before .before .before in
-  let l = x .before .before .before .before .before .before .before .before .before .before .before .before .loop in
-  let i = l .steps in
-  let t = c .before .before .enum-told .given .1 in
-  let a = x .advance .ensures in
-  let lt = x .before .before .before .before .before .before .before .before .before .before .before .loop-test .taken in
-  let h = taken-held a (room x) t in
-  ( l .inv .0
-  , l .inv .1
-  , omega (arith, x .before .before .before .before .before .place .kept .0, l .inv .2)
-  , x .before .before .before .before .before .place .kept .0 ∙ l .inv .3
-  , x .advance .kept .1 .1 .1 .0 ∙ l .inv .4
-  , x .advance .kept .1 .1 .1 .1 .0 ∙ l .inv .5
-  , ( omega (arith, lt, l .inv .6 .0)
-    , omega (arith, lt, l .inv .6 .1, x .advance .kept .1 .1 .1 .0, a .more)
-    , omega (arith, lt, l .inv .6 .2, x .advance .kept .1 .1 .1 .1 .0, a .more)
-    , stepped x ∙ ap (λ (o : Outcome). onOutcome o i (follow (set-of x) (advanced (set-of x) (held-of x) (choice-of x)) (i + 1) (choices (drop (i + 1) (schedule-of x))))) t
-      ∙ ap (λ (k : Held). follow (set-of x) k (i + 1) (choices (drop (i + 1) (schedule-of x)))) (sym h)
-    , traced x ∙ ap₂ (λ (s : State) (w : Written). take (24 * (i + 1)) (x .before .before .before .before .before .place .last .0) ++ trace (set-of x) s w (choices (drop (i + 1) (schedule-of x)))) (ap (λ (k : Held). k .state) (sym h)) (sym (taken-wrote a (room x) t))))
+loop-again c =
+    let x = c .before .before .before .before .before .before .before .before in
+    let l = x .before .before .before .before .before .before .before .before .before .before .before .before .loop in
+    let i = l .steps in
+    let t = c .before .before .enum-told .given .1 in
+    let a = x .advance .ensures in
+    let lt = x .before .before .before .before .before .before .before .before .before .before .before .loop-test .taken in
+    let h = taken-held a (room x) t in (
+      l .inv .0,
+      l .inv .1,
+      omega (arith, x .before .before .before .before .before .place .kept .0, l .inv .2),
+      x .before .before .before .before .before .place .kept .0 ∙ l .inv .3,
+      x .advance .kept .1 .1 .1 .0 ∙ l .inv .4,
+      x .advance .kept .1 .1 .1 .1 .0 ∙ l .inv .5,
+      (
+        omega (arith, lt, l .inv .6 .0),
+        omega (arith, lt, l .inv .6 .1, x .advance .kept .1 .1 .1 .0, a .more),
+        omega (arith, lt, l .inv .6 .2, x .advance .kept .1 .1 .1 .1 .0, a .more),
+        stepped x ∙ ap (λ (o : Outcome). onOutcome o i (follow (set-of x) (advanced (set-of x) (held-of x) (choice-of x)) (i + 1) (choices (drop (i + 1) (schedule-of x))))) t
+            ∙ ap (λ (k : Held). follow (set-of x) k (i + 1) (choices (drop (i + 1) (schedule-of x)))) (sym h),
+        traced x ∙ ap₂ (λ (s : State) (w : Written). take (24 * (i + 1)) (x .before .before .before .before .before .place .last .0) ++ trace (set-of x) s w (choices (drop (i + 1) (schedule-of x)))) (ap (λ (k : Held). k .state) (sym h)) (sym (taken-wrote a (room x) t)),
+      ),
+    )
 
 -- src/lib.rt:52:28
 enum-told-2 : tie.Need-enum-told-2 Inv-loop μ-loop
@@ -204,10 +207,10 @@ same-length-3 c = c .before .before .before .before .before .before .before .bef
 
 -- src/lib.rt:50:17
 returns : tie.Need-returns Inv-loop μ-loop
-returns c = 
-  let x = c .before .before .before .before .before .before in
-  let i = x .before .before .before .before .before .before .before .before .before .before .before .before .loop .steps in
-  (sym (stepped x ∙ ap (λ (o : Outcome). onOutcome o i (follow (set-of x) (advanced (set-of x) (held-of x) (choice-of x)) (i + 1) (choices (drop (i + 1) (schedule-of x))))) (c .enum-told2 .given .1)), tt)
+returns c =
+    let x = c .before .before .before .before .before .before in
+    let i = x .before .before .before .before .before .before .before .before .before .before .before .before .loop .steps in
+    (sym (stepped x ∙ ap (λ (o : Outcome). onOutcome o i (follow (set-of x) (advanced (set-of x) (held-of x) (choice-of x)) (i + 1) (choices (drop (i + 1) (schedule-of x))))) (c .enum-told2 .given .1)), tt)
 
 -- src/lib.rt:58:28
 enum-told-3 : tie.Need-enum-told-3 Inv-loop μ-loop
@@ -231,10 +234,10 @@ same-length-6 c = c .before .before .before .before .before .before .before .bef
 
 -- src/lib.rt:56:17
 returns-2 : tie.Need-returns-2 Inv-loop μ-loop
-returns-2 c = 
-  let x = c .before .before .before .before .before .before in
-  let i = x .before .before .before .before .before .before .before .before .before .before .before .before .loop .steps in
-  (sym (stepped x ∙ ap (λ (o : Outcome). onOutcome o i (follow (set-of x) (advanced (set-of x) (held-of x) (choice-of x)) (i + 1) (choices (drop (i + 1) (schedule-of x))))) (c .enum-told3 .given .1)), tt)
+returns-2 c =
+    let x = c .before .before .before .before .before .before in
+    let i = x .before .before .before .before .before .before .before .before .before .before .before .before .loop .steps in
+    (sym (stepped x ∙ ap (λ (o : Outcome). onOutcome o i (follow (set-of x) (advanced (set-of x) (held-of x) (choice-of x)) (i + 1) (choices (drop (i + 1) (schedule-of x))))) (c .enum-told3 .given .1)), tt)
 
 -- src/lib.rt:63:9
 end-of-requires : tie.Need-end-of-requires Inv-loop μ-loop
@@ -259,18 +262,19 @@ same-length-9 c = search needs
 -- src/lib.rt:20:1
 returns-3 : tie.Need-returns-3 Inv-loop μ-loop
 unfolding follow trace choices
-returns-3 c = 
-  let l = c .before .before .loop in
-  let a = c .before .before .before .before .before .before .before .before .args in
-  let S = setBy (now (a .set)) (a .layout) in
-  let memory = memoryOf (l .addresses) (l .values) (l .filled) in
-  let e : l .steps ≡ length (now (a .schedule)) = omega (arith, c .before .loop-test .left, l .inv .6 .0) in
-  let g : length (now (a .schedule)) ≤ l .steps = omega arith in
-  let d : drop (l .steps) (now (a .schedule)) ≡ [] = drop-of-length-le (now (a .schedule)) g in
-  let q = l .inv .6 .4 ∙ ap (λ (ks : List ℕ). take (24 * l .steps) (l .trace) ++ trace S (stateOf (l .m) memory) (l .wrote) (choices ks)) d ∙ append-nil (take (24 * l .steps) (l .trace)) in
-  ( sym (l .inv .6 .3 ∙ ap (λ (ks : List ℕ). follow S (heldOf (l .m) (l .addresses) (l .values) (l .filled)) (l .steps) (choices ks)) d
-      ∙ ap (Ran (l .steps)) (sym (c .end-of .ensures memory ∙ end-is (a .layout) S (stateOf (l .m) memory) (l .inv .0))))
-  , ap (λ (n : ℕ). take n (l .trace)) (ap length q ∙ length-take-le (24 * l .steps) (l .trace) (omega (arith, l .inv .2))) ∙ sym q)
+returns-3 c =
+    let l = c .before .before .loop in
+    let a = c .before .before .before .before .before .before .before .before .args in
+    let S = setBy (now (a .set)) (a .layout) in
+    let memory = memoryOf (l .addresses) (l .values) (l .filled) in
+    let e : l .steps ≡ length (now (a .schedule)) = omega (arith, c .before .loop-test .left, l .inv .6 .0) in
+    let g : length (now (a .schedule)) ≤ l .steps = omega arith in
+    let d : drop (l .steps) (now (a .schedule)) ≡ [] = drop-of-length-le (now (a .schedule)) g in
+    let q = l .inv .6 .4 ∙ ap (λ (ks : List ℕ). take (24 * l .steps) (l .trace) ++ trace S (stateOf (l .m) memory) (l .wrote) (choices ks)) d ∙ append-nil (take (24 * l .steps) (l .trace)) in (
+      sym (l .inv .6 .3 ∙ ap (λ (ks : List ℕ). follow S (heldOf (l .m) (l .addresses) (l .values) (l .filled)) (l .steps) (choices ks)) d
+          ∙ ap (Ran (l .steps)) (sym (c .end-of .ensures memory ∙ end-is (a .layout) S (stateOf (l .m) memory) (l .inv .0)))),
+      ap (λ (n : ℕ). take n (l .trace)) (ap length q ∙ length-take-le (24 * l .steps) (l .trace) (omega (arith, l .inv .2))) ∙ sym q,
+    )
 
 pub run-spec : {M : Type 1} → statement M
 run-spec =

@@ -34,9 +34,9 @@ layout-requires c κs = search needs
 -- src/lib.rt:112:9
 returns : tie.Need-returns
 unfolding simulated
-returns c = 
-  let a = c .before .before .before .before .before .before .before .args in
-  (sym (passed _ _ (and-false (mapAccepted 256 (now (a .map))) (no-threads (now (a .set)) (c .before .before .layout .result) (c .before .before .layout .ensures) (c .if1 .taken)))), refl)
+returns c =
+    let a = c .before .before .before .before .before .before .before .args in
+    (sym (passed _ _ (and-false (mapAccepted 256 (now (a .map))) (no-threads (now (a .set)) (c .before .before .layout .result) (c .before .before .layout .ensures) (c .if1 .taken)))), refl)
 
 -- src/lib.rt:117:8
 map-accepted-requires : tie.Need-map-accepted-requires
@@ -44,10 +44,10 @@ map-accepted-requires c κs = search needs
 
 -- src/lib.rt:118:9
 accepted-requires : tie.Need-accepted-requires
-accepted-requires c κs = 
-  let m = c .before .before in
-  let a = m .before .before .before .before .before .before .before .before .args in
-  (few-threads (now (a .set)) _ (m .before .before .before .layout .ensures) (good m), few-cells 256 (now (a .map)) (sym (m .map-accepted .ensures) ∙ c .before .if2 .taken))
+accepted-requires c κs =
+    let m = c .before .before in
+    let a = m .before .before .before .before .before .before .before .before .args in
+    (few-threads (now (a .set)) _ (m .before .before .before .layout .ensures) (good m), few-cells 256 (now (a .map)) (sym (m .map-accepted .ensures) ∙ c .before .if2 .taken))
 
 -- src/lib.rt:118:9
 same-length : tie.Need-same-length
@@ -56,22 +56,23 @@ same-length c = search needs
 -- src/lib.rt:118:9
 returns-2 : tie.Need-returns-2
 unfolding simulated scheduleTrace
-returns-2 c = 
-  let p = c .before .before in
-  let m = p .before .before .before in
-  let a = m .before .before .before .before .before .before .before .before .args in
-  let s = set-read (now (a .set)) (m .before .before .before .layout .result) (m .before .before .before .layout .ensures) (good m) in
-  ( p .accepted .ensures .0 ∙ ap (λ (S : Set). limited S (now (a .map)) (now (a .schedule)) (length (now (a .trace)))) s
-    ∙ sym (chosen _ _ (and-true (good m) (sym (m .map-accepted .ensures) ∙ p .before .before .if2 .taken)))
-  , p .accepted .ensures .1 ∙ ap (λ (S : Set). outputOver (p .accepted .result) (trace S (start (mapValue (now (a .map)))) noWrite (choices (now (a .schedule)))) (now (a .trace))) s)
+returns-2 c =
+    let p = c .before .before in
+    let m = p .before .before .before in
+    let a = m .before .before .before .before .before .before .before .before .args in
+    let s = set-read (now (a .set)) (m .before .before .before .layout .result) (m .before .before .before .layout .ensures) (good m) in (
+      p .accepted .ensures .0 ∙ ap (λ (S : Set). limited S (now (a .map)) (now (a .schedule)) (length (now (a .trace)))) s
+          ∙ sym (chosen _ _ (and-true (good m) (sym (m .map-accepted .ensures) ∙ p .before .before .if2 .taken))),
+      p .accepted .ensures .1 ∙ ap (λ (S : Set). outputOver (p .accepted .result) (trace S (start (mapValue (now (a .map)))) noWrite (choices (now (a .schedule)))) (now (a .trace))) s,
+    )
 
 -- src/lib.rt:106:1
 returns-3 : tie.Need-returns-3
 unfolding simulated
-returns-3 c = 
-  let m = c .before in
-  let a = m .before .before .before .before .before .before .before .before .args in
-  (sym (passed _ _ (and-right-false (setAccepted (now (a .set))) (sym (m .map-accepted .ensures) ∙ c .if2 .left))), refl)
+returns-3 c =
+    let m = c .before in
+    let a = m .before .before .before .before .before .before .before .before .args in
+    (sym (passed _ _ (and-right-false (setAccepted (now (a .set))) (sym (m .map-accepted .ensures) ∙ c .if2 .left))), refl)
 
 pub simulate-spec : {M : Type 1} → statement M
 simulate-spec =

@@ -16,26 +16,34 @@ fn main() -> ExitCode {
         }
     };
     let text: String = all().iter().map(print).collect();
-    match io::stdout().write_all(text.as_bytes()) {
+    let head = if options.is_empty() { "" } else { HEAD };
+    match io::stdout().write_all([head, &text].concat().as_bytes()) {
         Ok(()) => ExitCode::SUCCESS,
         Err(_) => ExitCode::FAILURE,
     }
 }
 
+/// The first lines of crates/cases/src/data.rt, which is this program's output.
+const HEAD: &str = "// The set, map and schedule of each case, as the program `cases` of rust/reference prints them with --rattle.\n";
+
 fn rattle_constants(case: &Case) -> String {
     let name = case.name.to_uppercase().replace(' ', "_");
-    [
-        format!("// {}\n", case.name),
+    let parts = [
         rattle_constant(&name, "SET", &case.set()),
         rattle_constant(&name, "MAP", &case.map()),
         rattle_constant(&name, "SCHEDULE", &case.schedule),
-    ]
-    .concat()
+    ];
+    format!("\n// {}\n{}", case.name, parts.join("\n"))
 }
 
 fn rattle_constant(name: &str, part: &str, bytes: &[u8]) -> String {
-    let values: Vec<String> = bytes.iter().map(u8::to_string).collect();
+    let values: String = bytes.iter().map(|b| format!("\\x{b:02x}")).collect();
     let count = bytes.len();
-    let values = values.join(", ");
-    format!("pub const {name}_{part}: [u8; {count}] = [{values}];\n")
+    let line = format!("pub const {name}_{part}: [u8; {count}] = *b\"{values}\";\n");
+    // `rt fmt` breaks a line of more than 100 characters after the equals sign
+    if line.len() <= 101 {
+        line
+    } else {
+        line.replacen("= *b", "=\n    *b", 1)
+    }
 }
