@@ -54,4 +54,4 @@ module _ (S : Set) (m : Machine) (adr val : List ℕ) (filled : ℕ) (c : Choice
       Advances fit S (heldOf m adr val filled) c filled r (heldOf (r .machine) adr val (r .filled))
   unmoved fit e o =
       subst⁻¹ (λ (z : Stepped). Advances fit S (heldOf m adr val filled) c filled z (heldOf (z .machine) adr val (z .filled))) e
-      (record { fits = refl; came = o; held = refl; wrote = refl; more = omega arith })
+      (record { fits = refl; came = o; held = refl; wrote = refl; read = refl; more = omega arith })

@@ -2,8 +2,8 @@
 -- Assumes nothing.
 use Prim.Native.Nat.{ℕ, _+_, _≤_}
 use mathlib.Core.Path.{_≡_}
-use mathlib.Core.Bool.{Bool, true, cond, not, _&&_, _||_}
-use mathlib.Core.List.{List}
+use mathlib.Core.Bool.{Bool, true, false, cond, not, _&&_, _||_}
+use mathlib.Core.List.{List, [], _∷_, _++_}
 use lib.Dec.{eqb, leb, ltb}
 use lib.ListN.{length, getD}
 use Rattle.records.specs.Maps.{holds, content}
@@ -11,10 +11,11 @@ use Rattle.records.specs.Instructions.{EXIT, CHECK}
 use Rattle.records.specs.Sets.{Set}
 use Rattle.records.specs.declared.Layout.{Layout}
 use Rattle.records.specs.declared.Statement.{Statement}
-use Rattle.step.specs.Machine.{State, fresh, unmarked, opened, cleared, allHalted, written, noWrite}
+use Rattle.step.specs.Machine.{State, fresh, unmarked, opened, cleared, allHalted, written, noWrite, reads}
 use Rattle.step.specs.declared.Mark.{Mark}
 use Rattle.step.specs.declared.Outcome.{Outcome}
 use Rattle.step.specs.declared.Outcome.the-variants.{Taken, NotPermitted, Lacking}
+use Rattle.step.specs.declared.Read.{Read}
 use Rattle.step.specs.declared.Stepped.{Stepped}
 use Rattle.step.specs.declared.Thread.{Thread}
 use Rattle.step.specs.Maps.{Held, outcome, advanced}
@@ -72,9 +73,16 @@ heldOf m addresses values filled = record { state = stateOf m (memoryOf addresse
 abbrev pub hasRoom : Layout → (addresses values filled : ℕ) → Bool
 hasRoom layout addresses values filled = leb (layout .threads) 4 && ltb filled addresses && ltb filled values
 
+-- the cells that a step read, as the code reports them
+abbrev pub cellsOf : Read → List ℕ
+cellsOf r = cond (r .argument) (r .first ∷ []) [] ++ cond (r .word) (r .second ∷ []) []
+
+abbrev pub noRead : Read
+noRead = record { argument = false; first = 0; word = false; second = 0 }
+
 -- a step that is not taken: nothing changes
 abbrev pub still : Bool → Machine → ℕ → Stepped
-still fit m filled = record { fit = fit; outcome = NotPermitted; machine = m; filled = filled; wrote = noWrite }
+still fit m filled = record { fit = fit; outcome = NotPermitted; machine = m; filled = filled; wrote = noWrite; read = noRead }
 
 -- x where the step was taken, else y
 abbrev pub onTaken : {A : Type 0} → Outcome → A → A → A
@@ -82,10 +90,12 @@ onTaken Taken x y = x
 onTaken NotPermitted x y = y
 onTaken Lacking x y = y
 
--- what a call that takes a step promises: its outcome, and the state afterwards, which is as it was where the step is not taken
+-- what a call that takes a step promises: its outcome, the state afterwards, which is as it was where the step is not taken,
+-- and the report of what was written and read
 pub record Advances (fit : Bool) (S : Set) (before : Held) (c : Choice) (filled : ℕ) (r : Stepped) (afterwards : Held) : Type 0 where
   pub fits : r .fit ≡ fit
   pub came : r .outcome ≡ cond fit (outcome S before c) NotPermitted
   pub held : afterwards ≡ onTaken (r .outcome) (advanced S before c) before
   pub wrote : r .wrote ≡ onTaken (r .outcome) (written S (before .state) c) noWrite
+  pub read : cellsOf (r .read) ≡ onTaken (r .outcome) (reads S (before .state) c) []
   pub more : r .filled ≤ filled + 1

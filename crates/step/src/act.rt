@@ -14,6 +14,7 @@ use crate::Choice;
 use crate::Machine;
 use crate::Mark;
 use crate::Outcome;
+use crate::Read;
 use crate::Stepped;
 use crate::Thread;
 use crate::Written;
@@ -176,12 +177,19 @@ fn flush(
         address: x.adr,
         value: x.val,
     };
+    let read = Read {
+        argument: false,
+        first: 0,
+        word: false,
+        second: 0,
+    };
     Stepped {
         fit: true,
         outcome: Outcome::Taken,
         machine,
         filled: count,
         wrote,
+        read,
     }
 }
 
@@ -221,6 +229,7 @@ fn execute(
     if o.known {
         let y = executed(i, o, x);
         let machine = settle(set, layout, m, t, y, i);
+        let read = o.read;
         let mut count = filled;
         if matches(i, o, x) {
             count = put(addresses, values, filled, o.address, x.accu);
@@ -236,14 +245,22 @@ fn execute(
             machine,
             filled: count,
             wrote,
+            read,
         };
     }
+    let read = Read {
+        argument: false,
+        first: 0,
+        word: false,
+        second: 0,
+    };
     Stepped {
         fit: true,
         outcome: Outcome::Lacking,
         machine: m,
         filled,
         wrote,
+        read,
     }
 }
 
@@ -256,12 +273,19 @@ fn still(fit: bool, m: Machine, filled: usize) -> Stepped
         address: 0,
         value: 0,
     };
+    let read = Read {
+        argument: false,
+        first: 0,
+        word: false,
+        second: 0,
+    };
     Stepped {
         fit,
         outcome: Outcome::NotPermitted,
         machine: m,
         filled,
         wrote,
+        read,
     }
 }
 

@@ -54,7 +54,15 @@ pub enum Outcome {
     Lacking,
 }
 
-// What a step gave: its outcome, the machine and the filled count afterwards, and what was written.
+// The cells that a step read: its address word's, where that is read from a cell, then that of the word it took.
+pub struct Read {
+    pub argument: bool,
+    pub first: u16,
+    pub word: bool,
+    pub second: u16,
+}
+
+// What a step gave: its outcome, the machine and the filled count afterwards, what was written and what was read.
 // fit is false where the layout has more than four threads or the lent arrays have no room for a cell more.
 pub struct Stepped {
     pub fit: bool,
@@ -62,6 +70,7 @@ pub struct Stepped {
     pub machine: Machine,
     pub filled: usize,
     pub wrote: Written,
+    pub read: Read,
 }
 
 // How a run stands: ended with a code, stuck, or open.

@@ -1,14 +1,16 @@
 // The sparse memory: the cells that are known, as slices of addresses and of values.
 // They are lent, so that a step copies no cell.
 ghost use mathlib.Core.Path.{_≡_};
+ghost use mathlib.Core.Bool.{true};
 ghost use lib.ListN.{length, getD};
 ghost use Rattle.records.specs.Maps.{cellAt};
 ghost use Rattle.step.specs.Held.{memoryIn, knownIn};
 
-// A cell's value, and whether it is known; 0 where it is not.
+// A word that a statement takes: whether it is known, its value (0 where it is not), and whether it was read from its cell.
 pub struct Cell {
     pub known: bool,
     pub value: u16,
+    pub read: bool,
 }
 
 // The index of the first cell at address a, or how many cells there are.
@@ -28,23 +30,26 @@ pub fn cell_at(addresses: &[u16], a: u16) -> usize
 // What is known of the cell at address a.
 pub fn look(addresses: &[u16], values: &[u16], a: u16) -> Cell
     ensures { λ r. ⌜ (r .known ≡ knownIn (now (addresses .entry)) a)
-        × (r .value ≡ memoryIn (now (addresses .entry)) (now (values .entry)) a) ⌝ }
+        × (r .value ≡ memoryIn (now (addresses .entry)) (now (values .entry)) a) × (r .read ≡ true) ⌝ }
 {
     let i = cell_at(addresses, a);
     if addresses.len() <= i {
         return Cell {
             known: false,
             value: 0,
+            read: true,
         };
     }
     if i < values.len() {
         return Cell {
             known: true,
             value: values[i],
+            read: true,
         };
     }
     Cell {
         known: true,
         value: 0,
+        read: true,
     }
 }

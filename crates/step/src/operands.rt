@@ -2,31 +2,36 @@
 ghost use mathlib.Core.Path.{_≡_};
 ghost use mathlib.Core.Bool.{true, not, _||_};
 ghost use Rattle.records.specs.Instructions.{isMemory};
-ghost use Rattle.step.specs.Held.{memoryIn, knownIn};
+ghost use Rattle.step.specs.Held.{memoryIn, knownIn, cellsOf};
 ghost use Rattle.step.specs.Machine.{load as loadOf, forwards, address as addressOf, takesWord, wordTaken, cellsRead, readsArgument, readsAddress};
 ghost use Rattle.step.specs.Maps.{knowsAll};
+use crate::Read;
 use crate::Thread;
 use crate::memory;
 use crate::memory::Cell;
 use records::Statement;
+use records::instructions::CAS;
+use records::instructions::STORE;
 
 // The address of a memory word and the word it takes; known where each cell that it reads is.
 pub struct Operand {
     pub known: bool,
     pub address: u16,
     pub word: u16,
+    pub read: Read,
 }
 
 // A load of address a, forwarding included.
 fn load(x: Thread, addresses: &[u16], values: &[u16], a: u16) -> Cell
     ensures { λ r. ⌜ (r .known ≡ (forwards x a || knownIn (now (addresses .entry)) a))
-        × (r .value ≡ loadOf x (memoryIn (now (addresses .entry)) (now (values .entry))) a) ⌝ }
+        × (r .value ≡ loadOf x (memoryIn (now (addresses .entry)) (now (values .entry))) a) × (r .read ≡ not (forwards x a)) ⌝ }
 {
     if x.full {
         if x.adr == a {
             return Cell {
                 known: true,
                 value: x.val,
+                read: false,
             };
         }
     }
@@ -37,7 +42,7 @@ fn load(x: Thread, addresses: &[u16], values: &[u16], a: u16) -> Cell
 fn address(i: Statement, x: Thread, addresses: &[u16], values: &[u16]) -> Cell
     requires { ⌜ isMemory (i .number) ≡ true ⌝ }
     ensures { λ r. ⌜ (r .known ≡ (not (readsArgument i x) || knownIn (now (addresses .entry)) (i .argument)))
-        × (r .value ≡ addressOf i x (memoryIn (now (addresses .entry)) (now (values .entry)))) ⌝ }
+        × (r .value ≡ addressOf i x (memoryIn (now (addresses .entry)) (now (values .entry)))) × (r .read ≡ readsArgument i x) ⌝ }
 {
     if i.mode == 1 {
         return load(x, addresses, values, i.argument);
@@ -45,6 +50,7 @@ fn address(i: Statement, x: Thread, addresses: &[u16], values: &[u16]) -> Cell
     Cell {
         known: true,
         value: i.argument,
+        read: false,
     }
 }
 
@@ -53,9 +59,9 @@ fn word(i: Statement, x: Thread, addresses: &[u16], values: &[u16], a: u16) -> C
     requires { ⌜ (takesWord (i .number) ≡ true)
         × (a ≡ addressOf i x (memoryIn (now addresses) (now values))) ⌝ }
     ensures { λ r. ⌜ (r .known ≡ (not (readsAddress i x a) || knownIn (now (addresses .entry)) a))
-        × (r .value ≡ wordTaken i x (memoryIn (now (addresses .entry)) (now (values .entry)))) ⌝ }
+        × (r .value ≡ wordTaken i x (memoryIn (now (addresses .entry)) (now (values .entry)))) × (r .read ≡ readsAddress i x a) ⌝ }
 {
-    if i.number == 16 {
+    if i.number == CAS {
         return memory::look(addresses, values, a);
     }
     load(x, addresses, values, a)
@@ -65,34 +71,49 @@ fn word(i: Statement, x: Thread, addresses: &[u16], values: &[u16], a: u16) -> C
 pub fn operands(i: Statement, x: Thread, addresses: &[u16], values: &[u16]) -> Operand
     ensures { λ r. ⌜ (r .known ≡ knowsAll (knownIn (now (addresses .entry))) (cellsRead i x (memoryIn (now (addresses .entry)) (now (values .entry)))))
         × (r .address ≡ addressOf i x (memoryIn (now (addresses .entry)) (now (values .entry))))
-        × (r .word ≡ wordTaken i x (memoryIn (now (addresses .entry)) (now (values .entry)))) ⌝ }
+        × (r .word ≡ wordTaken i x (memoryIn (now (addresses .entry)) (now (values .entry))))
+        × (cellsOf (r .read) ≡ cellsRead i x (memoryIn (now (addresses .entry)) (now (values .entry)))) ⌝ }
 {
     if records::is_memory(i.number) {
         let a = address(i, x, addresses, values);
-        if i.number == 1 {
+        if i.number == STORE {
+            let read = Read {
+                argument: a.read,
+                first: i.argument,
+                word: false,
+                second: 0,
+            };
             return Operand {
                 known: a.known,
                 address: a.value,
                 word: 0,
+                read,
             };
         }
         let w = word(i, x, addresses, values, a.value);
-        if a.known {
-            return Operand {
-                known: w.known,
-                address: a.value,
-                word: w.value,
-            };
-        }
+        let read = Read {
+            argument: a.read,
+            first: i.argument,
+            word: w.read,
+            second: a.value,
+        };
         return Operand {
-            known: false,
+            known: a.known & w.known,
             address: a.value,
             word: w.value,
+            read,
         };
     }
+    let read = Read {
+        argument: false,
+        first: 0,
+        word: false,
+        second: 0,
+    };
     Operand {
         known: true,
         address: 0,
         word: 0,
+        read,
     }
 }

@@ -14,7 +14,7 @@ use Rattle.step.specs.declared.Choice.the-variants.{Execute}
 use Rattle.step.specs.Maps.{knowsAll, knownAfter, outcome, advanced}
 use Rattle.step.specs.Runs.{takes}
 use Rattle.step.specs.Machine.{State, address, wordTaken, casMatches, cellsRead, row, nextPc, withPc, executed, written, wrote, noWrite, memoryAfter, reads, fresh, current}
-use Rattle.step.specs.Held.{stateOf, heldOf, settled, memoryOf, knownOf}
+use Rattle.step.specs.Held.{stateOf, heldOf, settled, memoryOf, knownOf, cellsOf}
 use Rattle.records.specs.declared.Statement.{Statement}
 use Rattle.records.specs.Sets.{Set, setBy, statementAt, nothing}
 use Rattle.step.specs.declared.Outcome.the-variants.{Taken, Lacking}
@@ -91,6 +91,7 @@ taken : (c : tie.After-operands) →
     (c .operands .result .known ≡ knowsAll (known-of c) (cellsRead i (thread-of c) (memory-of c)))
     × (c .operands .result .address ≡ address i (thread-of c) (memory-of c))
     × (c .operands .result .word ≡ wordTaken i (thread-of c) (memory-of c))
+    × (cellsOf (c .operands .result .read) ≡ cellsRead i (thread-of c) (memory-of c))
 taken c =
     let i = c .before .before .before .fetch .result in
     let a = start c .args in
@@ -99,6 +100,7 @@ taken c =
       o .0 ∙ ap₂ (λ (k : ℕ → Bool) (mem : ℕ → ℕ). knowsAll k (cellsRead i (thread-of c) mem)) (prefix-known (now (a .addresses)) (now (a .values)) (a .filled) (few c)) m,
       o .1 ∙ ap (λ (mem : ℕ → ℕ). address i (thread-of c) mem) m,
       o .2 ∙ ap (λ (mem : ℕ → ℕ). wordTaken i (thread-of c) mem) m,
+      o .3 ∙ ap (λ (mem : ℕ → ℕ). cellsRead i (thread-of c) mem) m,
     )
 
 -- whether the cells read are known
@@ -108,6 +110,11 @@ knows c = ap (λ (i : Statement). knowsAll (known-of c) (cellsRead i (thread-of 
 reads-known : (c : tie.Then1) → knowsAll (known-of (c .before)) (reads (set-of (c .before)) (state-of (c .before)) (Execute (start (c .before) .args .t))) ≡ true
 unfolding reads
 reads-known c = knows (c .before) ∙ c .if1 .taken
+
+-- the cells reported are those that the step reads
+cells : (c : tie.After-operands) → cellsOf (c .operands .result .read) ≡ reads (set-of c) (state-of c) (Execute (start c .args .t))
+unfolding reads
+cells c = taken c .3 ∙ ap (λ (i : Statement). cellsRead i (thread-of c) (memory-of c)) (fetched c)
 
 -- the registers afterwards
 registers : (c : tie.After-executed) →
@@ -139,28 +146,28 @@ settled-at o w = settled (set-of o) (stateOf (start o .args .t3) (memoryAfter w 
 
 -- whether a CAS matches
 cas : (c : tie.After-matches) →
-    let o = c .before .before .before .before in
+    let o = c .before .before .before .before .before in
     casMatches (current-of o) (thread-of o) (memory-of o) ≡ c .matches .result
 unfolding casMatches
 cas c =
-    let o = c .before .before .before .before in
+    let o = c .before .before .before .before .before in
     let i = o .before .before .before .fetch .result in
     ap (λ (j : Statement). casMatches j (thread-of o) (memory-of o)) (sym (fetched o))
     ∙ ap (λ (w : ℕ). eqb (i .number) CAS && eqb w (thread-of o .mem)) (sym (taken o .2))
     ∙ sym (c .matches .ensures)
 
 not-writes : (c : tie.After-matches) → c .matches .result ≡ false →
-    let o = c .before .before .before .before in
+    let o = c .before .before .before .before .before in
     written (set-of o) (state-of o) (Execute (start o .args .t)) ≡ noWrite
 unfolding written
 not-writes c e = passed _ _ (cas c ∙ e)
 
 writes : (c : tie.After-matches) → c .matches .result ≡ true →
-    let o = c .before .before .before .before in
+    let o = c .before .before .before .before .before in
     written (set-of o) (state-of o) (Execute (start o .args .t)) ≡ wrote (o .operands .result .address) (thread-of o .accu)
 unfolding written
 writes c e =
-    let o = c .before .before .before .before in
+    let o = c .before .before .before .before .before in
     chosen _ _ (cas c ∙ e)
     ∙ ap (λ (i : Statement). wrote (address i (thread-of o) (memory-of o)) (thread-of o .accu)) (sym (fetched o))
     ∙ ap (λ (a : ℕ). wrote a (thread-of o .accu)) (sym (taken o .1))
@@ -200,7 +207,7 @@ matches-requires c κs = search needs
 
 put-requires : tie.Need-put-requires
 put-requires c κs =
-    let s = c .before .before .before .before .before .before .before .before .before .before .before .before .before .before .before in
+    let s = c .before .before .before .before .before .before .before .before .before .before .before .before .before .before .before .before in
     omega (arith, s .pre .2, s .pre .3)
 
 same-length : tie.Need-same-length
@@ -213,18 +220,19 @@ returns : tie.Need-returns
 unfolding advanced
 returns c =
     let m = c .before .before .before .before .before .before .before .before in
-    let o = m .before .before .before .before in
+    let o = m .before .before .before .before .before in
     let p = c .before .before .before .before .put .ensures in
     let w = writes m (c .before .before .before .before .before .before .before .if2 .taken) in
     record {
       fits = refl;
-      came = sym (takes-it o ∙ chosen _ _ (reads-known (m .before .before .before)));
+      came = sym (takes-it o ∙ chosen _ _ (reads-known (m .before .before .before .before)));
       held = λ k. record {
-        state = (settled-by (m .before) _ ∙ ap (λ (mem : ℕ → ℕ). settled (set-of o) (stateOf (start o .args .t3) mem) (start o .args .t) (executed (current-of o) (memory-of o) (thread-of o)) (current-of o)) (p .0)
+        state = (settled-by (m .before .before) _ ∙ ap (λ (mem : ℕ → ℕ). settled (set-of o) (stateOf (start o .args .t3) mem) (start o .args .t) (executed (current-of o) (memory-of o) (thread-of o)) (current-of o)) (p .0)
             ∙ ap (settled-at o) (sym w) ∙ step-execute (set-of o) (start o .args .t3) (memory-of o) (start o .args .t)) k;
         known = (p .1 ∙ ap {B = ℕ → Bool} (λ (z : Written). knownAfter z (known-of o)) (sym w)) k;
       };
       wrote = sym w;
+      read = cells o;
       more = p .2;
     }
 
@@ -238,16 +246,17 @@ returns-2 : tie.Need-returns-2
 unfolding advanced
 returns-2 c =
     let m = c .before in
-    let o = m .before .before .before .before in
+    let o = m .before .before .before .before .before in
     let w : written (set-of o) (state-of o) (Execute (start o .args .t)) ≡ noWrite = not-writes m (c .if2 .left) in
     record {
       fits = refl;
-      came = sym (takes-it o ∙ chosen _ _ (reads-known (m .before .before .before)));
+      came = sym (takes-it o ∙ chosen _ _ (reads-known (m .before .before .before .before)));
       held = λ k. record {
-        state = (settled-by (m .before) (memory-of o) ∙ ap (settled-at o) (sym w) ∙ step-execute (set-of o) (start o .args .t3) (memory-of o) (start o .args .t)) k;
+        state = (settled-by (m .before .before) (memory-of o) ∙ ap (settled-at o) (sym w) ∙ step-execute (set-of o) (start o .args .t3) (memory-of o) (start o .args .t)) k;
         known = ap {B = ℕ → Bool} (λ (z : Written). knownAfter z (known-of o)) (sym w) k;
       };
       wrote = sym w;
+      read = cells o;
       more = search needs;
     }
 
@@ -261,7 +270,7 @@ returns-3 : tie.Need-returns-3
 unfolding outcome reads
 returns-3 c =
     let o = c .before in
-    record { fits = refl; came = sym (takes-it o ∙ passed _ _ (knows o ∙ c .if1 .left)); held = refl; wrote = refl; more = search needs }
+    record { fits = refl; came = sym (takes-it o ∙ passed _ _ (knows o ∙ c .if1 .left)); held = refl; wrote = refl; read = refl; more = search needs }
 
 pub execute-spec : {M : Type 1} → statement M
 execute-spec =

@@ -55,6 +55,7 @@ returns c =
         known = p .1 k;
       };
       wrote = refl;
+      read = refl;
       more = p .2;
     }
 

@@ -1,6 +1,6 @@
 use denote.Ref.{now}
 use lib.ListN.{List·getD-eq-default}
-use mathlib.Core.Path.{_≡_, _∙_, sym, ap}
+use mathlib.Core.Path.{_≡_, _∙_, sym, ap, refl}
 use borrow.Author.Tests.{lt-ltb, le-ltb}
 use Rattle.base.proofs.Choice.{chosen, passed}
 use borrow.Author.Needs.{needs}
@@ -19,7 +19,7 @@ returns : tie.Need-returns
 returns c =
     let e = c .before .cell-at .ensures in
     let t = le-ltb _ _ (c .if1 .taken) in
-    (rw (← e) (sym t), rw (← e) (sym (passed _ _ t)))
+    (rw (← e) (sym t), rw (← e) (sym (passed _ _ t)), refl)
 
 -- src/memory.rt:43:20
 mul-t7 : tie.Need-mul-t7
@@ -34,14 +34,14 @@ returns-2 : tie.Need-returns-2
 returns-2 c =
     let e = c .before .before .before .cell-at .ensures in
     let t = lt-ltb _ _ (c .before .before .if1 .left) in
-    (rw (← e) (sym t), rw (← e) (sym (chosen _ _ t)))
+    (rw (← e) (sym t), rw (← e) (sym (chosen _ _ t)), refl)
 
 -- src/memory.rt:29:1
 returns-3 : tie.Need-returns-3
 returns-3 c =
     let e = c .before .before .cell-at .ensures in
     let t = lt-ltb _ _ (c .before .if1 .left) in
-    (rw (← e) (sym t), rw (← e) (sym (chosen _ _ t ∙ List·getD-eq-default (now (c .before .before .before .before .before .args .values)) 0 (c .if2 .left))))
+    (rw (← e) (sym t), rw (← e) (sym (chosen _ _ t ∙ List·getD-eq-default (now (c .before .before .before .before .before .args .values)) 0 (c .if2 .left))), refl)
 
 pub look-spec : {M : Type 1} → statement M
 look-spec =

@@ -16,7 +16,7 @@ returns : tie.Need-returns
 returns c =
     let a = c .before .before .before .before .before .args in
     let e = address-indirect (a .i) (a .x) (memoryIn (now (a .addresses)) (now (a .values))) (knownIn (now (a .addresses))) (c .before .before .before .before .before .pre) (c .before .if1 .taken) in
-    (c .load .ensures .0 ∙ e .0, c .load .ensures .1 ∙ e .1)
+    (c .load .ensures .0 ∙ e .0, c .load .ensures .1 ∙ e .1, c .load .ensures .2 ∙ e .2)
 
 returns-2 : tie.Need-returns-2
 returns-2 c =

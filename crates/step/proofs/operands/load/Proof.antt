@@ -28,7 +28,7 @@ returns-2 c =
     let a = c .before .before .before .before .args in
     let f : forwards (a .x) (a .a) ≡ false = ⊎-elim (λ w. and-right-false (a .x .full) (ne-eqb _ _ (w .2 .left))) (λ w. and-false (eqb (a .x .adr) (a .a)) (w .left)) (c .before .if1 .came) in
     let e = load-cell (a .x) (memoryIn (now (a .addresses)) (now (a .values))) (knownIn (now (a .addresses))) (a .a) f in
-    (c .look .ensures .0 ∙ e .0, c .look .ensures .1 ∙ e .1)
+    (c .look .ensures .0 ∙ e .0, c .look .ensures .1 ∙ e .1, c .look .ensures .2 ∙ e .2)
 
 pub load-spec : {M : Type 1} → statement M
 load-spec = tie.close (tie.spec returns look-requires returns-2)

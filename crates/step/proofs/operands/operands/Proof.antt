@@ -7,7 +7,7 @@ use borrow.Author.Tests.{eq-eqb, ne-eqb}
 use Rattle.base.proofs.Choice.{and-true, and-false, and-right-false, and-yes}
 use Rattle.step.specs.Machine.{takesWord}
 use Rattle.step.specs.Held.{memoryIn, knownIn}
-use Rattle.step.proofs.Loads.{knows-from, word-none, plain}
+use Rattle.step.proofs.Loads.{knows-from, cells-word, cells-none, word-none, plain}
 use borrow.Author.Needs.{needs}
 use Rattle.step.proofs.operands.operands.Statement.{statement}
 use Rattle.step.proofs.operands.operands.Tie as tie
@@ -37,6 +37,7 @@ returns c =
       sym (and-yes _) ∙ knows-from (a .i) (a .x) (memoryIn (now (a .addresses)) (now (a .values))) (knownIn (now (a .addresses))) _ true (e .0) (w .0),
       e .1,
       w .1,
+      cells-none (a .i) (a .x) (memoryIn (now (a .addresses)) (now (a .values))) (knownIn (now (a .addresses))) _ (e .2) (w .2),
     )
 
 word-requires : tie.Need-word-requires
@@ -45,32 +46,21 @@ word-requires c κs =
 
 returns-2 : tie.Need-returns-2
 returns-2 c =
-    let s = c .before .before .before .before .before .before .before .before .before in
+    let r = c .before .before in
+    let s = r .before .before .before .before .before .before .before .before in
     let a = s .args in
-    let e = c .before .before .before .before .address .ensures in
-    let w = c .before .word .ensures in (
-      sym (ap (λ (b : Bool). b && c .before .word .result .known) (c .if3 .taken))
-          ∙ knows-from (a .i) (a .x) (memoryIn (now (a .addresses)) (now (a .values))) (knownIn (now (a .addresses))) _ _ (e .0) (rw (e .1) at (w .0)),
+    let e = r .before .before .before .address .ensures in
+    let w = r .word .ensures in
+    let memory = memoryIn (now (a .addresses)) (now (a .values)) in (
+      knows-from (a .i) (a .x) memory (knownIn (now (a .addresses))) _ _ (e .0) (rw (e .1) at (w .0)),
       e .1,
       w .1,
+      cells-word (a .i) (a .x) memory (knownIn (now (a .addresses))) _ _ _ (e .2) (rw (e .1) at (w .2)) (e .1),
     )
 
 returns-3 : tie.Need-returns-3
 returns-3 c =
-    let s = c .before .before .before .before .before .before .before .before .before in
-    let a = s .args in
-    let e = c .before .before .before .before .address .ensures in
-    let w = c .before .word .ensures in (
-      sym (and-false (c .before .word .result .known) (c .if3 .left))
-          ∙ knows-from (a .i) (a .x) (memoryIn (now (a .addresses)) (now (a .values))) (knownIn (now (a .addresses))) _ _ (e .0) (rw (e .1) at (w .0)),
-      e .1,
-      w .1,
-    )
-
-returns-4 : tie.Need-returns-4
-returns-4 c =
-    let s = c .before .before .before .before in
-    let a = s .args in
+    let a = c .before .before .before .before .args in
     plain (a .i) (a .x) (memoryIn (now (a .addresses)) (now (a .values))) (knownIn (now (a .addresses))) (sym (c .before .is-memory .ensures) ∙ c .if1 .left)
 
 pub operands-spec : {M : Type 1} → statement M
@@ -82,5 +72,4 @@ operands-spec =
     returns
     word-requires
     returns-2
-    returns-3
-    returns-4)
+    returns-3)

@@ -19,7 +19,7 @@ returns c =
     let a = s .args in
     let e = s .pre .1 in
     let w = word-cas (a .i) (a .x) (memoryIn (now (a .addresses)) (now (a .values))) (knownIn (now (a .addresses))) (s .pre .0) (c .before .if1 .taken) in
-    (rw e ((rw e at (c .look .ensures .0)) ∙ w .0), (rw e at (c .look .ensures .1)) ∙ w .1)
+    (rw e ((rw e at (c .look .ensures .0)) ∙ w .0), (rw e at (c .look .ensures .1)) ∙ w .1, rw e (c .look .ensures .2 ∙ w .2))
 
 load-requires : tie.Need-load-requires
 load-requires c κs = search needs
@@ -30,7 +30,7 @@ returns-2 c =
     let a = s .args in
     let e = s .pre .1 in
     let w = word-load (a .i) (a .x) (memoryIn (now (a .addresses)) (now (a .values))) (knownIn (now (a .addresses))) (s .pre .0) (c .before .if1 .left) in
-    (rw e ((rw e at (c .load .ensures .0)) ∙ w .0), (rw e at (c .load .ensures .1)) ∙ w .1)
+    (rw e ((rw e at (c .load .ensures .0)) ∙ w .0), (rw e at (c .load .ensures .1)) ∙ w .1, rw e ((rw e at (c .load .ensures .2)) ∙ w .2))
 
 pub word-spec : {M : Type 1} → statement M
 word-spec = tie.close (tie.spec look-requires returns load-requires returns-2)
