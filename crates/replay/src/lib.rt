@@ -78,7 +78,7 @@ fn run(
                 if !equal {
                     return refused(13, steps);
                 }
-                m = s.machine;
+                m = step::act::apply(layout, m, choice, s);
                 filled = s.filled;
                 wrote = s.wrote;
                 steps += 1;

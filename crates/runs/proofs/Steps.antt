@@ -1,7 +1,7 @@
 -- One turn of a loop over a schedule: what the definitions of a run and of its trace say of the next step. Assumes nothing.
 use Prim.Native.Nat.{ℕ, suc, _+_, _*_, _≤_, _<_}
 use mathlib.Core.Path.{_≡_, refl, ap, sym, _∙_}
-use mathlib.Core.Bool.{Bool, true, false, cond, _&&_}
+use mathlib.Core.Bool.{Bool, true, false, cond, not, _&&_}
 use mathlib.Core.List.{List, [], _∷_, _++_, append-assoc}
 use native.Mathlib.Numerals.{add-one}
 use native.Mathlib.Omega.{arith}
@@ -11,13 +11,13 @@ use lib.ListN.{length, getD, take, drop}
 use lib.Seq.{drop-cons}
 use Rattle.base.specs.Bytes.{placed}
 use Rattle.base.proofs.Bytes.{take-placed}
-use Rattle.base.proofs.Choice.{chosen, and-true}
+use Rattle.base.proofs.Choice.{chosen, and-true, and-right}
 use Rattle.records.specs.Maps.{cells, addressAt, valueAt, holds, content}
 use Rattle.records.specs.Sets.{Set}
 use Rattle.records.specs.declared.Layout.{Layout}
-use Rattle.step.proofs.Runs.{length-traceStep}
-use Rattle.step.specs.Held.{stateOf, memoryOf, knownOf, heldOf, hasRoom, onTaken, Advances}
-use Rattle.step.specs.Machine.{State, start, step, written, noWrite}
+use Rattle.step.proofs.Runs.{length-traceStep, permitted-actor, taken-takes}
+use Rattle.step.specs.Held.{stateOf, memoryOf, knownOf, heldOf, hasRoom, onTaken, stateAfter, heldAfter, Advances}
+use Rattle.step.specs.Machine.{State, actor, permitted, start, step, written, noWrite}
 use Rattle.step.specs.Maps.{Held, begin, outcome, advanced, onOutcome, follow}
 use Rattle.step.specs.Runs.{choiceOf, choices, somePermitted, endOf}
 use Rattle.step.specs.Traces.{traceStep, trace}
@@ -42,6 +42,21 @@ module _ {fit : Bool} {S : Set} {h : Held} {c : Choice} {filled : ℕ} {r : Step
 
     pub taken-wrote : r .wrote ≡ written S (h .state) c
     taken-wrote = a .wrote ∙ ap (λ (o : Outcome). onTaken o (written S (h .state) c) noWrite) t
+
+-- the machine with a taken step put into it
+pub applied-held : (layout : Layout) (m n : Machine) (c : Choice) (r : Stepped) (addresses values : List ℕ) → r .outcome ≡ Taken →
+    ((memory : ℕ → ℕ) → stateOf n memory ≡ cond (leb (layout .threads) 4 && ltb (actor c) (layout .threads)) (stateAfter layout m (actor c) r memory) (stateOf m memory)) →
+    layout .threads ≤ 4 → actor c < layout .threads →
+    heldOf n addresses values (r .filled) ≡ heldAfter layout m c r addresses values
+applied-held layout m n c r addresses values t e p q k = record {
+  state = (e (memoryOf addresses values (r .filled)) ∙ chosen _ _ (and-true (le-leb _ _ p) (lt-ltb _ _ q))
+      ∙ ap (λ (o : Outcome). onTaken o (stateAfter layout m (actor c) r (memoryOf addresses values (r .filled))) (stateOf m (memoryOf addresses values (r .filled)))) (sym t)) k;
+  known = knownOf addresses (r .filled);
+}
+
+-- a step that is taken is by a thread that is there
+pub taken-actor : (S : Set) (h : Held) (c : Choice) → outcome S h c ≡ Taken → actor c < S .threads
+taken-actor S h c e = permitted-actor S (h .state) c (and-right (not (h .state .ended)) (permitted S (h .state) c) (taken-takes S h c e))
 
 pub has-room : (layout : Layout) (addresses values filled : ℕ) → layout .threads ≤ 4 → filled < addresses → filled < values →
     hasRoom layout addresses values filled ≡ true

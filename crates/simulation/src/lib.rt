@@ -49,7 +49,7 @@ fn run(
         let outcome = s.outcome;
         match outcome {
             Outcome::Taken => {
-                m = s.machine;
+                m = step::act::apply(layout, m, choice, s);
                 filled = s.filled;
                 wrote = s.wrote;
                 steps += 1;

@@ -1,15 +1,15 @@
 // One step: the acting thread's registers, the marks, the memory and the end.
 ghost use mathlib.Core.Path.{_≡_};
-ghost use mathlib.Core.Bool.{true, false, _&&_};
+ghost use mathlib.Core.Bool.{true, cond, _&&_};
 ghost use Prim.Native.Nat.{ℕ, _+_, _≤_, _<_};
-ghost use lib.Dec.{eqb};
+ghost use lib.Dec.{eqb, leb, ltb};
 ghost use lib.ListN.{length, getD};
 ghost use Rattle.base.specs.Below.{every};
 ghost use Rattle.records.specs.Instructions.{CAS};
-ghost use Rattle.records.specs.Sets.{setBy};
-ghost use Rattle.step.specs.Held.{stateOf, memoryOf, knownOf, heldOf, threadsSettled, marksSettled, settled, hasRoom, still as stillOf, Advances};
-ghost use Rattle.step.specs.Machine.{fresh, unmarked, row as rowOf, nextPc, withPc, permitted, memoryAfter, wrote};
-ghost use Rattle.step.specs.Maps.{knownAfter};
+ghost use Rattle.records.specs.Sets.{setBy, nothing};
+ghost use Rattle.step.specs.Held.{stateOf, noRead, memoryOf, memoryIn, knownOf, knownIn, heldOf, marksSettled, threadsSettled, hasRoom, cellsOf, threadBy, statementBy, writtenBy, readsBy, notTaken, stateAfter, heldAfter, Advances};
+ghost use Rattle.step.specs.Machine.{fresh, unmarked, row as rowOf, nextPc, withPc, memoryAfter, wrote as wroteOf, address, cellsRead, executed as executedOf, casMatches, noWrite, flushed, actor as actorOf};
+ghost use Rattle.step.specs.Maps.{knowsAll, knownAfter};
 use crate::Choice;
 use crate::Machine;
 use crate::Mark;
@@ -93,50 +93,11 @@ fn marks_after(set: &[u8], layout: Layout, marks: [Mark; 4], t: u8, i: Statement
     after
 }
 
-// The threads with y as thread t.
-fn with_thread(threads: [Thread; 4], t: u8, y: Thread) -> [Thread; 4]
-    requires { ⌜ t < 4 ⌝ }
-    ensures { λ r. ⌜ (λ u. getD r u fresh) ≡ threadsSettled (λ u. getD threads u fresh) t y ⌝ }
-{
-    let mut after = threads;
-    after[t as usize] = y;
-    after
-}
-
-// The machine once thread t has registers y after statement i.
-fn settle(set: &[u8], layout: Layout, m: Machine, t: u8, y: Thread, i: Statement) -> Machine
-    requires { ⌜ (layout .threads ≤ 4) × (t < layout .threads) ⌝ }
-    ensures { λ r. ⌜ ((memory : ℕ → ℕ) → stateOf r memory ≡ settled (setBy (now (set .entry)) layout) (stateOf m memory) t y i) ⌝ }
-{
-    let old_marks = m.marks;
-    let marks = marks_after(set, layout, old_marks, t, i);
-    let old = m.threads;
-    let threads = with_thread(old, t, y);
-    if i.number == 18 {
-        return Machine {
-            threads,
-            marks,
-            ended: true,
-            code: i.argument,
-        };
-    }
-    let mut ended = m.ended;
-    if all_halted(layout, threads) {
-        ended = true;
-    }
-    Machine {
-        threads,
-        marks,
-        ended,
-        code: m.code,
-    }
-}
-
 // Writes v at address a, and gives the filled count.
 fn put(addresses: &mut [u16], values: &mut [u16], filled: usize, a: u16, v: u16) -> usize
     requires { ⌜ (filled < length (now addresses)) × (filled < length (now values)) ⌝ }
-    ensures { λ r. ⌜ (memoryOf (now (addresses .exit)) (now (values .exit)) r ≡ memoryAfter (wrote a v) (memoryOf (now (addresses .entry)) (now (values .entry)) filled))
-        × (knownOf (now (addresses .exit)) r ≡ knownAfter (wrote a v) (knownOf (now (addresses .entry)) filled))
+    ensures { λ r. ⌜ (memoryOf (now (addresses .exit)) (now (values .exit)) r ≡ memoryAfter (wroteOf a v) (memoryOf (now (addresses .entry)) (now (values .entry)) filled))
+        × (knownOf (now (addresses .exit)) r ≡ knownAfter (wroteOf a v) (knownOf (now (addresses .entry)) filled))
         × (r ≤ filled + 1) ⌝ }
 {
     let i = memory::cell_at(&addresses[..filled], a);
@@ -148,49 +109,17 @@ fn put(addresses: &mut [u16], values: &mut [u16], filled: usize, a: u16, v: u16)
     filled + 1
 }
 
-// Thread t flushes.
-fn flush(
-    set: &[u8],
-    layout: Layout,
-    m: Machine,
-    addresses: &mut [u16],
-    values: &mut [u16],
-    filled: usize,
-    t: u8,
-) -> Stepped
-    requires { ⌜ (layout .threads ≤ 4) × (t < layout .threads) × (filled < length (now addresses)) × (filled < length (now values))
-        × (m .ended ≡ false) × ((memory : ℕ → ℕ) → permitted (setBy (now set) layout) (stateOf m memory) (Choice.Flush t) ≡ true) ⌝ }
-    ensures { λ r. ⌜ Advances true (setBy (now (set .entry)) layout) (heldOf m (now (addresses .entry)) (now (values .entry)) filled) (Choice.Flush t) filled
-        r (heldOf (r .machine) (now (addresses .exit)) (now (values .exit)) (r .filled)) ⌝ }
+// Writes what a step writes, if it writes, and gives the filled count.
+fn write(addresses: &mut [u16], values: &mut [u16], filled: usize, w: Written) -> usize
+    requires { ⌜ (filled < length (now addresses)) × (filled < length (now values)) ⌝ }
+    ensures { λ r. ⌜ (memoryOf (now (addresses .exit)) (now (values .exit)) r ≡ memoryAfter w (memoryOf (now (addresses .entry)) (now (values .entry)) filled))
+        × (knownOf (now (addresses .exit)) r ≡ knownAfter w (knownOf (now (addresses .entry)) filled))
+        × (r ≤ filled + 1) ⌝ }
 {
-    let x = m.threads[t as usize];
-    let y = Thread { full: false, ..x };
-    let none = Statement {
-        number: 20,
-        mode: 0,
-        argument: 0,
-    };
-    let machine = settle(set, layout, m, t, y, none);
-    let count = put(addresses, values, filled, x.adr, x.val);
-    let wrote = Written {
-        done: true,
-        address: x.adr,
-        value: x.val,
-    };
-    let read = Read {
-        argument: false,
-        first: 0,
-        word: false,
-        second: 0,
-    };
-    Stepped {
-        fit: true,
-        outcome: Outcome::Taken,
-        machine,
-        filled: count,
-        wrote,
-        read,
+    if w.done {
+        return put(addresses, values, filled, w.address, w.value);
     }
+    filled
 }
 
 // Whether a statement is a CAS whose cell equals mem.
@@ -203,71 +132,104 @@ fn matches(i: Statement, o: Operand, x: Thread) -> bool
     false
 }
 
-// Thread t executes.
-fn execute(
-    set: &[u8],
-    layout: Layout,
-    m: Machine,
-    addresses: &mut [u16],
-    values: &mut [u16],
-    filled: usize,
-    t: u8,
-) -> Stepped
-    requires { ⌜ (layout .threads ≤ 4) × (t < layout .threads) × (filled < length (now addresses)) × (filled < length (now values))
-        × (m .ended ≡ false) × ((memory : ℕ → ℕ) → permitted (setBy (now set) layout) (stateOf m memory) (Choice.Execute t) ≡ true) ⌝ }
-    ensures { λ r. ⌜ Advances true (setBy (now (set .entry)) layout) (heldOf m (now (addresses .entry)) (now (values .entry)) filled) (Choice.Execute t) filled
-        r (heldOf (r .machine) (now (addresses .exit)) (now (values .exit)) (r .filled)) ⌝ }
+// What the acting thread's choice does: whether the cells it reads are known, the thread's registers afterwards,
+// the statement executed (none in a flush), and the cells written and read.
+pub struct Effect {
+    pub known: bool,
+    pub thread: Thread,
+    pub statement: Statement,
+    pub wrote: Written,
+    pub read: Read,
+}
+
+// What executing statement i does.
+fn executing(i: Statement, x: Thread, addresses: &[u16], values: &[u16]) -> Effect
+    requires { ⌜ (i .number < 20 → x .pc < 65535) ⌝ }
+    ensures { λ r. ⌜ (r .known ≡ knowsAll (knownIn (now (addresses .entry))) (cellsRead i x (memoryIn (now (addresses .entry)) (now (values .entry)))))
+        × (r .thread ≡ executedOf i (memoryIn (now (addresses .entry)) (now (values .entry))) x)
+        × (r .statement ≡ i)
+        × (r .wrote ≡ cond (casMatches i x (memoryIn (now (addresses .entry)) (now (values .entry)))) (wroteOf (address i x (memoryIn (now (addresses .entry)) (now (values .entry)))) (x .accu)) noWrite)
+        × (cellsOf (r .read) ≡ cellsRead i x (memoryIn (now (addresses .entry)) (now (values .entry)))) ⌝ }
 {
-    let x = m.threads[t as usize];
-    let i = records::fetch(set, layout, t, x.pc);
-    let o = operands::operands(i, x, &addresses[..filled], &values[..filled]);
+    let o = operands::operands(i, x, addresses, values);
+    let thread = executed(i, o, x);
+    let read = o.read;
     let mut wrote = Written {
         done: false,
         address: 0,
         value: 0,
     };
-    if o.known {
-        let y = executed(i, o, x);
-        let machine = settle(set, layout, m, t, y, i);
-        let read = o.read;
-        let mut count = filled;
-        if matches(i, o, x) {
-            count = put(addresses, values, filled, o.address, x.accu);
-            wrote = Written {
-                done: true,
-                address: o.address,
-                value: x.accu,
-            };
-        }
-        return Stepped {
-            fit: true,
-            outcome: Outcome::Taken,
-            machine,
-            filled: count,
-            wrote,
-            read,
+    if matches(i, o, x) {
+        wrote = Written {
+            done: true,
+            address: o.address,
+            value: x.accu,
         };
     }
+    Effect {
+        known: o.known,
+        thread,
+        statement: i,
+        wrote,
+        read,
+    }
+}
+
+// What flushing does.
+fn flushing(x: Thread) -> Effect
+    ensures { λ r. ⌜ (r .known ≡ true) × (r .thread ≡ flushed x) × (r .statement ≡ nothing) × (r .wrote ≡ wroteOf (x .adr) (x .val)) × (r .read ≡ noRead) ⌝ }
+{
+    let thread = Thread { full: false, ..x };
+    let statement = Statement {
+        number: 20,
+        mode: 0,
+        argument: 0,
+    };
+    let wrote = Written {
+        done: true,
+        address: x.adr,
+        value: x.val,
+    };
     let read = Read {
         argument: false,
         first: 0,
         word: false,
         second: 0,
     };
-    Stepped {
-        fit: true,
-        outcome: Outcome::Lacking,
-        machine: m,
-        filled,
+    Effect {
+        known: true,
+        thread,
+        statement,
         wrote,
         read,
     }
 }
 
-// A step that is not taken.
-fn still(fit: bool, m: Machine, filled: usize) -> Stepped
-    ensures { λ r. ⌜ r ≡ stillOf fit m filled ⌝ }
+// What a choice does.
+fn effect_of(choice: Choice, i: Statement, x: Thread, addresses: &[u16], values: &[u16]) -> Effect
+    requires { ⌜ (i .number < 20 → x .pc < 65535) ⌝ }
+    ensures { λ r. ⌜ (r .known ≡ knowsAll (knownIn (now (addresses .entry))) (readsBy choice i x (memoryIn (now (addresses .entry)) (now (values .entry)))))
+        × (r .thread ≡ threadBy choice i x (memoryIn (now (addresses .entry)) (now (values .entry))))
+        × (r .statement ≡ statementBy choice i)
+        × (r .wrote ≡ writtenBy choice i x (memoryIn (now (addresses .entry)) (now (values .entry))))
+        × (cellsOf (r .read) ≡ readsBy choice i x (memoryIn (now (addresses .entry)) (now (values .entry)))) ⌝ }
 {
+    match choice {
+        Choice::Execute(_) => executing(i, x, addresses, values),
+        Choice::Flush(_) => flushing(x),
+    }
+}
+
+// A step that is not taken.
+fn not_taken(fit: bool, outcome: Outcome, filled: usize) -> Stepped
+    ensures { λ r. ⌜ r ≡ notTaken fit outcome filled ⌝ }
+{
+    let none = Mark {
+        on: false,
+        checkpoint: 0,
+    };
+    let thread = Thread::fresh();
+    let marks = [none, none, none, none];
     let wrote = Written {
         done: false,
         address: 0,
@@ -281,15 +243,66 @@ fn still(fit: bool, m: Machine, filled: usize) -> Stepped
     };
     Stepped {
         fit,
-        outcome: Outcome::NotPermitted,
-        machine: m,
+        outcome,
+        thread,
+        marks,
+        exits: false,
+        code: 0,
         filled,
         wrote,
         read,
     }
 }
 
-// One step over a sparse memory. Where it is not taken the machine and the memory are as they were.
+// The threads with y as thread t.
+fn with_thread(threads: [Thread; 4], t: u8, y: Thread) -> [Thread; 4]
+    requires { ⌜ t < 4 ⌝ }
+    ensures { λ r. ⌜ (λ u. getD r u fresh) ≡ threadsSettled (λ u. getD threads u fresh) t y ⌝ }
+{
+    let mut after = threads;
+    after[t as usize] = y;
+    after
+}
+
+// The threads and the end once thread t has registers y: every other field is the step's.
+fn settle(layout: Layout, m: Machine, t: u8, s: Stepped) -> Machine
+    requires { ⌜ (layout .threads ≤ 4) × (t < layout .threads) ⌝ }
+    ensures { λ r. ⌜ ((memory : ℕ → ℕ) → stateOf r memory ≡ stateAfter layout m t s memory) ⌝ }
+{
+    let old = m.threads;
+    let threads = with_thread(old, t, s.thread);
+    let marks = s.marks;
+    let halted = all_halted(layout, threads);
+    let ended = m.ended | s.exits | halted;
+    if s.exits {
+        return Machine {
+            threads,
+            marks,
+            ended,
+            code: s.code,
+        };
+    }
+    Machine {
+        threads,
+        marks,
+        ended,
+        code: m.code,
+    }
+}
+
+// The machine with what a step gave put into it, where its thread is one of at most four.
+pub fn apply(layout: Layout, m: Machine, choice: Choice, s: Stepped) -> Machine
+    ensures { λ r. ⌜ ((memory : ℕ → ℕ) → stateOf r memory ≡ cond (leb (layout .threads) 4 && ltb (actorOf choice) (layout .threads)) (stateAfter layout m (actorOf choice) s memory) (stateOf m memory)) ⌝ }
+{
+    let t = choices::actor(choice);
+    let there = (layout.threads <= 4) & (t < layout.threads);
+    if there {
+        return settle(layout, m, t, s);
+    }
+    m
+}
+
+// One step over a sparse memory. Where it is not taken the memory is as it was.
 pub fn advance(
     set: &[u8],
     layout: Layout,
@@ -301,25 +314,41 @@ pub fn advance(
 ) -> Stepped
     ensures { λ r. ⌜ Advances (hasRoom layout (length (now (addresses .entry))) (length (now (values .entry))) filled)
         (setBy (now (set .entry)) layout) (heldOf m (now (addresses .entry)) (now (values .entry)) filled) choice filled
-        r (heldOf (r .machine) (now (addresses .exit)) (now (values .exit)) (r .filled)) ⌝ }
+        r (heldAfter layout m choice r (now (addresses .exit)) (now (values .exit))) ⌝ }
 {
-    if 4 < layout.threads {
-        return still(false, m, filled);
+    let t = choices::actor(choice);
+    let fit = (layout.threads <= 4) & (filled < addresses.len()) & (filled < values.len());
+    let there = fit & (t < layout.threads) & !m.ended;
+    if there {
+        let at = t as usize;
+        let x = m.threads[at];
+        let marks = m.marks;
+        let mark = marks[at];
+        let i = records::fetch(set, layout, t, x.pc);
+        if choices::may(set, layout, marks, mark, i, x, choice) {
+            let e = effect_of(choice, i, x, &addresses[..filled], &values[..filled]);
+            if e.known {
+                let done = e.statement;
+                let thread = e.thread;
+                let wrote = e.wrote;
+                let read = e.read;
+                let after = marks_after(set, layout, marks, t, done);
+                let count = write(addresses, values, filled, wrote);
+                return Stepped {
+                    fit: true,
+                    outcome: Outcome::Taken,
+                    thread,
+                    marks: after,
+                    exits: done.number == 18,
+                    code: done.argument,
+                    filled: count,
+                    wrote,
+                    read,
+                };
+            }
+            return not_taken(true, Outcome::Lacking, filled);
+        }
+        return not_taken(true, Outcome::NotPermitted, filled);
     }
-    if addresses.len() <= filled {
-        return still(false, m, filled);
-    }
-    if values.len() <= filled {
-        return still(false, m, filled);
-    }
-    if m.ended {
-        return still(true, m, filled);
-    }
-    if choices::permits(set, layout, m, choice) {
-        return match choice {
-            Choice::Execute(t) => execute(set, layout, m, addresses, values, filled, t),
-            Choice::Flush(t) => flush(set, layout, m, addresses, values, filled, t),
-        };
-    }
-    still(true, m, filled)
+    not_taken(fit, Outcome::NotPermitted, filled)
 }

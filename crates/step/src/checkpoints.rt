@@ -95,19 +95,6 @@ pub fn opened(set: &[u8], layout: Layout, marks: [Mark; 4], c: u16) -> bool
     true
 }
 
-// Whether a thread with this mark waits.
-pub fn waits(set: &[u8], layout: Layout, marks: [Mark; 4], m: Mark) -> bool
-    ensures { λ r. ⌜ r ≡ (m .on && not (openedOf (setBy (now (set .entry)) layout) (λ t. getD marks t unmarked) (m .checkpoint))) ⌝ }
-{
-    if m.on {
-        if opened(set, layout, marks, m.checkpoint) {
-            return false;
-        }
-        return true;
-    }
-    false
-}
-
 // A thread's mark once the marks of open checkpoints are cleared.
 fn kept(set: &[u8], layout: Layout, marks: [Mark; 4], m: Mark) -> Mark
     ensures { λ r. ⌜ r ≡ cond (m .on && openedOf (setBy (now (set .entry)) layout) (λ t. getD marks t unmarked) (m .checkpoint)) unmarked m ⌝ }

@@ -1,81 +1,80 @@
 // Which choices are permitted.
 ghost use mathlib.Core.Path.{_≡_};
-ghost use mathlib.Core.Bool.{_&&_};
-ghost use Prim.Native.Nat.{ℕ, _≤_, _<_};
+ghost use mathlib.Core.Bool.{not, _&&_};
+ghost use Prim.Native.Nat.{ℕ};
 ghost use lib.Dec.{leb};
+ghost use lib.ListN.{getD};
 ghost use Rattle.records.specs.Sets.{setBy};
-ghost use Rattle.step.specs.Held.{stateOf};
-ghost use Rattle.step.specs.Machine.{needsEmpty, permitted as permittedOf};
+ghost use Rattle.step.specs.Held.{stateOf, allowed};
+ghost use Rattle.step.specs.Machine.{unmarked, needsEmpty, opened, actor as actorOf, permitted};
 use crate::Choice;
 use crate::Machine;
+use crate::Mark;
+use crate::Thread;
 use crate::checkpoints;
 use records::Layout;
+use records::Statement;
 
 // STORE, FENCE, CAS and HALT.
 fn needs_empty(n: u8) -> bool
     ensures { λ r. ⌜ r ≡ needsEmpty n ⌝ }
 {
-    match n {
-        1 => true,
-        2 => true,
-        16 => true,
-        17 => true,
-        _ => false,
-    }
+    (n == 1) | (n == 2) | (n == 16) | (n == 17)
 }
 
-// Whether thread t may execute.
-fn may_execute(set: &[u8], layout: Layout, m: Machine, t: u8) -> bool
-    requires { ⌜ (layout .threads ≤ 4) × (t < layout .threads) ⌝ }
-    ensures { λ r. ⌜ ((memory : ℕ → ℕ) → r ≡ permittedOf (setBy (now (set .entry)) layout) (stateOf m memory) (Choice.Execute t)) ⌝ }
+// Whether the acting thread may make its choice: i is its statement, x its registers, mark its mark.
+// Whether a checkpoint is open is asked only where the thread is marked.
+pub fn may(
+    set: &[u8],
+    layout: Layout,
+    marks: [Mark; 4],
+    mark: Mark,
+    i: Statement,
+    x: Thread,
+    choice: Choice,
+) -> bool
+    ensures { λ r. ⌜ r ≡ allowed choice i x (mark .on && not (opened (setBy (now (set .entry)) layout) (λ u. getD marks u unmarked) (mark .checkpoint))) ⌝ }
 {
-    let at = t as usize;
-    let x = m.threads[at];
-    if x.halted {
-        return false;
-    }
-    let marks = m.marks;
-    let mark = marks[at];
-    if checkpoints::waits(set, layout, marks, mark) {
-        return false;
-    }
-    if x.full {
-        let i = records::fetch(set, layout, t, x.pc);
-        if needs_empty(i.number) {
-            return false;
+    match choice {
+        Choice::Execute(_) => {
+            let blocked = x.halted | (x.full & needs_empty(i.number));
+            if blocked {
+                return false;
+            }
+            if mark.on {
+                return checkpoints::opened(set, layout, marks, mark.checkpoint);
+            }
+            true
         }
+        Choice::Flush(_) => x.full,
     }
-    true
 }
 
-// Whether thread t may flush.
-fn may_flush(set: &[u8], layout: Layout, m: Machine, t: u8) -> bool
-    requires { ⌜ (layout .threads ≤ 4) × (t < layout .threads) ⌝ }
-    ensures { λ r. ⌜ ((memory : ℕ → ℕ) → r ≡ permittedOf (setBy (now (set .entry)) layout) (stateOf m memory) (Choice.Flush t)) ⌝ }
+// The acting thread.
+pub fn actor(choice: Choice) -> u8
+    ensures { λ r. ⌜ r ≡ actorOf choice ⌝ }
 {
-    let x = m.threads[t as usize];
-    x.full
+    match choice {
+        Choice::Execute(t) => t,
+        Choice::Flush(t) => t,
+    }
 }
 
 // Whether a choice is permitted, whether or not the machine has ended; none is of more than four threads.
 pub fn permits(set: &[u8], layout: Layout, m: Machine, choice: Choice) -> bool
-    ensures { λ r. ⌜ ((memory : ℕ → ℕ) → r ≡ (leb (layout .threads) 4 && permittedOf (setBy (now (set .entry)) layout) (stateOf m memory) choice)) ⌝ }
+    ensures { λ r. ⌜ ((memory : ℕ → ℕ) → r ≡ (leb (layout .threads) 4 && permitted (setBy (now (set .entry)) layout) (stateOf m memory) choice)) ⌝ }
 {
+    let t = actor(choice);
     if 4 < layout.threads {
         return false;
     }
-    match choice {
-        Choice::Execute(t) => {
-            if layout.threads <= t {
-                return false;
-            }
-            may_execute(set, layout, m, t)
-        }
-        Choice::Flush(t) => {
-            if layout.threads <= t {
-                return false;
-            }
-            may_flush(set, layout, m, t)
-        }
+    if layout.threads <= t {
+        return false;
     }
+    let at = t as usize;
+    let x = m.threads[at];
+    let marks = m.marks;
+    let mark = marks[at];
+    let i = records::fetch(set, layout, t, x.pc);
+    may(set, layout, marks, mark, i, x, choice)
 }

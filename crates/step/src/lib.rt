@@ -54,7 +54,7 @@ pub enum Outcome {
     Lacking,
 }
 
-// The cells that a step read: its address word's, where that is read from a cell, then that of the word it took.
+// The cells that a step read: its address word's, where that is read from a cell, then the word's it took.
 pub struct Read {
     pub argument: bool,
     pub first: u16,
@@ -62,12 +62,16 @@ pub struct Read {
     pub second: u16,
 }
 
-// What a step gave: its outcome, the machine and the filled count afterwards, what was written and what was read.
-// fit is false where the layout has more than four threads or the lent arrays have no room for a cell more.
+// What a step gave: its outcome; the acting thread's registers, the marks and the exit, for the caller's machine;
+// the filled count; what was written and read. fit is false where the layout has more than four threads
+// or the lent arrays have no room for a cell more.
 pub struct Stepped {
     pub fit: bool,
     pub outcome: Outcome,
-    pub machine: Machine,
+    pub thread: Thread,
+    pub marks: [Mark; 4],
+    pub exits: bool,
+    pub code: u16,
     pub filled: usize,
     pub wrote: Written,
     pub read: Read,

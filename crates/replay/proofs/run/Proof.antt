@@ -1,6 +1,6 @@
 use Rattle.base.specs.Bytes.{same}
 use Rattle.records.specs.Sets.{Set, setBy}
-use Rattle.runs.proofs.Steps.{came-out, taken-held, taken-wrote, has-room, end-is}
+use Rattle.runs.proofs.Steps.{came-out, applied-held, taken-actor, taken-held, taken-wrote, has-room, end-is}
 use Rattle.step.specs.Held.{stateOf, memoryOf, heldOf, hasRoom}
 use Rattle.step.specs.Machine.{State, noWrite, step, written}
 use Rattle.step.specs.Maps.{Held, outcome, advanced}
@@ -32,6 +32,7 @@ use Rattle.replay.proofs.refused.Reads as refused-reads
 use Rattle.runs.proofs.end_of.Reads as end-of-reads
 use Rattle.runs.proofs.trace_step.Reads as trace-step-reads
 use Rattle.step.proofs.act.advance.Reads as advance-reads
+use Rattle.step.proofs.act.apply.Reads as apply-reads
 
 abbrev Inv-loop : tie.InvT-loop
 Inv-loop set layout trace addresses₀ values₀ cells m₀ filled₀ wrote₀ steps₀ budget₀ addresses values m filled wrote steps budget =
@@ -187,6 +188,10 @@ returns-2 c =
     let x = c .before .before .before .before .before .before .before .before in
     c .refused2 .ensures ∙ sym (stepped x ∙ ap₂ (λ (o : Outcome) (b : Bool). judge o b (x .before .before .before .before .before .before .before .before .before .loop .steps) (rest-of x)) (c .before .before .enum-told2 .given .1) (not-true _ (c .before .if1 .taken)))
 
+-- src/lib.rt:44:21
+apply-requires : tie.Need-apply-requires Inv-loop μ-loop
+apply-requires c κs = search needs
+
 -- src/lib.rt:76:17
 add-steps : tie.Need-add-steps Inv-loop μ-loop
 add-steps c = let x = c .before .before .before .before .before .before .before .before .before in let l = x .before .before .before .before .before .before .before .before .before .loop in omega (arith, x .before .before .before .before .before .before .before .before .loop-test .taken, l .inv .4, l .inv .1)
@@ -209,7 +214,9 @@ loop-again c =
     let t = c .before .before .before .enum-told2 .given .1 in
     let a = x .advance .ensures in
     let lt = x .before .before .before .before .before .before .before .before .loop-test .taken in
-    let h = taken-held a (room x) t in (
+    let h = applied-held (x .before .before .before .before .before .before .before .before .before .before .before .before .before .before .args .layout) (l .m) (c .before .apply .result) (choice-of x) (x .advance .result) (x .advance .last .1 .1 .1 .0) (x .advance .last .1 .1 .1 .1 .0) t (c .before .apply .ensures) (l .inv .0)
+    (taken-actor (set-of x) (held-of x) (choice-of x) (sym (came-out a (room x)) ∙ t))
+    ∙ taken-held a (room x) t in (
       l .inv .0,
       l .inv .1,
       x .advance .kept .1 .1 .1 .0 ∙ l .inv .2,
@@ -316,6 +323,7 @@ run-spec =
     same-length-3
     same-length-4
     returns-2
+    apply-requires
     add-steps
     sub-budget
     loop-less

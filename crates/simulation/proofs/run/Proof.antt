@@ -1,7 +1,7 @@
 use Rattle.base.specs.Bytes.{placed}
 use Rattle.base.proofs.Bytes.{length-placed}
 use Rattle.records.specs.Sets.{Set, setBy}
-use Rattle.runs.proofs.Steps.{came-out, taken-held, taken-wrote, has-room, end-is, follow-next, trace-more}
+use Rattle.runs.proofs.Steps.{came-out, applied-held, taken-actor, taken-held, taken-wrote, has-room, end-is, follow-next, trace-more}
 use Rattle.step.proofs.Runs.{length-traceStep}
 use Rattle.step.specs.Held.{stateOf, memoryOf, heldOf, hasRoom}
 use Rattle.step.specs.Machine.{State, noWrite, step, written}
@@ -34,6 +34,7 @@ use Rattle.runs.proofs.choice_of.Reads as choice-of-reads
 use Rattle.runs.proofs.end_of.Reads as end-of-reads
 use Rattle.runs.proofs.trace_step.Reads as trace-step-reads
 use Rattle.step.proofs.act.advance.Reads as advance-reads
+use Rattle.step.proofs.act.apply.Reads as apply-reads
 
 -- what the loop keeps: the rest of the schedule gives the rest of the answer, and the bytes so far begin the trace
 abbrev pub Running : Set → List ℕ → Held → List ℕ → Machine → (addresses values : List ℕ) → ℕ → Written → (steps budget : ℕ) → Type 0
@@ -146,17 +147,21 @@ advance-requires c κs = search needs
 enum-told : tie.Need-enum-told Inv-loop μ-loop
 enum-told c = search needs
 
+-- src/lib.rt:44:21
+apply-requires : tie.Need-apply-requires Inv-loop μ-loop
+apply-requires c κs = search needs
+
 -- src/lib.rt:46:17
 add-steps : tie.Need-add-steps Inv-loop μ-loop
 add-steps c = let x = c .before .before .before .before .before .before .before .before in omega (arith, left x, x .before .before .before .before .before .before .before .before .before .before .before .before .loop .inv .1)
 
 -- src/lib.rt:47:17
 sub-budget : tie.Need-sub-budget Inv-loop μ-loop
-sub-budget c = search needs
+sub-budget c = let x = c .before .before .before .before .before .before .before .before in omega (arith, x .before .before .before .before .before .before .before .before .before .before .before .loop-test .taken)
 
 -- src/lib.rt:35:5
 loop-less : tie.Need-loop-less Inv-loop μ-loop
-loop-less c = search needs
+loop-less c = let x = c .before .before .before .before .before .before .before .before in omega (arith, x .before .before .before .before .before .before .before .before .before .before .before .loop-test .taken)
 
 -- src/lib.rt:35:5
 loop-again : tie.Need-loop-again Inv-loop μ-loop
@@ -168,7 +173,9 @@ loop-again c =
     let t = c .before .before .enum-told .given .1 in
     let a = x .advance .ensures in
     let lt = x .before .before .before .before .before .before .before .before .before .before .before .loop-test .taken in
-    let h = taken-held a (room x) t in (
+    let h = applied-held (x .before .before .before .before .before .before .before .before .before .before .before .before .before .before .before .before .before .before .args .layout) (l .m) (c .before .apply .result) (choice-of x) (x .advance .result) (x .advance .last .1 .1 .1 .0) (x .advance .last .1 .1 .1 .1 .0) t (c .before .apply .ensures) (l .inv .0)
+    (taken-actor (set-of x) (held-of x) (choice-of x) (sym (came-out a (room x)) ∙ t))
+    ∙ taken-held a (room x) t in (
       l .inv .0,
       l .inv .1,
       omega (arith, x .before .before .before .before .before .place .kept .0, l .inv .2),
@@ -291,6 +298,7 @@ run-spec =
     place-requires
     advance-requires
     enum-told
+    apply-requires
     add-steps
     sub-budget
     loop-less

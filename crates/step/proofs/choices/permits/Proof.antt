@@ -1,82 +1,107 @@
-use Prim.Native.Nat.{ℕ}
 use denote.Ref.{now}
+use lib.ListN.{getD}
 use lib.Dec.{leb}
+use native.Mathlib.Omega.{arith}
+use Prim.Native.Nat.{ℕ, _≤_, _<_}
 use mathlib.Core.Path.{_≡_, sym, ap, _∙_}
-use mathlib.Core.Bool.{Bool, _&&_}
+use Rattle.step.specs.declared.Mark.{Mark}
+use mathlib.Core.Bool.{Bool, not, _&&_}
 use borrow.Author.Tests.{lt-leb, le-leb}
-use Rattle.step.specs.Machine.{permitted}
-use Rattle.step.specs.Held.{stateOf}
+use Rattle.step.specs.Machine.{fresh, unmarked, permitted, actor, opened, waiting}
+use Rattle.step.specs.Held.{stateOf, allowed}
+use Rattle.records.specs.declared.Statement.{Statement}
 use Rattle.records.specs.Sets.{setBy}
 use Rattle.base.proofs.Choice.{and-false}
-use Rattle.step.proofs.Permitted.{no-thread-executes, no-thread-flushes}
+use Rattle.step.proofs.Permitted.{no-thread, thread-may}
 use borrow.Author.Needs.{needs}
 use Rattle.step.proofs.choices.permits.Statement.{statement}
 use Rattle.step.proofs.choices.permits.Tie as tie
 use Rattle.step.proofs.choices.permits.Reads as reads
 use Rattle.step.proofs.choices.permits.Lts as lts
-use Rattle.step.proofs.choices.may_execute.Reads as may-execute-reads
-use Rattle.step.proofs.choices.may_flush.Reads as may-flush-reads
+use Rattle.records.proofs.fetch.Reads as fetch-reads
+use Rattle.step.proofs.choices.actor.Reads as actor-reads
+use Rattle.step.proofs.choices.may.Reads as may-reads
 
 -- past the first test there are at most four threads
 few : (c : tie.Else1) (memory : ℕ → ℕ) →
-    let a = c .before .before .before .args in
-    let p = permitted (setBy (now (a .set)) (a .layout)) (stateOf (a .m) memory) (a .choice) in
+    let a = c .before .before .before .before .args in
+    let p = permitted (setBy (now (a .set)) (a .layout)) (stateOf (a .t3) memory) (a .choice) in
     (leb (a .layout .threads) 4 && p) ≡ p
 few c memory =
-    let a = c .before .before .before .args in
-    ap (λ (b : Bool). b && permitted (setBy (now (a .set)) (a .layout)) (stateOf (a .m) memory) (a .choice)) (le-leb _ _ (c .if1 .left))
+    let a = c .before .before .before .before .args in
+    ap (λ (b : Bool). b && permitted (setBy (now (a .set)) (a .layout)) (stateOf (a .t3) memory) (a .choice)) (le-leb _ _ (c .if1 .left))
 
+-- src/choices.rt:59:9
+actor-requires : tie.Need-actor-requires
+actor-requires c κs = search needs
+
+-- src/choices.rt:61:9
 returns : tie.Need-returns
 returns c =
-    let a = c .before .before .before .args in
-    λ memory. sym (and-false (permitted (setBy (now (a .set)) (a .layout)) (stateOf (a .m) memory) (a .choice)) (lt-leb _ _ (c .if1 .taken)))
+    let a = c .before .before .before .before .args in
+    λ memory. sym (and-false (permitted (setBy (now (a .set)) (a .layout)) (stateOf (a .t3) memory) (a .choice)) (lt-leb _ _ (c .if1 .taken)))
 
-enum-known-choice : tie.Need-enum-known-choice
-enum-known-choice c = search needs
-
+-- src/choices.rt:64:9
 returns-2 : tie.Need-returns-2
 returns-2 c =
-    let e = c .before .before .before .before .before in
-    let a = e .before .before .before .args in
-    λ memory. sym (few e memory ∙ ap (permitted (setBy (now (a .set)) (a .layout)) (stateOf (a .m) memory)) (c .before .before .before .choice .given .1) ∙ no-thread-executes (setBy (now (a .set)) (a .layout)) (stateOf (a .m) memory) _ (c .if2 .taken))
+    let t = c .before .before .before .before in
+    let a = t .before .before .args in
+    λ memory. sym (few (c .before .before) memory ∙ no-thread (setBy (now (a .set)) (a .layout)) (stateOf (a .t3) memory) (a .choice) (omega (arith, t .actor .ensures, c .if2 .taken)))
 
-may-execute-requires : tie.Need-may-execute-requires
-may-execute-requires c κs = search needs
+-- src/choices.rt:66:14
+cast-at : tie.Need-cast-at
+cast-at c = search needs
 
-enum-known-choice-2 : tie.Need-enum-known-choice-2
-enum-known-choice-2 c = search needs
+-- src/choices.rt:67:13
+mul-x : tie.Need-mul-x
+mul-x c = search needs
 
+-- src/choices.rt:67:13
+element-copy-out-x : tie.Need-element-copy-out-x
+element-copy-out-x c = search needs
+
+-- src/choices.rt:69:16
+mul-mark : tie.Need-mul-mark
+mul-mark c = search needs
+
+-- src/choices.rt:69:16
+array-copy-out-mark : tie.Need-array-copy-out-mark
+array-copy-out-mark c = search needs
+
+-- src/choices.rt:70:9
+fetch-requires : tie.Need-fetch-requires
+fetch-requires c κs = search needs
+
+-- src/choices.rt:71:5
+may-requires : tie.Need-may-requires
+may-requires c κs = search needs
+
+-- src/choices.rt:56:1
 returns-3 : tie.Need-returns-3
+unfolding waiting
 returns-3 c =
-    let e = c .before .before .before .before .before in
-    let a = e .before .before .before .args in
-    λ memory. sym (few e memory ∙ ap (permitted (setBy (now (a .set)) (a .layout)) (stateOf (a .m) memory)) (c .before .before .before .choice2 .given .1) ∙ no-thread-flushes (setBy (now (a .set)) (a .layout)) (stateOf (a .m) memory) _ (c .if3 .taken))
-
-may-flush-requires : tie.Need-may-flush-requires
-may-flush-requires c κs = search needs
-
-returns-4 : tie.Need-returns-4
-returns-4 c =
-    let e = c .before .before .before .before .before .before in
-    let a = e .before .before .before .args in
-    λ memory. c .may-execute .ensures memory ∙ sym (few e memory ∙ ap (permitted (setBy (now (a .set)) (a .layout)) (stateOf (a .m) memory)) (c .before .before .before .before .choice .given .1))
-
-returns-5 : tie.Need-returns-5
-returns-5 c =
-    let e = c .before .before .before .before .before .before in
-    let a = e .before .before .before .args in
-    λ memory. c .may-flush .ensures memory ∙ sym (few e memory ∙ ap (permitted (setBy (now (a .set)) (a .layout)) (stateOf (a .m) memory)) (c .before .before .before .before .choice2 .given .1))
+    let s = c .before .before .before .before .before .before .before .before .before .before .before in
+    let a = s .args in
+    let S = setBy (now (a .set)) (a .layout) in
+    let t = c .before .before .before .before .before .before .before .before .before .actor in
+    let marks : ℕ → Mark = λ u. getD (a .t3 .marks) u unmarked in
+    λ memory. c .may .ensures
+    ∙ ap (λ (i : Statement). allowed (a .choice) i (getD (a .t3 .threads) (t .result) fresh) (waiting S marks (t .result))) (c .before .fetch .ensures)
+    ∙ ap (λ (u : ℕ). allowed (a .choice) (S .statement u (getD (a .t3 .threads) u fresh .pc)) (getD (a .t3 .threads) u fresh) (waiting S marks u)) (t .ensures)
+    ∙ sym (few (c .before .before .before .before .before .before .before) memory ∙ thread-may S (stateOf (a .t3) memory) (a .choice) (omega (arith, t .ensures, c .before .before .before .before .before .if2 .left)))
 
 pub permits-spec : {M : Type 1} → statement M
 permits-spec =
     tie.close
     (tie.spec
+    actor-requires
     returns
-    enum-known-choice
     returns-2
-    may-execute-requires
-    enum-known-choice-2
-    returns-3
-    may-flush-requires
-    returns-4
-    returns-5)
+    cast-at
+    mul-x
+    element-copy-out-x
+    mul-mark
+    array-copy-out-mark
+    fetch-requires
+    may-requires
+    returns-3)

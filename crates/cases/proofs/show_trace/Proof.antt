@@ -4,8 +4,8 @@ use Prim.Native.Nat.{_≤_, _-_}
 use borrow.Author.Needs.{needs}
 use lib.ListN.{length}
 use mathlib.Core.Path.{_≡_}
-use Rattle.cases.proofs.report.show_trace.Statement.{statement}
-use Rattle.cases.proofs.report.show_trace.Tie as tie
+use Rattle.cases.proofs.show_trace.Statement.{statement}
+use Rattle.cases.proofs.show_trace.Tie as tie
 
 abbrev Inv-loop : tie.InvT-loop
 Inv-loop trace at₀ t3 t4 at = (at ≤ length trace) × (length t3 ≡ 1) × (length t4 ≡ 1)

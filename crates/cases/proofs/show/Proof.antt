@@ -4,8 +4,8 @@ use native.Mathlib.Omega.{arith}
 use lib.Seq.{length-take-le}
 use mathlib.Core.Path.{sym}
 use borrow.Author.Needs.{needs}
-use Rattle.cases.proofs.report.show.Statement.{statement}
-use Rattle.cases.proofs.report.show.Tie as tie
+use Rattle.cases.proofs.show.Statement.{statement}
+use Rattle.cases.proofs.show.Tie as tie
 
 mul-size : tie.Need-mul-size
 mul-size c = search needs

@@ -1,0 +1,61 @@
+use denote.Ref.{now}
+use mathlib.Core.Path.{_≡_, sym, ap, _∙_}
+use Rattle.step.specs.Held.{memoryIn, knownIn, cellsOf, readsBy, threadBy, statementBy, writtenBy}
+use Rattle.step.specs.Maps.{knowsAll}
+use Rattle.step.specs.declared.Choice.{Choice}
+use borrow.Author.Needs.{needs}
+use Rattle.step.proofs.act.effect_of.Statement.{statement}
+use Rattle.step.proofs.act.effect_of.Tie as tie
+use Rattle.step.proofs.act.effect_of.Reads as reads
+use Rattle.step.proofs.act.effect_of.Lts as lts
+use Rattle.step.proofs.act.executing.Reads as executing-reads
+use Rattle.step.proofs.act.flushing.Reads as flushing-reads
+
+-- src/act.rt:205:31
+enum-told : tie.Need-enum-told
+enum-told c = search needs
+
+-- src/act.rt:205:31
+executing-requires : tie.Need-executing-requires
+executing-requires c κs = search needs
+
+-- src/act.rt:206:29
+enum-told-2 : tie.Need-enum-told-2
+enum-told-2 c = search needs
+
+-- src/act.rt:206:29
+flushing-requires : tie.Need-flushing-requires
+flushing-requires c κs = search needs
+
+-- src/act.rt:196:1
+returns : tie.Need-returns
+returns c =
+    let a = c .before .before .before .before .before .args in
+    let q = sym (c .before .enum-told .given .1) in
+    let memory = memoryIn (now (a .addresses)) (now (a .values)) in
+    let e = c .executing .ensures in (
+      e .0 ∙ ap (λ (k : Choice). knowsAll (knownIn (now (a .addresses))) (readsBy k (a .i) (a .x) memory)) q,
+      e .1 ∙ ap (λ (k : Choice). threadBy k (a .i) (a .x) memory) q,
+      e .2 ∙ ap (λ (k : Choice). statementBy k (a .i)) q,
+      e .3 ∙ ap (λ (k : Choice). writtenBy k (a .i) (a .x) memory) q,
+      e .4 ∙ ap (λ (k : Choice). readsBy k (a .i) (a .x) memory) q,
+    )
+
+-- src/act.rt:196:1
+returns-2 : tie.Need-returns-2
+returns-2 c =
+    let a = c .before .before .before .before .before .args in
+    let q = sym (c .before .enum-told2 .given .1) in
+    let memory = memoryIn (now (a .addresses)) (now (a .values)) in
+    let e = c .flushing .ensures in (
+      e .0 ∙ ap (λ (k : Choice). knowsAll (knownIn (now (a .addresses))) (readsBy k (a .i) (a .x) memory)) q,
+      e .1 ∙ ap (λ (k : Choice). threadBy k (a .i) (a .x) memory) q,
+      e .2 ∙ ap (λ (k : Choice). statementBy k (a .i)) q,
+      e .3 ∙ ap (λ (k : Choice). writtenBy k (a .i) (a .x) memory) q,
+      ap cellsOf (e .4) ∙ ap (λ (k : Choice). readsBy k (a .i) (a .x) memory) q,
+    )
+
+pub effect-of-spec : {M : Type 1} → statement M
+effect-of-spec =
+    tie.close
+    (tie.spec enum-told executing-requires enum-told-2 flushing-requires returns returns-2)
