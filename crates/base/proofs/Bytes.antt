@@ -93,11 +93,8 @@ same-empty [] = refl
 same-empty (x ∷ a) = ne-eqb (length (x ∷ a)) 0 (omega arith)
 
 -- one turn of a loop over both
-module _ (a b : List ℕ) (i : ℕ) (h : i < length a) (k : i < length b) where
-  pub same-more : getD a i 0 ≡ getD b i 0 → same (drop i a) (drop i b) ≡ same (drop (i + 1) a) (drop (i + 1) b)
-  unfolding same
-  same-more e = rw (add-one, drop-cons a i 0 h, drop-cons b i 0 k, eq-eqb _ _ e)
-
-  pub same-not : (getD a i 0 ≡ getD b i 0 → ⊥) → same (drop i a) (drop i b) ≡ false
-  unfolding same
-  same-not f = rw (drop-cons a i 0 h, drop-cons b i 0 k, ne-eqb _ _ f)
+pub same-next : (equal : Bool) (a b : List ℕ) (i : ℕ) → i < length a → i < length b →
+    (equal && same (drop i a) (drop i b)) ≡ (equal && eqb (getD a i 0) (getD b i 0) && same (drop (i + 1) a) (drop (i + 1) b))
+unfolding same
+same-next true a b i h k = rw (add-one, drop-cons a i 0 h, drop-cons b i 0 k)
+same-next false a b i h k = refl

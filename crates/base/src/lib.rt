@@ -57,7 +57,7 @@ pub fn place(out: &mut [u8], i: usize, bytes: &[u8])
     }
 }
 
-// Whether two slices hold the same bytes.
+// Whether two slices hold the same bytes. All are compared, which is faster for few bytes than to leave at the first that differs.
 pub fn same(a: &[u8], b: &[u8]) -> bool
     ensures { λ r. ⌜ r ≡ sameOf (now (a .entry)) (now (b .entry)) ⌝ }
 {
@@ -65,11 +65,10 @@ pub fn same(a: &[u8], b: &[u8]) -> bool
         return false;
     }
     let mut i: usize = 0;
+    let mut equal = true;
     while i < a.len() {
-        if a[i] != b[i] {
-            return false;
-        }
+        equal = equal & (a[i] == b[i]);
         i += 1;
     }
-    true
+    equal
 }

@@ -1,19 +1,23 @@
--- `base::same` meets its contract. The lists from i on are the same exactly where the whole lists are. Assumes nothing.
-use Prim.Native.Nat.{_≤_, _-_}
-use mathlib.Core.Path.{_≡_, refl, sym, _∙_}
+-- `base::same` meets its contract. The whole lists are the same exactly where those before i and those from i on are. Assumes nothing.
+use Prim.Native.Nat.{ℕ, _≤_, _-_}
+use mathlib.Core.List.{List}
+use mathlib.Core.Path.{_≡_, refl, sym, ap₂, _∙_}
+use mathlib.Core.Bool.{true, _&&_}
 use native.Mathlib.Omega.{arith}
 use lib.ListN.{length, drop, drop-of-length-le}
 use borrow.Author.Needs.{needs}
-use Rattle.base.proofs.Bytes.{same-lengths, same-more, same-not}
+use Rattle.base.proofs.Bytes.{same-lengths, same-next}
+use Rattle.base.proofs.Choice.{and-yes}
 use Rattle.base.specs.Bytes.{same}
 use Rattle.base.proofs.same.Statement.{statement}
 use Rattle.base.proofs.same.Tie as tie
 
 abbrev Inv-loop : tie.InvT-loop
-Inv-loop a b i₀ i = (length a ≡ length b) × (i ≤ length a) × (same a b ≡ same (drop i a) (drop i b))
+Inv-loop a b i₀ equal₀ i equal =
+    (length a ≡ length b) × (i ≤ length a) × (same a b ≡ (equal && same (drop i a) (drop i b)))
 
 abbrev μ-loop : tie.MeasureT-loop
-μ-loop a b i₀ i = length a - i
+μ-loop a b i₀ equal₀ i equal = length a - i
 
 returns : tie.Need-returns Inv-loop μ-loop
 returns c = sym (same-lengths _ _ (c .if1 .taken))
@@ -21,17 +25,11 @@ returns c = sym (same-lengths _ _ (c .if1 .taken))
 loop-holds : tie.Need-loop-holds Inv-loop μ-loop
 loop-holds c = (search needs, search needs, refl)
 
-shared-slice-read-if2 : tie.Need-shared-slice-read-if2 Inv-loop μ-loop
-shared-slice-read-if2 c = search needs
+shared-slice-read-equal : tie.Need-shared-slice-read-equal Inv-loop μ-loop
+shared-slice-read-equal c = search needs
 
-shared-slice-read-if2-2 : tie.Need-shared-slice-read-if2-2 Inv-loop μ-loop
-shared-slice-read-if2-2 c = search needs
-
-returns-2 : tie.Need-returns-2 Inv-loop μ-loop
-returns-2 c =
-    let a = c .before .before .before .before .before .before .args in
-    let inv = c .before .before .before .before .loop .inv in
-    sym (inv .2 ∙ same-not (a .a .now) (a .b .now) _ (omega arith) (omega arith) (c .if2 .taken))
+shared-slice-read-equal-2 : tie.Need-shared-slice-read-equal-2 Inv-loop μ-loop
+shared-slice-read-equal-2 c = search needs
 
 add-i : tie.Need-add-i Inv-loop μ-loop
 add-i c = search needs
@@ -41,18 +39,18 @@ loop-less c = search needs
 
 loop-again : tie.Need-loop-again Inv-loop μ-loop
 loop-again c =
-    let a = c .before .before .before .before .before .before .args in
-    let inv = c .before .before .before .before .loop .inv in
-    (search needs, omega arith, inv .2 ∙ same-more (a .a .now) (a .b .now) _ (omega arith) (omega arith) (c .if2 .left))
+    let a = c .before .before .before .before .before .args in
+    let l = c .before .before .before .loop in
+    (search needs, omega arith, l .inv .2 ∙ same-next (l .equal) (a .a .now) (a .b .now) (l .i) (omega arith) (omega arith))
 
-returns-3 : tie.Need-returns-3 Inv-loop μ-loop
+returns-2 : tie.Need-returns-2 Inv-loop μ-loop
 unfolding same
-returns-3 c =
+returns-2 c =
     let a = c .before .before .before .args in
-    let inv = c .before .loop .inv in
-    let h : length (a .a .now) ≤ c .before .loop .i = omega arith in
-    let k : length (a .b .now) ≤ c .before .loop .i = omega arith in
-    sym (inv .2 ∙ rw (drop-of-length-le (a .a .now) h, drop-of-length-le (a .b .now) k))
+    let l = c .before .loop in
+    let h : length (a .a .now) ≤ l .i = omega arith in
+    let k : length (a .b .now) ≤ l .i = omega arith in
+    sym (l .inv .2 ∙ ap₂ (λ (xs ys : List ℕ). l .equal && same xs ys) (drop-of-length-le (a .a .now) h) (drop-of-length-le (a .b .now) k) ∙ and-yes (l .equal))
 
 pub same-spec : {M : Type 1} → statement M
 same-spec =
@@ -62,10 +60,9 @@ same-spec =
     μ-loop
     returns
     loop-holds
-    shared-slice-read-if2
-    shared-slice-read-if2-2
-    returns-2
+    shared-slice-read-equal
+    shared-slice-read-equal-2
     add-i
     loop-less
     loop-again
-    returns-3)
+    returns-2)
