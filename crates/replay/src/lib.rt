@@ -9,6 +9,7 @@ ghost use Rattle.step.specs.Machine.{noWrite};
 ghost use Rattle.step.specs.Traces.{stepChoice};
 ghost use Rattle.replay.specs.Replay.{retrace, limited, replayed};
 use records::Layout;
+use records::Statement;
 use step::Answer;
 use step::Choice;
 use step::Machine;
@@ -22,7 +23,7 @@ fn choice_at(trace: &[u8], at: usize) -> Choice
 {
     let thread = trace[at];
     let number = trace[at + 1];
-    if number == 20 {
+    if number == Statement::INSTRUCTIONS {
         return Choice::Flush(thread);
     }
     Choice::Execute(thread)

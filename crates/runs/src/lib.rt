@@ -162,7 +162,7 @@ pub fn trace_step(set: &[u8], layout: Layout, m: Machine, w: Written, choice: Ch
         Choice::Flush(t) => {
             let x = thread_at(threads, t);
             let i = Statement {
-                number: 20,
+                number: Statement::INSTRUCTIONS,
                 mode: 0,
                 argument: 0,
             };

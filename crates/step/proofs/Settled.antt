@@ -1,12 +1,12 @@
 -- The state after a step, as the code puts it together. Assumes nothing.
-use Prim.Native.Nat.{ℕ}
+use Prim.Native.Nat.{ℕ, zero, suc, _≤_}
 use native.Mathlib.Omega.{arith}
 use mathlib.Core.Path.{_≡_, refl, ap, ap₂, sym, _∙_, fun-ext, subst⁻¹}
 use mathlib.Core.List.{List}
 use mathlib.Core.Bool.{Bool, true, false, cond, not, _&&_, _||_}
 use lib.Dec.{eqb}
-use lib.ListN.{getD}
-use Rattle.base.proofs.Choice.{chosen, passed, and-false, clash}
+use lib.ListN.{length, getD, List·getD-eq-default}
+use Rattle.base.proofs.Choice.{chosen, passed, and-false, or-left, or-right, clash}
 use Rattle.records.specs.Instructions.{CHECK, EXIT}
 use Rattle.records.specs.Sets.{Set}
 use Rattle.records.specs.declared.Layout.{Layout}
@@ -34,6 +34,25 @@ module _ (S : Set) (marks : ℕ → Mark) (t : ℕ) (i : Statement) where
   pub marks-left : marksHere ≡ true →
       (λ u. cond (eqb u t) (record { on = true; checkpoint = i .argument }) (cleared S marks u)) ≡ marksSettled S marks t i
   marks-left e = fun-ext (λ u. sym (ap (λ (b : Bool). cond (b && eqb u t) (record { on = true; checkpoint = i .argument }) (cleared S marks u)) e))
+
+-- where no thread is marked, the marks stay
+pub unmarked-stay : (S : Set) (marks : List Mark) → length marks ≡ 4 →
+    (getD marks 0 unmarked .on || getD marks 1 unmarked .on || getD marks 2 unmarked .on || getD marks 3 unmarked .on) ≡ false →
+    (λ u. getD marks u unmarked) ≡ cleared S (λ u. getD marks u unmarked)
+unfolding cleared
+unmarked-stay S marks n e = fun-ext (λ u. sym (passed _ _ (and-false (opened S (λ v. getD marks v unmarked) (getD marks u unmarked .checkpoint)) (off u))))
+  where
+    on : ℕ → Bool
+    on u = getD marks u unmarked .on
+
+    off : (u : ℕ) → on u ≡ false
+    off zero = or-left (on 0) (on 1) (or-left (on 0 || on 1) (on 2) (or-left (on 0 || on 1 || on 2) (on 3) e))
+    off (suc zero) = or-right (on 0) (on 1) (or-left (on 0 || on 1) (on 2) (or-left (on 0 || on 1 || on 2) (on 3) e))
+    off (suc (suc zero)) = or-right (on 0 || on 1) (on 2) (or-left (on 0 || on 1 || on 2) (on 3) e)
+    off (suc (suc (suc zero))) = or-right (on 0 || on 1 || on 2) (on 3) e
+    off (suc (suc (suc (suc u)))) =
+        let h : length marks ≤ suc (suc (suc (suc u))) = omega arith in
+        ap (λ (m : Mark). m .on) (List·getD-eq-default marks unmarked h)
 
 -- ---- a step by the acting thread alone
 

@@ -5,7 +5,7 @@ ghost use Prim.Native.Nat.{ℕ, _+_, _≤_, _<_};
 ghost use lib.Dec.{eqb, leb, ltb};
 ghost use lib.ListN.{length, getD};
 ghost use Rattle.base.specs.Below.{every};
-ghost use Rattle.records.specs.Instructions.{CAS};
+ghost use Rattle.records.specs.Instructions.{CAS as cas};
 ghost use Rattle.records.specs.Sets.{setBy, nothing};
 ghost use Rattle.step.specs.Held.{stateOf, noRead, memoryOf, memoryIn, knownOf, knownIn, heldOf, marksSettled, threadsSettled, hasRoom, cellsOf, threadBy, statementBy, writtenBy, readsBy, notTaken, stateAfter, heldAfter, Advances};
 ghost use Rattle.step.specs.Machine.{fresh, unmarked, row as rowOf, nextPc, withPc, memoryAfter, wrote as wroteOf, address, cellsRead, executed as executedOf, casMatches, noWrite, flushed, actor as actorOf};
@@ -26,19 +26,23 @@ use crate::operands::Operand;
 use crate::registers;
 use records::Layout;
 use records::Statement;
+use records::instructions::CAS;
+use records::instructions::CHECK;
+use records::instructions::EXIT;
+use records::instructions::HALT;
 
 // The pc after a statement.
 fn next_pc(i: Statement, x: Thread) -> u16
     requires { ⌜ (i .number < 20 → x .pc < 65535) ⌝ }
     ensures { λ r. ⌜ r ≡ nextPc i x ⌝ }
 {
-    if 20 <= i.number {
+    if Statement::INSTRUCTIONS <= i.number {
         return x.pc;
     }
-    if i.number == 17 {
+    if i.number == HALT {
         return x.pc;
     }
-    if i.number == 18 {
+    if i.number == EXIT {
         return x.pc;
     }
     if registers::jumps(i.number, x.accu) {
@@ -74,13 +78,17 @@ fn all_halted(layout: Layout, threads: [Thread; 4]) -> bool
     true
 }
 
-// The marks after thread t's statement i: open checkpoints' are cleared, and a CHECK of one that is not open leaves its own.
+// The marks after thread t's statement i: without any, they stay; open checkpoints' are cleared, and a CHECK of one that is not open leaves its own.
 fn marks_after(set: &[u8], layout: Layout, marks: [Mark; 4], t: u8, i: Statement) -> [Mark; 4]
     requires { ⌜ (layout .threads ≤ 4) × (t < layout .threads) ⌝ }
     ensures { λ r. ⌜ (λ u. getD r u unmarked) ≡ marksSettled (setBy (now (set .entry)) layout) (λ v. getD marks v unmarked) t i ⌝ }
 {
+    let quiet = !(marks[0].on | marks[1].on | marks[2].on | marks[3].on) & (i.number != CHECK);
+    if quiet {
+        return marks;
+    }
     let mut after = checkpoints::clear(set, layout, marks);
-    if i.number == 19 {
+    if i.number == CHECK {
         if checkpoints::opened(set, layout, marks, i.argument) {
             return after;
         }
@@ -124,9 +132,9 @@ fn write(addresses: &mut [u16], values: &mut [u16], filled: usize, w: Written) -
 
 // Whether a statement is a CAS whose cell equals mem.
 fn matches(i: Statement, o: Operand, x: Thread) -> bool
-    ensures { λ r. ⌜ r ≡ (eqb (i .number) CAS && eqb (o .word) (x .mem)) ⌝ }
+    ensures { λ r. ⌜ r ≡ (eqb (i .number) cas && eqb (o .word) (x .mem)) ⌝ }
 {
-    if i.number == 16 {
+    if i.number == CAS {
         return o.word == x.mem;
     }
     false
@@ -181,7 +189,7 @@ fn flushing(x: Thread) -> Effect
 {
     let thread = Thread { full: false, ..x };
     let statement = Statement {
-        number: 20,
+        number: Statement::INSTRUCTIONS,
         mode: 0,
         argument: 0,
     };
@@ -339,7 +347,7 @@ pub fn advance(
                     outcome: Outcome::Taken,
                     thread,
                     marks: after,
-                    exits: done.number == 18,
+                    exits: done.number == EXIT,
                     code: done.argument,
                     filled: count,
                     wrote,

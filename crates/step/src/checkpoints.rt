@@ -3,12 +3,13 @@ ghost use mathlib.Core.Path.{_≡_};
 ghost use mathlib.Core.Bool.{cond, not, _&&_, _||_};
 ghost use lib.Dec.{eqb};
 ghost use lib.ListN.{getD};
-ghost use Rattle.records.specs.Instructions.{CHECK};
+ghost use Rattle.records.specs.Instructions.{CHECK as check};
 ghost use Rattle.records.specs.Sets.{setBy};
 ghost use Rattle.step.specs.Machine.{unmarked, contains as containsOf, markedAt, opened as openedOf, cleared as clearedOf};
 use crate::Mark;
 use records::Layout;
 use records::Statement;
+use records::instructions::CHECK;
 
 // How many statements thread t has.
 fn count(layout: Layout, t: u8) -> u16
@@ -23,9 +24,9 @@ fn count(layout: Layout, t: u8) -> u16
 
 // Whether a statement is CHECK c.
 fn checks(i: Statement, c: u16) -> bool
-    ensures { λ r. ⌜ r ≡ (eqb (i .number) CHECK && eqb (i .argument) c) ⌝ }
+    ensures { λ r. ⌜ r ≡ (eqb (i .number) check && eqb (i .argument) c) ⌝ }
 {
-    if i.number == 19 {
+    if i.number == CHECK {
         return i.argument == c;
     }
     false

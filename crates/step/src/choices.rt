@@ -14,12 +14,16 @@ use crate::Thread;
 use crate::checkpoints;
 use records::Layout;
 use records::Statement;
+use records::instructions::CAS;
+use records::instructions::FENCE;
+use records::instructions::HALT;
+use records::instructions::STORE;
 
 // STORE, FENCE, CAS and HALT.
 fn needs_empty(n: u8) -> bool
     ensures { λ r. ⌜ r ≡ needsEmpty n ⌝ }
 {
-    (n == 1) | (n == 2) | (n == 16) | (n == 17)
+    (n == STORE) | (n == FENCE) | (n == CAS) | (n == HALT)
 }
 
 // Whether the acting thread may make its choice: i is its statement, x its registers, mark its mark.
