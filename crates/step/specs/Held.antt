@@ -103,7 +103,7 @@ onTaken Lacking x y = y
 abbrev pub noRead : Read
 noRead = record { argument = false; first = 0; word = false; second = 0 }
 
--- of a step that is not taken, no register and no mark is anyone's
+-- a step that is not taken gives no registers and no marks: these are put into no machine
 abbrev pub notTaken : Bool → Outcome → ℕ → Stepped
 notTaken fit o filled = record {
   fit = fit;
@@ -134,7 +134,7 @@ heldAfter layout m c r addresses values = record {
   known = knownOf addresses (r .filled);
 }
 
--- what it promises: its outcome, what was read and written, and the state afterwards
+-- what a call that takes a step promises: its outcome, what was read and written, and the state afterwards
 pub record Advances (fit : Bool) (S : Set) (before : Held) (c : Choice) (filled : ℕ) (r : Stepped) (afterwards : Held) : Type 0 where
   pub fits : r .fit ≡ fit
   pub came : r .outcome ≡ cond fit (outcome S before c) NotPermitted

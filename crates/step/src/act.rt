@@ -272,7 +272,7 @@ fn with_thread(threads: [Thread; 4], t: u8, y: Thread) -> [Thread; 4]
     after
 }
 
-// The threads and the end once thread t has registers y: every other field is the step's.
+// The machine with what a step of thread t gave put into it.
 fn settle(layout: Layout, m: Machine, t: u8, s: Stepped) -> Machine
     requires { ⌜ (layout .threads ≤ 4) × (t < layout .threads) ⌝ }
     ensures { λ r. ⌜ ((memory : ℕ → ℕ) → stateOf r memory ≡ stateAfter layout m t s memory) ⌝ }
