@@ -4,18 +4,36 @@ ghost use mathlib.Core.Bool.{cond};
 ghost use lib.Dec.{eqb};
 ghost use Rattle.step.specs.Machine.{row as rowOf, jumps as jumpsOf};
 use crate::Thread;
+use records::instructions::ADD;
+use records::instructions::ADDI;
+use records::instructions::CAS;
+use records::instructions::FENCE;
+use records::instructions::HALT;
+use records::instructions::JMP;
+use records::instructions::JNS;
+use records::instructions::JNZ;
+use records::instructions::JNZNS;
+use records::instructions::JS;
+use records::instructions::JZ;
+use records::instructions::LOAD;
+use records::instructions::MEM;
+use records::instructions::MUL;
+use records::instructions::MULI;
+use records::instructions::STORE;
+use records::instructions::SUB;
+use records::instructions::SUBI;
 
 // Whether the jump numbered n is taken.
 pub fn jumps(n: u8, accu: u16) -> bool
     ensures { λ r. ⌜ r ≡ jumpsOf n accu ⌝ }
 {
     match n {
-        9 => true,
-        10 => accu == 0,
-        11 => accu != 0,
-        12 => 32768 <= accu,
-        13 => accu < 32768,
-        14 => { if accu < 32768 { accu != 0 } else { false } }
+        JMP => true,
+        JZ => accu == 0,
+        JNZ => accu != 0,
+        JS => 32768 <= accu,
+        JNS => accu < 32768,
+        JNZNS => { if accu < 32768 { accu != 0 } else { false } }
         _ => false,
     }
 }
@@ -32,48 +50,48 @@ pub fn row(n: u8, argument: u16, a: u16, w: u16, x: Thread) -> Thread
     ensures { λ r. ⌜ r ≡ rowOf n argument a w x ⌝ }
 {
     match n {
-        0 => Thread { accu: w, ..x },
-        1 => Thread {
+        LOAD => Thread { accu: w, ..x },
+        STORE => Thread {
             adr: a,
             val: x.accu,
             full: true,
             ..x
         },
-        2 => x,
-        3 => Thread {
+        FENCE => x,
+        ADD => Thread {
             accu: base::sum(x.accu, w),
             ..x
         },
-        4 => Thread {
+        ADDI => Thread {
             accu: base::sum(x.accu, argument),
             ..x
         },
-        5 => Thread {
+        SUB => Thread {
             accu: base::difference(x.accu, w),
             ..x
         },
-        6 => Thread {
+        SUBI => Thread {
             accu: base::difference(x.accu, argument),
             ..x
         },
-        7 => Thread {
+        MUL => Thread {
             accu: base::product(x.accu, w),
             ..x
         },
-        8 => Thread {
+        MULI => Thread {
             accu: base::product(x.accu, argument),
             ..x
         },
-        15 => Thread {
+        MEM => Thread {
             accu: w,
             mem: w,
             ..x
         },
-        16 => Thread {
+        CAS => Thread {
             accu: equal(w, x.mem),
             ..x
         },
-        17 => Thread { halted: true, ..x },
+        HALT => Thread { halted: true, ..x },
         _ => x,
     }
 }
