@@ -24,6 +24,7 @@ different : every 20 (λ n. eqb n (named (wordOf n))) ≡ true
 unfolding every least same words wordOf
 different = refl
 
+-- w is the word of n
 pub found : (w : List ℕ) (n : ℕ) → n < 20 → same w (wordOf n) ≡ true → n ≡ named w
 found w n h e = eqb-true n (named (wordOf n)) (every-at (λ m. eqb m (named (wordOf m))) 20 n different h) ∙ ap named (sym (same-equal w (wordOf n) e))
 
@@ -32,6 +33,7 @@ unfolding least
 none-passes test zero f = refl
 none-passes test (suc n) f = rw add-one at (least-more test n (none-passes test n (λ k h. f k (omega arith))) (f n (omega arith)))
 
+-- w is no word
 unnamed : (w : List ℕ) → ((n : ℕ) → n < 20 → same w (wordOf n) ≡ true → ⊥) → 20 ≡ named w
 unnamed w f = sym (none-passes (λ n. same w (wordOf n)) 20 (λ n h. refuted (same w (wordOf n)) (f n h)))
 
@@ -83,7 +85,7 @@ one-starting w x n l h s = go (same w (wordOf n)) refl
     go true e = chosen n 20 e ∙ found w n l e
     go false e = passed n 20 e ∙ none-starting w x (n ∷ []) h s (_, e)
 
--- the letters that words start with, from the last in the alphabet on: S, M, L, J, H, F, E, C, A
+-- the letters that words start with: S, M, L, J, H, F, E, C, A; the last arm of a `match` has the last letter first
 abbrev pub letters : List ℕ
 letters = 83 ∷ 77 ∷ 76 ∷ 74 ∷ 72 ∷ 70 ∷ 69 ∷ 67 ∷ 65 ∷ []
 
