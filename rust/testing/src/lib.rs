@@ -15,6 +15,6 @@ pub mod texts;
 pub use counts::Counts;
 pub use inputs::Input;
 pub use lent::Lent;
-pub use packed::packed;
+pub use packed::{packed, packed_read};
 pub use random::Random;
 pub use texts::counts::TextCounts;

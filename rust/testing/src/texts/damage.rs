@@ -35,7 +35,7 @@ pub fn lines(random: &mut Random, lines: &mut Vec<Line>) {
         1 => drop(lines.remove(one)),
         2 => lines.swap(one, other),
         3 => lines.insert(one, dot_line()),
-        4 => remove_dot(random, lines),
+        4 => change_dot(random, lines),
         5 => {
             let (address, value) = (random.word(), random.word());
             lines.insert(one, cell_line(Cell { address, value }));
@@ -47,12 +47,20 @@ pub fn lines(random: &mut Random, lines: &mut Vec<Line>) {
     }
 }
 
-fn remove_dot(random: &mut Random, lines: &mut Vec<Line>) {
+/// Removes a dot line or makes it one that only looks like it.
+fn change_dot(random: &mut Random, lines: &mut Vec<Line>) {
     let dots: Vec<usize> = (0..lines.len())
         .filter(|&at| is_dot_line(&lines[at]))
         .collect();
-    if !dots.is_empty() {
-        lines.remove(random.pick(&dots));
+    if dots.is_empty() {
+        return;
+    }
+    let at = random.pick(&dots);
+    if random.chance(40) {
+        lines.remove(at);
+    } else {
+        let others = ["..", ". .", ".#", ". # x", ".\r", "\r.", ":", ".\0", "0."];
+        lines[at][0].text = random.pick(&others).to_string();
     }
 }
 
@@ -122,16 +130,20 @@ fn other_number(random: &mut Random, text: &str) -> String {
     }
 }
 
-/// An item of the line removed, doubled, or swapped with another.
+/// An item of the line removed, doubled, swapped with another, or joined with the next.
 fn rearrange(random: &mut Random, line: &mut Line) {
     if line.is_empty() {
         line.push(Item::number(random.word()));
         return;
     }
     let (one, other) = (random.below(line.len()), random.below(line.len()));
-    match random.below(3) {
+    match random.below(4) {
         0 => drop(line.remove(one)),
         1 => line.insert(other, line[one].clone()),
+        2 if one + 1 < line.len() => {
+            let next = line.remove(one + 1);
+            line[one].text += &next.text;
+        }
         _ => line.swap(one, other),
     }
 }
