@@ -33,7 +33,7 @@ pub fn any(random: &mut Random) -> Vec<u8> {
     match random.below(20) {
         0..=4 => valid(random).0,
         5..=18 => damaged(random),
-        _ => damage::soup(random),
+        _ => damage::mixture(random),
     }
 }
 

@@ -149,7 +149,7 @@ fn rearrange(random: &mut Random, line: &mut Line) {
 }
 
 /// Bytes that mean something in a text, and forbidden ones.
-const TELLING: &[u8] = b"\n\n \t.:#[]_-09azAZHJ\r\0\x0b\x0c\x7f\x80\xff";
+const SPECIAL: &[u8] = b"\n\n \t.:#[]_-09azAZHJ\r\0\x0b\x0c\x7f\x80\xff";
 
 /// A byte changed, added or removed, the text cut, or one byte more than it may have.
 pub fn bytes(random: &mut Random, text: &mut Vec<u8>) {
@@ -157,7 +157,7 @@ pub fn bytes(random: &mut Random, text: &mut Vec<u8>) {
     let byte = if random.chance(50) {
         random.byte()
     } else {
-        random.pick(TELLING)
+        random.pick(SPECIAL)
     };
     match random.below(12) {
         0..=3 if at < text.len() => text[at] = byte,
@@ -176,7 +176,7 @@ pub fn bytes(random: &mut Random, text: &mut Vec<u8>) {
 }
 
 /// Words, signs, numbers and blanks in any order.
-pub fn soup(random: &mut Random) -> Vec<u8> {
+pub fn mixture(random: &mut Random) -> Vec<u8> {
     let parts = [
         "\n", "\n", "\n", "\n", " ", "\t", " ", ".", "\n.\n", "\n.\n", "#", ":", "[", "]", "0",
         "1", "65535", "65536", "a", "b:", "HALT", "\nHALT\n", "JMP a", "LOAD ", "LOAD [1]",
