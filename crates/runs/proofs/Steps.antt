@@ -1,6 +1,6 @@
 -- One turn of the loop: what the definitions say of the next step, and what the step's answer makes of the machine. Assumes nothing.
 use Prim.Native.Nat.{ℕ, zero, suc, _+_, _-_, _*_, _/_, _%_, _≤_, _<_}
-use mathlib.Core.Path.{_≡_, refl, ap, ap₂, sym, subst, _∙_}
+use mathlib.Core.Path.{_≡_, refl, ap, ap₂, sym, subst, subst⁻¹, _∙_}
 use mathlib.Core.Bool.{Bool, true, false, cond, not, _&&_, _||_}
 use mathlib.Core.List.{List, [], _∷_, _++_, append-assoc}
 use native.Mathlib.Numerals.{add-one}
@@ -38,13 +38,17 @@ use Rattle.step.specs.declared.Thread.{Thread}
 use Rattle.step.specs.declared.Written.{Written}
 use Rattle.step.specs.declared.End.the-variants.{Code, Stuck, Open}
 use Rattle.runs.specs.Ends.{endFor}
-use Rattle.runs.specs.Walks.{countOf, made, agrees, refusalOf, onRefusal, walked, walkedOver}
+use Rattle.runs.specs.Walks.{countOf, made, agrees, refusalOf, onRefusal, walked, walkedOver, Begins}
 
 -- ---- refusals
 
 pub on-refused : (n i : ℕ) (rest : Answer) → (n ≡ 0 → ⊥) → onRefusal n i rest ≡ Refused n i
 on-refused zero i rest f = absurd (f refl)
 on-refused (suc n) i rest f = refl
+
+-- nothing is asked of the bytes of a refused run
+pub refused-begins : (a : Answer) (number place : ℕ) (trace bytes : List ℕ) → a ≡ Refused number place → Begins a trace bytes
+refused-begins a number place trace bytes e = subst⁻¹ (λ (z : Answer). Begins z trace bytes) e tt
 
 -- a step that is not refused is taken
 pub stands : (o : Outcome) (agreed : Bool) → refusalOf o agreed ≡ 0 → o ≡ Taken
@@ -185,22 +189,16 @@ module _ (S : Set) (m : Machine) (memory : ℕ → ℕ) (known : ℕ → Bool) (
 
         -- they are made anew
         pub loud-held :
-            let flag : ℕ → Bool = λ u. getD (set (m .threads) slot (r .thread)) u fresh .halted in
             (λ u. getD (n .marks) u unmarked) ≡ cond (ltb (actor c) 4) (marksSettled S marksOf (actor c) (r .statement)) marksOf →
-            n .ended ≡ (m .ended || eqb (r .statement .number) EXIT || every (S .threads) (λ u. getD (flag 0 ∷ flag 1 ∷ flag 2 ∷ flag 3 ∷ []) u false)) →
+            n .ended ≡ (m .ended || eqb (r .statement .number) EXIT || every (S .threads) (λ u. getD (n .threads) u fresh .halted)) →
             n .code ≡ cond (eqb (r .statement .number) EXIT) (r .statement .argument) (m .code) →
             record { state = stateOf n later; known = knows } ≡ advanced S held c
         loud-held marks ended code =
-            let flag : ℕ → Bool = λ u. getD (set (m .threads) slot (r .thread)) u fresh .halted in
-            let all = length-set (m .threads) slot (r .thread) ∙ four-threads in
-            let flags = four (flag 0) (flag 1) (flag 2) (flag 3) false flag refl refl refl refl
-            (λ u l. sym (ap (λ (z : Thread). z .halted) (List·getD-eq-default (set (m .threads) slot (r .thread)) fresh (omega (arith, l, all))))) in
-            let fs = flags ∙ ap {B = ℕ → Bool} (λ (ts : List Thread) (u : ℕ). getD ts u fresh .halted) (sym threads) ∙ ap {B = ℕ → Bool} (λ (f : ℕ → Thread) (u : ℕ). f u .halted) threads-are in
             settled (λ k. record {
               threads = threads-are k;
               marks = (marks ∙ chosen _ _ (lt-ltb (actor c) 4 (omega (arith, acting, few)))) k;
               memory = later;
-              ended = (ended ∙ ap (λ (f : ℕ → Bool). m .ended || eqb (r .statement .number) EXIT || every (S .threads) f) fs) k;
+              ended = (ended ∙ ap (λ (f : ℕ → Thread). m .ended || eqb (r .statement .number) EXIT || every (S .threads) (λ u. f u .halted)) threads-are) k;
               code = code k;
             })
 

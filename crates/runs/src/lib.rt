@@ -200,6 +200,17 @@ fn refusal_of(outcome: Outcome, agreed: bool) -> u8
     }
 }
 
+// A refusal at a step.
+fn refused(number: u8, step: usize) -> Answer
+    requires { ⌜ step ≤ 64 ⌝ }
+    ensures { λ r. ⌜ r ≡ Answer.Refused number step ⌝ }
+{
+    Answer::Refused {
+        number,
+        place: step as u32,
+    }
+}
+
 // Runs a schedule, or along a trace, from a first machine over a sparse memory, and puts each step's record into the lent bytes.
 // The machine is changed in place: a step copies it nowhere.
 fn run(
@@ -235,7 +246,7 @@ fn run(
         let at = (t % 4) as usize;
         let x = m.threads[at];
         let marks = m.marks;
-        let mark = marks[at];
+        let mark = m.marks[at];
         let s = step::act::advance(
             set,
             layout,
@@ -255,10 +266,7 @@ fn run(
         base::place(trace, 24 * steps, &bytes);
         let refusal = refusal_of(outcome, agrees(replaying, input, steps, bytes));
         if refusal != 0 {
-            return Answer::Refused {
-                number: refusal,
-                place: steps as u32,
-            };
+            return refused(refusal, steps);
         }
         m.threads[at] = y;
         filled = s.filled;
@@ -266,16 +274,10 @@ fn run(
         steps += 1;
         budget -= 1;
         if !step::act::quiet(marks, i, y) {
+            let threads = m.threads;
             let after = step::act::marks_after(set, layout, marks, t, i);
-            let halted = step::act::all_halted(
-                layout.threads,
-                m.threads[0].halted,
-                m.threads[1].halted,
-                m.threads[2].halted,
-                m.threads[3].halted,
-            );
             m.marks = after;
-            m.ended = m.ended | step::act::exits(i) | halted;
+            m.ended = step::act::ended_after(layout.threads, threads, i, m.ended);
             m.code = step::act::code_after(i, m.code);
         }
     }
@@ -319,8 +321,5 @@ pub fn walk(
             trace,
         );
     }
-    Answer::Refused {
-        number: 17,
-        place: 0,
-    }
+    refused(17, 0)
 }

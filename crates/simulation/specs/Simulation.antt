@@ -37,3 +37,8 @@ outputOver (Refused number place) trace out = out
 
 abbrev pub traceOutput : Answer → (set map schedule out : List ℕ) → List ℕ
 traceOutput answer set map schedule out = outputOver answer (scheduleTrace set map schedule) out
+
+-- how many of a run's bytes are written
+abbrev pub bytesOut : Answer → ℕ → ℕ
+bytesOut (Ran steps end) bytes = bytes
+bytesOut (Refused number place) bytes = 0

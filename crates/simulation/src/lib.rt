@@ -7,10 +7,23 @@ ghost use Rattle.records.specs.Sets.{setBy};
 ghost use Rattle.step.specs.Machine.{start, noWrite};
 ghost use Rattle.step.specs.Runs.{choices};
 ghost use Rattle.step.specs.Traces.{trace as traceOf};
-ghost use Rattle.simulation.specs.Simulation.{limited, outputOver, simulated, traceOutput};
+ghost use Rattle.simulation.specs.Simulation.{limited, outputOver, simulated, traceOutput, bytesOut};
 use records::Layout;
 use step::Answer;
 use step::Machine;
+
+// How many of a run's bytes are written to the output: none where it is refused.
+fn bytes_out(answer: Answer, bytes: usize) -> usize
+    ensures { λ r. ⌜ r ≡ bytesOut answer bytes ⌝ }
+{
+    match answer {
+        Answer::Ran { steps: _, end: _ } => bytes,
+        Answer::Refused {
+            number: _,
+            place: _,
+        } => 0,
+    }
+}
 
 // The call once set and map are accepted.
 fn accepted(set: &[u8], layout: Layout, map: &[u8], schedule: &[u8], trace: &mut [u8]) -> Answer
@@ -31,16 +44,12 @@ fn accepted(set: &[u8], layout: Layout, map: &[u8], schedule: &[u8], trace: &mut
             place: 0,
         };
     }
-    // The bytes go to the output only once the run is known to be accepted.
+    // The run is judged before a byte goes to the output.
     let mut bytes = [0u8; 1536];
     let answer = runs::walk(set, layout, map, false, schedule, &mut bytes);
-    match answer {
-        Answer::Ran { steps, end } => {
-            base::place(trace, 0, &bytes[..24 * n]);
-            Answer::Ran { steps, end }
-        }
-        Answer::Refused { number, place } => Answer::Refused { number, place },
-    }
+    let size = bytes_out(answer, 24 * n);
+    base::place(trace, 0, &bytes[..size]);
+    answer
 }
 
 // Simulates a schedule over a set and a map, and writes its trace.

@@ -1,6 +1,6 @@
 // One step: the acting thread's registers, the marks, the memory and the end.
 ghost use mathlib.Core.Path.{_≡_};
-ghost use mathlib.Core.Bool.{true, false, cond, _&&_};
+ghost use mathlib.Core.Bool.{true, false, cond, _&&_, _||_};
 ghost use mathlib.Core.List.{[], _∷_};
 ghost use Prim.Native.Nat.{_+_, _≤_, _<_};
 ghost use lib.Dec.{eqb, ltb};
@@ -9,7 +9,7 @@ ghost use Rattle.base.specs.Below.{every};
 ghost use Rattle.records.specs.Instructions.{CAS as cas, EXIT as exit};
 ghost use Rattle.records.specs.Sets.{setBy};
 ghost use Rattle.step.specs.Held.{noRead, memoryOf, memoryIn, knownOf, knownIn, marksSettled, quiet as quietOf, canStep, waits, cellsOf, threadBy, statementBy, writtenBy, readsBy, notTaken, Advances};
-ghost use Rattle.step.specs.Machine.{unmarked, row as rowOf, nextPc, withPc, memoryAfter, wrote as wroteOf, address, cellsRead, executed as executedOf, casMatches, noWrite, flushed};
+ghost use Rattle.step.specs.Machine.{fresh, unmarked, row as rowOf, nextPc, withPc, memoryAfter, wrote as wroteOf, address, cellsRead, executed as executedOf, casMatches, noWrite, flushed};
 ghost use Rattle.step.specs.Maps.{knowsAll, knownAfter};
 use crate::Choice;
 use crate::Mark;
@@ -62,7 +62,7 @@ fn executed(i: Statement, o: Operand, x: Thread) -> Thread
 }
 
 // Whether each of n threads has halted, by four threads' flags. None is there after them.
-pub fn all_halted(n: u8, first: bool, second: bool, third: bool, fourth: bool) -> bool
+fn all_halted(n: u8, first: bool, second: bool, third: bool, fourth: bool) -> bool
     ensures { λ r. ⌜ r ≡ every n (λ t. getD (first ∷ second ∷ third ∷ fourth ∷ []) t false) ⌝ }
 {
     match n {
@@ -75,6 +75,20 @@ pub fn all_halted(n: u8, first: bool, second: bool, third: bool, fourth: bool) -
     }
 }
 
+// Whether the machine has ended after statement i, which left these threads.
+pub fn ended_after(n: u8, threads: [Thread; 4], i: Statement, ended: bool) -> bool
+    ensures { λ r. ⌜ r ≡ (ended || eqb (i .number) exit || every n (λ t. getD threads t fresh .halted)) ⌝ }
+{
+    let halted = all_halted(
+        n,
+        threads[0].halted,
+        threads[1].halted,
+        threads[2].halted,
+        threads[3].halted,
+    );
+    ended | (i.number == EXIT) | halted
+}
+
 // Whether a taken step changes neither marks nor end: no thread is marked, and its statement i with the registers y afterwards
 // neither checks, exits nor halts.
 pub fn quiet(marks: [Mark; 4], i: Statement, y: Thread) -> bool
@@ -82,13 +96,6 @@ pub fn quiet(marks: [Mark; 4], i: Statement, y: Thread) -> bool
 {
     let marked = marks[0].on | marks[1].on | marks[2].on | marks[3].on;
     !marked & !y.halted & (i.number != CHECK) & (i.number != EXIT)
-}
-
-// Whether a statement is EXIT.
-pub fn exits(i: Statement) -> bool
-    ensures { λ r. ⌜ r ≡ eqb (i .number) exit ⌝ }
-{
-    i.number == EXIT
 }
 
 // The machine's code after statement i.

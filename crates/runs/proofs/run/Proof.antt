@@ -28,7 +28,7 @@ use Rattle.step.specs.declared.Outcome.the-variants.{Taken}
 use Rattle.step.specs.declared.Stepped.{Stepped}
 use Rattle.step.specs.declared.Written.{Written}
 use Rattle.runs.specs.Walks.{countOf, agrees, refusalOf, onRefusal, walked, traced}
-use Rattle.runs.proofs.Steps.{on-refused, stands, rest, walked-next, Told, came-out, refused-so, bytes-so, wrote-so, quiet-held, loud-held, has-room, end-is, trace-more}
+use Rattle.runs.proofs.Steps.{on-refused, refused-begins, stands, rest, walked-next, Told, came-out, refused-so, bytes-so, wrote-so, quiet-held, loud-held, has-room, end-is, trace-more}
 use Rattle.runs.proofs.run.Statement.{statement}
 use Rattle.runs.proofs.run.Tie as tie
 use Rattle.runs.proofs.run.Reads as reads
@@ -40,11 +40,11 @@ use Rattle.runs.proofs.made.Reads as made-reads
 use Rattle.runs.proofs.refusal_of.Reads as refusal-of-reads
 use Rattle.runs.proofs.step_bytes.Reads as step-bytes-reads
 use Rattle.step.proofs.act.advance.Reads as advance-reads
-use Rattle.step.proofs.act.all_halted.Reads as all-halted-reads
 use Rattle.step.proofs.act.code_after.Reads as code-after-reads
-use Rattle.step.proofs.act.exits.Reads as exits-reads
 use Rattle.step.proofs.act.marks_after.Reads as marks-after-reads
+use Rattle.step.proofs.act.ended_after.Reads as ended-after-reads
 use Rattle.step.proofs.act.quiet.Reads as quiet-reads
+use Rattle.runs.proofs.refused.Reads as refused-reads
 use Rattle.step.proofs.choices.actor.Reads as actor-reads
 
 -- what the loop keeps: the steps that are left give the rest of the answer, and a schedule's bytes so far begin its trace
@@ -246,8 +246,8 @@ mul-mark : tie.Need-mul-mark Inv-loop μ-loop
 mul-mark c = search needs
 
 -- src/lib.rt:237:20
-array-copy-out-mark : tie.Need-array-copy-out-mark Inv-loop μ-loop
-array-copy-out-mark c = search needs
+element-copy-out-mark : tie.Need-element-copy-out-mark Inv-loop μ-loop
+element-copy-out-mark c = search needs
 
 -- src/lib.rt:238:13
 advance-requires : tie.Need-advance-requires Inv-loop μ-loop
@@ -281,24 +281,26 @@ refusal-of-requires : tie.Need-refusal-of-requires Inv-loop μ-loop
 refusal-of-requires c κs = search needs
 
 -- src/lib.rt:250:24
-cast-t51 : tie.Need-cast-t51 Inv-loop μ-loop
-cast-t51 c = let x = c .before in let l = x .before .before .before .before .before .before .before .before .before .before .before .before .before .before .before .before .before .before .before .before .before .before .before .loop in omega (arith, goes x, l .inv .6 .0, l .inv .1)
+refused-requires : tie.Need-refused-requires Inv-loop μ-loop
+refused-requires c κs = let x = c .before in let l = x .before .before .before .before .before .before .before .before .before .before .before .before .before .before .before .before .before .before .before .before .before .before .before .loop in omega (arith, goes x, l .inv .6 .0, l .inv .1)
 
 -- src/lib.rt:248:13
 same-length : tie.Need-same-length Inv-loop μ-loop
-same-length c = let x = c .before in x .before .before .before .before .before .before .before .before .before .before .before .before .before .before .advance .kept .1 .1 .1 .1 .1 .1 .0 ∙ x .before .before .before .before .before .before .before .before .before .before .before .before .before .before .before .before .before .before .before .before .before .before .before .loop .inv .3
+same-length c = let x = c .before .before in x .before .before .before .before .before .before .before .before .before .before .before .before .before .before .advance .kept .1 .1 .1 .1 .1 .1 .0 ∙ x .before .before .before .before .before .before .before .before .before .before .before .before .before .before .before .before .before .before .before .before .before .before .before .loop .inv .3
 
 -- src/lib.rt:248:13
 same-length-2 : tie.Need-same-length-2 Inv-loop μ-loop
-same-length-2 c = let x = c .before in x .before .before .before .before .before .before .before .before .before .before .before .before .before .before .advance .kept .1 .1 .1 .1 .1 .1 .1 .0 ∙ x .before .before .before .before .before .before .before .before .before .before .before .before .before .before .before .before .before .before .before .before .before .before .before .loop .inv .4
+same-length-2 c = let x = c .before .before in x .before .before .before .before .before .before .before .before .before .before .before .before .before .before .advance .kept .1 .1 .1 .1 .1 .1 .1 .0 ∙ x .before .before .before .before .before .before .before .before .before .before .before .before .before .before .before .before .before .before .before .before .before .before .before .loop .inv .4
 
 -- src/lib.rt:248:13
 same-length-3 : tie.Need-same-length-3 Inv-loop μ-loop
-same-length-3 c = let x = c .before in x .before .before .before .before .place .kept .0 ∙ x .before .before .before .before .before .before .before .before .before .before .before .before .before .before .before .before .before .before .before .before .before .before .before .loop .inv .5
+same-length-3 c = let x = c .before .before in x .before .before .before .before .place .kept .0 ∙ x .before .before .before .before .before .before .before .before .before .before .before .before .before .before .before .before .before .before .before .before .before .before .before .loop .inv .5
 
 -- src/lib.rt:248:13
 returns : tie.Need-returns Inv-loop μ-loop
-returns c = let x = c .before in (sym (judged x ∙ on-refused _ _ _ (c .if1 .taken)), tt)
+returns c =
+    let x = c .before .before in
+    (c .refused .ensures ∙ sym (judged x ∙ on-refused _ _ _ (c .before .if1 .taken)), refused-begins _ _ _ _ _ (c .refused .ensures))
 
 -- src/lib.rt:253:9
 mul-y : tie.Need-mul-y Inv-loop μ-loop
@@ -324,29 +326,9 @@ quiet-requires c κs = search needs
 marks-after-requires : tie.Need-marks-after-requires Inv-loop μ-loop
 marks-after-requires c κs = search needs
 
--- src/lib.rt:262:17
-element-copy-out-all-halted : tie.Need-element-copy-out-all-halted Inv-loop μ-loop
-element-copy-out-all-halted c = search needs
-
--- src/lib.rt:263:17
-element-copy-out-all-halted-2 : tie.Need-element-copy-out-all-halted-2 Inv-loop μ-loop
-element-copy-out-all-halted-2 c = search needs
-
--- src/lib.rt:264:17
-element-copy-out-all-halted-3 : tie.Need-element-copy-out-all-halted-3 Inv-loop μ-loop
-element-copy-out-all-halted-3 c = search needs
-
--- src/lib.rt:265:17
-element-copy-out-all-halted-4 : tie.Need-element-copy-out-all-halted-4 Inv-loop μ-loop
-element-copy-out-all-halted-4 c = search needs
-
--- src/lib.rt:260:17
-all-halted-requires : tie.Need-all-halted-requires Inv-loop μ-loop
-all-halted-requires c κs = search needs
-
 -- src/lib.rt:268:33
-exits-requires : tie.Need-exits-requires Inv-loop μ-loop
-exits-requires c κs = search needs
+ended-after-requires : tie.Need-ended-after-requires Inv-loop μ-loop
+ended-after-requires c κs = search needs
 
 -- src/lib.rt:269:22
 code-after-requires : tie.Need-code-after-requires Inv-loop μ-loop
@@ -365,19 +347,18 @@ loop-again c =
     let m = machine-of x in
     let t = x .before .before .before .before .before .before .before .before .before .before .before .before .before .before .before .before .before .before .before .before .actor in
     let k = x .before .before .before .before .before .before .before .before .before .before .before .before .before .before .advance .kept in
-    let marks = c .before .before .before .marks-after in
-    let halted = c .before .before .all-halted in
-    let exits = c .before .exits in
-    let n : Machine = record { threads = set (m .threads) (t .result % 4) (result-of x .thread); marks = marks .result; ended = m .ended || exits .result || halted .result; code = c .code-after .result } in (
+    let marks = c .before .before .marks-after in
+    let ended = c .before .ended-after in
+    let n : Machine = record { threads = set (m .threads) (t .result % 4) (result-of x .thread); marks = marks .result; ended = ended .result; code = c .code-after .result } in (
       l .inv .0,
       l .inv .1,
       l .inv .2,
       k .1 .1 .1 .1 .1 .1 .0 ∙ l .inv .3,
       k .1 .1 .1 .1 .1 .1 .1 .0 ∙ l .inv .4,
       x .before .before .before .before .place .kept .0 ∙ l .inv .5,
-      goes-on x zero n (length-set (m .threads) (t .result % 4) (result-of x .thread) ∙ l .inv .6 .5) (four-marks (c .before .before .before)) (loud-held (set-of x) m (memory-of x) (known-of x) (choice-of x) (few x) (told x) (room x) (taken x zero) n (ap (λ (u : ℕ). set (m .threads) (u % 4) (result-of x .thread)) (t .ensures)) (l .inv .6 .5)
+      goes-on x zero n (length-set (m .threads) (t .result % 4) (result-of x .thread) ∙ l .inv .6 .5) (four-marks (c .before .before)) (loud-held (set-of x) m (memory-of x) (known-of x) (choice-of x) (few x) (told x) (room x) (taken x zero) n (ap (λ (u : ℕ). set (m .threads) (u % 4) (result-of x .thread)) (t .ensures)) (l .inv .6 .5)
           (marks .ensures ∙ ap {B = ℕ → Mark} (λ (u : ℕ). cond (ltb u 4) (marksSettled (set-of x) (λ v. getD (m .marks) v unmarked) u (result-of x .statement)) (λ v. getD (m .marks) v unmarked)) (t .ensures))
-          (ap₂ (λ (e h : Bool). m .ended || e || h) (exits .ensures) (halted .ensures ∙ ap (λ (u : ℕ). let flag : ℕ → Bool = λ v. getD (set (m .threads) (u % 4) (result-of x .thread)) v fresh .halted in every (set-of x .threads) (λ v. getD (flag 0 ∷ flag 1 ∷ flag 2 ∷ flag 3 ∷ []) v false)) (t .ensures)))
+          (ended .ensures)
           (c .code-after .ensures)),
     )
 
@@ -410,8 +391,8 @@ end-of-requires : tie.Need-end-of-requires Inv-loop μ-loop
 end-of-requires c κs = search needs
 
 -- src/lib.rt:274:16
-cast-t71 : tie.Need-cast-t71 Inv-loop μ-loop
-cast-t71 c = search needs
+cast-t58 : tie.Need-cast-t58 Inv-loop μ-loop
+cast-t58 c = search needs
 
 -- src/lib.rt:205:1
 same-length-4 : tie.Need-same-length-4 Inv-loop μ-loop
@@ -459,7 +440,7 @@ run-spec =
     mul-x
     element-copy-out-x
     mul-mark
-    array-copy-out-mark
+    element-copy-out-mark
     advance-requires
     step-bytes-requires
     mul-place
@@ -467,7 +448,7 @@ run-spec =
     place-requires
     agrees-requires
     refusal-of-requires
-    cast-t51
+    refused-requires
     same-length
     same-length-2
     same-length-3
@@ -478,19 +459,14 @@ run-spec =
     sub-budget
     quiet-requires
     marks-after-requires
-    element-copy-out-all-halted
-    element-copy-out-all-halted-2
-    element-copy-out-all-halted-3
-    element-copy-out-all-halted-4
-    all-halted-requires
-    exits-requires
+    ended-after-requires
     code-after-requires
     loop-less
     loop-again
     loop-less-2
     loop-again-2
     end-of-requires
-    cast-t71
+    cast-t58
     same-length-4
     same-length-5
     same-length-6

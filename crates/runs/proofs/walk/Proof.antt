@@ -15,7 +15,7 @@ use Rattle.step.specs.Held.{stateOf, memoryOf, heldOf}
 use Rattle.step.specs.Machine.{State, start, noWrite}
 use Rattle.step.specs.Maps.{Held, begin}
 use Rattle.runs.specs.Walks.{countOf, walked, walkedOver, within, traced, Begins}
-use Rattle.runs.proofs.Steps.{begun, all-cells}
+use Rattle.runs.proofs.Steps.{refused-begins, begun, all-cells}
 use Rattle.runs.proofs.walk.Statement.{statement}
 use Rattle.runs.proofs.walk.Tie as tie
 use Rattle.runs.proofs.walk.Reads as reads
@@ -23,6 +23,7 @@ use Rattle.runs.proofs.walk.Lts as lts
 use Rattle.runs.proofs.begin.Reads as begin-reads
 use Rattle.runs.proofs.count_of.Reads as count-of-reads
 use Rattle.runs.proofs.fresh_machine.Reads as fresh-machine-reads
+use Rattle.runs.proofs.refused.Reads as refused-reads
 use Rattle.runs.proofs.run.Reads as run-reads
 
 -- ---- the limits
@@ -146,10 +147,13 @@ returns c =
       subst (λ (s : State). Begins (r .run .result) (traced S (a .replaying) s (now (a .input))) (r .run .last .1 .1 .1 .1 .1 .1 .1 .1 .1 .0)) (first-state r) (r .run .ensures .1),
     )
 
+refused-requires : tie.Need-refused-requires
+refused-requires c κs = search needs
+
 -- src/lib.rt:280:1
 returns-2 : tie.Need-returns-2
 unfolding walkedOver
-returns-2 c = (sym (passed _ _ (tested (c .before) ∙ c .if1 .left)), tt)
+returns-2 c = (c .refused .ensures ∙ sym (passed _ _ (tested (c .before .before) ∙ c .before .if1 .left)), refused-begins _ _ _ _ _ (c .refused .ensures))
 
 pub walk-spec : {M : Type 1} → statement M
 walk-spec =
@@ -165,4 +169,5 @@ walk-spec =
     run-requires
     same-length
     returns
+    refused-requires
     returns-2)

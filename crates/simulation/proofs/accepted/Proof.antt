@@ -3,22 +3,18 @@ use lib.Seq.{length-take-le}
 use lib.ListN.{length, take}
 use Prim.Native.Nat.{ℕ, _*_, _/_, _≤_}
 use native.Mathlib.Omega.{arith}
-use mathlib.Core.Path.{_≡_, refl, sym, ap, subst, _∙_}
+use mathlib.Core.Path.{_≡_, refl, sym, ap, _∙_}
 use mathlib.Core.Bool.{false}
 use mathlib.Core.List.{List}
 use borrow.Author.Needs.{needs}
 use borrow.Author.Tests.{lt-ltb, le-ltb, le-leb}
-use Rattle.simulation.proofs.Written.{placed-over}
-use Rattle.simulation.specs.Simulation.{limited}
-use Rattle.step.specs.declared.Answer.{Answer}
-use Rattle.step.specs.declared.Answer.the-variants.{Ran}
-use Rattle.step.specs.declared.End.{End}
+use Rattle.simulation.proofs.Written.{out-most, put-out}
+use Rattle.simulation.specs.Simulation.{limited, bytesOut}
 use Rattle.step.specs.Traces.{trace}
 use Rattle.step.specs.Runs.{choices}
 use Rattle.step.specs.Maps.{begin}
 use Rattle.step.specs.Machine.{start, noWrite}
 use Rattle.step.proofs.Runs.{length-trace, length-choices}
-use Rattle.runs.specs.Walks.{Begins}
 use Rattle.runs.proofs.Steps.{runs-over, walked-follow}
 use Rattle.records.specs.Sets.{Set, setBy}
 use Rattle.records.specs.Maps.{mapValue}
@@ -30,6 +26,7 @@ use Rattle.simulation.proofs.accepted.Reads as reads
 use Rattle.simulation.proofs.accepted.Lts as lts
 use Rattle.base.proofs.place.Reads as place-reads
 use Rattle.runs.proofs.walk.Reads as walk-reads
+use Rattle.simulation.proofs.bytes_out.Reads as bytes-out-reads
 
 -- ---- after the run
 
@@ -66,76 +63,69 @@ output-of r = trace (set-of r) (start (mapValue (map-of r))) noWrite (choices (s
 output-length : (r : tie.After-walk) → length (output-of r) ≡ 24 * length (schedule-of r)
 output-length r = length-trace (set-of r) _ noWrite (choices (schedule-of r)) ∙ ap (λ (n : ℕ). 24 * n) (length-choices (schedule-of r))
 
--- an accepted run's bytes begin with its trace
-begins : (r : tie.After-walk) {steps : ℕ} {end : End} → r .walk .result ≡ Ran steps end → take (24 * length (schedule-of r)) (bytes-of r) ≡ output-of r
-begins r t = ap (λ (k : ℕ). take k (bytes-of r)) (sym (output-length r)) ∙ subst (λ (a : Answer). Begins a (output-of r) (bytes-of r)) t (r .walk .ensures .1)
+-- what is written lies within the bytes
+sized : (c : tie.After-bytes-out) → let r = c .before .before in c .bytes-out .result ≤ 24 * length (schedule-of r)
+sized c = let r = c .before .before in omega (arith, c .bytes-out .ensures, out-most (r .walk .result) (24 * length (schedule-of r)))
 
--- src/lib.rt:23:9
+-- src/lib.rt:36:9
 returns : tie.Need-returns
 unfolding limited
 returns c = (sym (chosen _ _ (lt-ltb _ _ (c .if1 .taken))), refl)
 
--- src/lib.rt:28:22
+-- src/lib.rt:41:22
 mul-if2 : tie.Need-mul-if2
 mul-if2 c = search needs
 
--- src/lib.rt:29:9
+-- src/lib.rt:42:9
 returns-2 : tie.Need-returns-2
 unfolding limited
 returns-2 c = (sym (passed _ _ (le-ltb _ _ (c .before .if1 .left)) ∙ chosen _ _ (lt-ltb _ _ (c .if2 .taken))), refl)
 
--- src/lib.rt:36:64
+-- src/lib.rt:49:64
 slice-aggregate-walk : tie.Need-slice-aggregate-walk
 slice-aggregate-walk c = search needs
 
--- src/lib.rt:36:9
+-- src/lib.rt:49:9
 walk-requires : tie.Need-walk-requires
 walk-requires c κs = search needs
 
--- src/lib.rt:38:23
-enum-known-answer : tie.Need-enum-known-answer
-enum-known-answer c = search needs
+-- src/lib.rt:50:34
+mul-bytes-out : tie.Need-mul-bytes-out
+mul-bytes-out c = search needs
 
--- src/lib.rt:39:44
-mul-bytes : tie.Need-mul-bytes
-mul-bytes c = search needs
+-- src/lib.rt:50:9
+bytes-out-requires : tie.Need-bytes-out-requires
+bytes-out-requires c κs = search needs
 
--- src/lib.rt:39:35
+-- src/lib.rt:51:27
 array-share-prefix-bytes : tie.Need-array-share-prefix-bytes
-array-share-prefix-bytes c = search needs
+array-share-prefix-bytes c = let o = c .before in omega (arith, sized o, short (o .before .before))
 
--- src/lib.rt:39:35
+-- src/lib.rt:51:27
 slice-aggregate-place : tie.Need-slice-aggregate-place
 slice-aggregate-place c =
-    let r = c .before .before .before .before .before .before in
-    sym (length-take-le (24 * length (schedule-of r)) (bytes-of r) (omega (arith, r .walk .kept .1 .1 .1 .1 .1 .0, short r)))
+    let o = c .before .before in
+    let r = o .before .before in
+    sym (length-take-le (o .bytes-out .result) (bytes-of r) (omega (arith, r .walk .kept .1 .1 .1 .1 .1 .0, sized o, short r)))
 
--- src/lib.rt:39:13
+-- src/lib.rt:51:5
 place-requires : tie.Need-place-requires
 place-requires c κs = search needs
 
--- src/lib.rt:42:27
-enum-known-answer-2 : tie.Need-enum-known-answer-2
-enum-known-answer-2 c = search needs
-
--- src/lib.rt:16:1
+-- src/lib.rt:29:1
 same-length : tie.Need-same-length
 same-length c = search needs
 
--- src/lib.rt:16:1
+-- src/lib.rt:29:1
 returns-3 : tie.Need-returns-3
 returns-3 c =
-    let r = c .before .before .before .before .before .before .before .before .before in
-    let t = c .before .before .before .before .before .before .answer .given .1 in (
-      sym (decided r ∙ t),
+    let o = c .before .before .before .before .before in
+    let r = o .before .before in (
+      sym (decided r),
       c .before .before .place .ensures
-          ∙ ap (placed (out-of r) 0) (begins r t)
-          ∙ placed-over (out-of r) (output-of r) (omega (arith, output-length r, r .before .before .if2 .left)),
+          ∙ ap (λ (k : ℕ). placed (out-of r) 0 (take k (bytes-of r))) (o .bytes-out .ensures)
+          ∙ put-out (r .walk .result) (bytes-of r) (output-of r) (out-of r) (24 * length (schedule-of r)) (output-length r) (r .before .before .if2 .left) (r .walk .ensures .1),
     )
-
--- src/lib.rt:16:1
-returns-4 : tie.Need-returns-4
-returns-4 c = let r = c .before .before .before .before in (sym (decided r ∙ c .before .answer2 .given .1), refl)
 
 pub accepted-spec : {M : Type 1} → statement M
 accepted-spec =
@@ -146,12 +136,10 @@ accepted-spec =
     returns-2
     slice-aggregate-walk
     walk-requires
-    enum-known-answer
-    mul-bytes
+    mul-bytes-out
+    bytes-out-requires
     array-share-prefix-bytes
     slice-aggregate-place
     place-requires
-    enum-known-answer-2
     same-length
-    returns-3
-    returns-4)
+    returns-3)
