@@ -2,30 +2,30 @@
 use Prim.Native.Nat.{ℕ, zero, suc, _+_, _-_, _*_, _/_, _%_, _≤_, _<_}
 use mathlib.Core.Path.{_≡_, refl, ap, ap₂, sym, subst, subst⁻¹, _∙_}
 use mathlib.Core.Bool.{Bool, true, false, cond, not, _&&_, _||_}
-use mathlib.Core.List.{List, [], _∷_, _++_, append-assoc}
+use mathlib.Core.List.{List, _∷_, _++_, append-assoc}
 use native.Mathlib.Numerals.{add-one}
 use native.Mathlib.Omega.{arith}
 use borrow.Author.Tests.{le-leb, lt-ltb, ltb-true}
 use lib.Dec.{eqb, leb, ltb}
-use lib.ListN.{length, length-set, getD, set, take, drop, drop-of-length-le, List·getD-eq-default}
+use lib.ListN.{length, getD, set, take, drop, drop-of-length-le}
 use lib.Seq.{drop-cons}
 use Rattle.base.specs.Below.{every}
 use Rattle.base.specs.Bytes.{placed}
 use Rattle.base.proofs.Bytes.{take-placed}
-use Rattle.base.proofs.Choice.{chosen, and-true, and-right}
+use Rattle.base.proofs.Choice.{chosen, and-true}
 use Rattle.records.specs.Instructions.{EXIT}
 use Rattle.records.specs.Maps.{cells, addressAt, valueAt, holds, content}
-use Rattle.records.specs.Sets.{Set, setBy}
+use Rattle.records.specs.Sets.{Set}
 use Rattle.records.specs.declared.Layout.{Layout}
 use Rattle.records.specs.declared.Statement.{Statement}
-use Rattle.step.proofs.Four.{four, stored}
+use Rattle.step.proofs.Four.{stored}
 use Rattle.step.proofs.Runs.{length-traceStep, takes-actor, taken-takes}
 use Rattle.step.proofs.Settled.{outcome-by, written-by, shown-by, stateBy, stepped, quiet-state}
 use Rattle.step.specs.Held.{stateOf, memoryOf, knownOf, heldOf, canStep, waits, statementBy, threadBy, writtenBy, outcomeBy, quiet, marksSettled, threadsSettled, onTaken, Advances}
-use Rattle.step.specs.Machine.{State, fresh, unmarked, actor, permitted, start, step, written, noWrite, memoryAfter}
+use Rattle.step.specs.Machine.{State, fresh, unmarked, actor, start, step, written, noWrite, memoryAfter}
 use Rattle.step.specs.Maps.{Held, begin, outcome, advanced, knownAfter, onOutcome, follow}
 use Rattle.step.specs.Runs.{choiceOf, choices, somePermitted, endOf}
-use Rattle.step.specs.Traces.{stepBytes, traceStep, trace, shown}
+use Rattle.step.specs.Traces.{stepBytes, traceStep, trace}
 use Rattle.step.specs.declared.Answer.{Answer}
 use Rattle.step.specs.declared.Answer.the-variants.{Refused}
 use Rattle.step.specs.declared.Choice.{Choice}

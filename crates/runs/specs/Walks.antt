@@ -60,6 +60,7 @@ walked S replaying input h w i (suc k) =
 abbrev pub within : Set → Bool → (cells count room : ℕ) → Bool
 within S replaying cells count room = leb (S .threads) 4 && leb cells 256 && leb count 64 && (replaying || leb count (room / 24))
 
+-- from the start over a map; 17 past the limits
 unfoldable pub walkedOver : Set → (map : List ℕ) → Bool → (input : List ℕ) (room : ℕ) → Answer
 walkedOver S map replaying input room =
     cond (within S replaying (cells map) (countOf replaying (length input)) room)

@@ -3,7 +3,7 @@ ghost use mathlib.Core.Path.{_≡_};
 ghost use mathlib.Core.Bool.{true, false, cond, _&&_};
 ghost use Prim.Native.Nat.{ℕ, _+_, _*_, _≤_};
 ghost use lib.Dec.{leb};
-ghost use lib.ListN.{length, getD};
+ghost use lib.ListN.{length};
 ghost use Rattle.records.specs.Maps.{cells, addressAt, valueAt, holds, content, mapValue};
 ghost use Rattle.records.specs.Sets.{setBy};
 ghost use Rattle.step.specs.Held.{stateOf, heldOf, memoryOf, knownOf};

@@ -77,22 +77,27 @@ abbrev pub statementBy : Set → Choice → Thread → Statement
 statementBy S (Execute t) x = S .statement t (x .pc)
 statementBy S (Flush t) x = nothing
 
+-- the choice is permitted where its thread is there
 abbrev pub allowed : Choice → Statement → Thread → Bool → Bool
 allowed (Execute t) i x waiting = not (x .halted) && not waiting && (not (needsEmpty (i .number)) || isEmpty x)
 allowed (Flush t) i x waiting = not (isEmpty x)
 
+-- the registers afterwards
 abbrev pub threadBy : Choice → Statement → Thread → (ℕ → ℕ) → Thread
 threadBy (Execute t) i x memory = executed i memory x
 threadBy (Flush t) i x memory = flushed x
 
+-- the cell written
 abbrev pub writtenBy : Choice → Statement → Thread → (ℕ → ℕ) → Written
 writtenBy (Execute t) i x memory = cond (casMatches i x memory) (wrote (address i x memory) (x .accu)) noWrite
 writtenBy (Flush t) i x memory = wrote (x .adr) (x .val)
 
+-- the cells read
 abbrev pub readsBy : Choice → Statement → Thread → (ℕ → ℕ) → List ℕ
 readsBy (Execute t) i x memory = cellsRead i x memory
 readsBy (Flush t) i x memory = []
 
+-- the outcome, where the thread can step at all
 abbrev pub outcomeBy : Bool → Choice → Statement → Thread → Bool → (ℕ → ℕ) → (ℕ → Bool) → Outcome
 outcomeBy can c i x waiting memory known =
     cond (can && allowed c i x waiting) (cond (knowsAll known (readsBy c i x memory)) Taken Lacking) NotPermitted

@@ -1,5 +1,5 @@
 use Rattle.base.proofs.Choice.{chosen}
-use mathlib.Core.Path.{_≡_, sym}
+use mathlib.Core.Path.{sym}
 use borrow.Author.Needs.{needs}
 use Rattle.runs.proofs.count_of.Statement.{statement}
 use Rattle.runs.proofs.count_of.Tie as tie

@@ -1,5 +1,4 @@
 use Rattle.step.specs.declared.Choice.the-variants.{Execute, Flush}
-use Rattle.step.specs.declared.Choice.{Choice}
 use Rattle.step.specs.Traces.{stepChoice}
 use Rattle.step.specs.Runs.{choiceOf}
 use Rattle.base.proofs.Choice.{chosen, passed}

@@ -1,34 +1,32 @@
-use Prim.Native.Nat.{ℕ, _+_, _-_, _*_, _/_, _%_, _≤_, _<_}
-use mathlib.Core.Bool.{Bool, true, false, cond, not, _&&_, _||_}
-use mathlib.Core.List.{List, [], _∷_, _++_, append-nil}
+use Prim.Native.Nat.{ℕ, _+_, _-_, _*_, _%_, _≤_, _<_}
+use mathlib.Core.Bool.{Bool, true, false, cond, not, _&&_}
+use mathlib.Core.List.{List, [], _++_, append-nil}
 use mathlib.Core.Path.{_≡_, refl, ap, ap₂, sym, subst, _∙_}
 use native.Mathlib.Omega.{arith}
 use denote.Ref.{now}
 use borrow.Author.Needs.{needs}
-use borrow.Author.Tests.{not-true, not-false}
+use borrow.Author.Tests.{not-false}
 use lib.ListN.{length, length-set, getD, set, take, drop, drop-of-length-le}
 use lib.Dec.{ltb}
 use lib.Seq.{length-take-le}
-use Rattle.base.specs.Below.{every}
 use Rattle.base.specs.Bytes.{placed}
 use Rattle.base.proofs.Choice.{chosen, passed}
 use Rattle.records.specs.Sets.{Set, setBy}
 use Rattle.step.specs.Held.{stateOf, memoryOf, knownOf, heldOf, canStep, marksSettled}
 use Rattle.step.specs.Machine.{State, fresh, unmarked, noWrite, actor, step, written}
 use Rattle.step.specs.Maps.{Held, outcome, advanced}
-use Rattle.step.specs.Runs.{choiceOf, choices}
+use Rattle.step.specs.Runs.{choices}
 use Rattle.step.specs.Traces.{stepBytes, traceStep, trace}
 use Rattle.step.specs.declared.Answer.{Answer}
 use Rattle.step.specs.declared.Answer.the-variants.{Ran}
 use Rattle.step.specs.declared.Choice.{Choice}
 use Rattle.step.specs.declared.Machine.{Machine}
 use Rattle.step.specs.declared.Mark.{Mark}
-use Rattle.step.specs.declared.Outcome.{Outcome}
 use Rattle.step.specs.declared.Outcome.the-variants.{Taken}
 use Rattle.step.specs.declared.Stepped.{Stepped}
 use Rattle.step.specs.declared.Written.{Written}
-use Rattle.runs.specs.Walks.{countOf, agrees, refusalOf, onRefusal, walked, traced}
-use Rattle.runs.proofs.Steps.{on-refused, refused-begins, stands, rest, walked-next, Told, came-out, refused-so, bytes-so, wrote-so, quiet-held, loud-held, has-room, end-is, trace-more}
+use Rattle.runs.specs.Walks.{countOf, agrees, refusalOf, onRefusal, walked}
+use Rattle.runs.proofs.Steps.{on-refused, refused-begins, stands, rest, walked-next, Told, refused-so, bytes-so, wrote-so, quiet-held, loud-held, has-room, end-is, trace-more}
 use Rattle.runs.proofs.run.Statement.{statement}
 use Rattle.runs.proofs.run.Tie as tie
 use Rattle.runs.proofs.run.Reads as reads

@@ -1,7 +1,6 @@
-use Prim.Native.Nat.{ℕ, _+_, _*_, _/_, _≤_}
+use Prim.Native.Nat.{ℕ, _*_, _/_, _≤_}
 use mathlib.Core.Bool.{Bool, true, false, _&&_, _||_}
-use mathlib.Core.List.{List}
-use mathlib.Core.Path.{_≡_, refl, ap, ap₂, sym, subst, _∙_}
+use mathlib.Core.Path.{_≡_, ap, ap₂, sym, subst, _∙_}
 use native.Mathlib.Omega.{arith}
 use denote.Ref.{now}
 use borrow.Author.Needs.{needs}
@@ -10,7 +9,7 @@ use lib.Dec.{leb}
 use lib.ListN.{length}
 use Rattle.base.proofs.Choice.{chosen, passed, and-left, and-right}
 use Rattle.records.specs.Maps.{cells, mapValue}
-use Rattle.records.specs.Sets.{Set, setBy}
+use Rattle.records.specs.Sets.{setBy}
 use Rattle.step.specs.Held.{stateOf, memoryOf, heldOf}
 use Rattle.step.specs.Machine.{State, start, noWrite}
 use Rattle.step.specs.Maps.{Held, begin}

@@ -1,7 +1,7 @@
 use denote.Ref.{now}
 use lib.Seq.{length-take-le}
 use lib.ListN.{length, take}
-use Prim.Native.Nat.{ℕ, _*_, _/_, _≤_}
+use Prim.Native.Nat.{ℕ, _*_, _≤_}
 use native.Mathlib.Omega.{arith}
 use mathlib.Core.Path.{_≡_, refl, sym, ap, _∙_}
 use mathlib.Core.Bool.{false}
@@ -9,7 +9,7 @@ use mathlib.Core.List.{List}
 use borrow.Author.Needs.{needs}
 use borrow.Author.Tests.{lt-ltb, le-ltb, le-leb}
 use Rattle.simulation.proofs.Written.{out-most, put-out}
-use Rattle.simulation.specs.Simulation.{limited, bytesOut}
+use Rattle.simulation.specs.Simulation.{limited}
 use Rattle.step.specs.Traces.{trace}
 use Rattle.step.specs.Runs.{choices}
 use Rattle.step.specs.Maps.{begin}

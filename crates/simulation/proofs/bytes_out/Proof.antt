@@ -1,4 +1,4 @@
-use mathlib.Core.Path.{_≡_, sym, ap}
+use mathlib.Core.Path.{sym, ap}
 use Rattle.simulation.specs.Simulation.{bytesOut}
 use Rattle.step.specs.declared.Answer.{Answer}
 use borrow.Author.Needs.{needs}

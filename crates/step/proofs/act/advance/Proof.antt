@@ -12,7 +12,7 @@ use Rattle.base.proofs.Choice.{chosen, passed, and-true, and-false, and-left, a
 use Rattle.records.specs.Sets.{Set, setBy, statementAt, nothing}
 use Rattle.records.specs.declared.Layout.{Layout}
 use Rattle.records.specs.declared.Statement.{Statement}
-use Rattle.step.specs.Held.{memoryOf, memoryIn, knownOf, knownIn, canStep, waits, allowed, threadBy, statementBy, writtenBy, readsBy, outcomeBy, Advances}
+use Rattle.step.specs.Held.{memoryOf, memoryIn, knownOf, knownIn, canStep, waits, allowed, threadBy, statementBy, writtenBy, readsBy, outcomeBy}
 use Rattle.step.specs.Machine.{unmarked, actor, memoryAfter}
 use Rattle.step.specs.Maps.{knowsAll, knownAfter}
 use Rattle.step.specs.declared.Choice.{Choice}

@@ -3,8 +3,8 @@ use Rattle.base.specs.Below.{every}
 use lib.ListN.{getD}
 use native.Mathlib.Omega.{arith}
 use mathlib.Core.List.{[], _∷_}
-use mathlib.Core.Bool.{Bool, false}
-use mathlib.Core.Path.{_≡_, refl, ap, sym, _∙_}
+use mathlib.Core.Bool.{false}
+use mathlib.Core.Path.{refl, ap, sym}
 use Prim.Native.Nat.{ℕ}
 use Rattle.step.proofs.act.all_halted.Statement.{statement}
 use Rattle.step.proofs.act.all_halted.Tie as tie

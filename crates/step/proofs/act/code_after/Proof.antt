@@ -1,6 +1,6 @@
 use Rattle.base.proofs.Choice.{chosen, passed}
 use borrow.Author.Tests.{eq-eqb, ne-eqb}
-use mathlib.Core.Path.{_≡_, sym}
+use mathlib.Core.Path.{sym}
 use Rattle.step.proofs.act.code_after.Statement.{statement}
 use Rattle.step.proofs.act.code_after.Tie as tie
 use Rattle.step.proofs.act.code_after.Reads as reads

@@ -8,7 +8,7 @@ use lib.Dec.{eqb}
 use mathlib.Core.Bool.{Bool, false, _||_}
 use mathlib.Core.Path.{_≡_, refl, ap, sym, _∙_}
 use native.Mathlib.Omega.{arith}
-use Prim.Native.Nat.{ℕ, _≤_}
+use Prim.Native.Nat.{ℕ}
 use borrow.Author.Needs.{needs}
 use Rattle.step.proofs.act.ended_after.Statement.{statement}
 use Rattle.step.proofs.act.ended_after.Tie as tie

@@ -1,6 +1,6 @@
 use Rattle.base.proofs.Choice.{chosen, passed}
 use borrow.Author.Tests.{lt-ltb, le-ltb}
-use mathlib.Core.Path.{_≡_, sym, _∙_}
+use mathlib.Core.Path.{sym, _∙_}
 use borrow.Author.Needs.{needs}
 use Rattle.step.proofs.act.marks_after.Statement.{statement}
 use Rattle.step.proofs.act.marks_after.Tie as tie

@@ -1,7 +1,7 @@
 use Rattle.step.specs.declared.Choice.{Choice}
 use Rattle.step.specs.Held.{statementBy}
 use Rattle.records.specs.Sets.{setBy}
-use mathlib.Core.Path.{_≡_, sym, ap, _∙_}
+use mathlib.Core.Path.{sym, ap, _∙_}
 use denote.Ref.{now}
 use borrow.Author.Needs.{needs}
 use Rattle.step.proofs.act.statement_of.Statement.{statement}

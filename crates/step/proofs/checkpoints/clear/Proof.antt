@@ -5,8 +5,7 @@ use Rattle.step.specs.Machine.{unmarked, cleared, opened}
 use Rattle.step.specs.declared.Mark.{Mark}
 use mathlib.Core.Bool.{Bool, cond}
 use mathlib.Core.Path.{_≡_, sym, ap, _∙_}
-use native.Mathlib.Omega.{arith}
-use Prim.Native.Nat.{ℕ, _≤_}
+use Prim.Native.Nat.{ℕ}
 use lib.ListN.{length, getD, List·getD-eq-default}
 use denote.Ref.{now}
 use borrow.Author.Needs.{needs}

@@ -1,6 +1,6 @@
 use Rattle.step.specs.Machine.{unmarked, opened}
 use Rattle.records.specs.Sets.{setBy}
-use mathlib.Core.Path.{_≡_, sym, ap, _∙_}
+use mathlib.Core.Path.{sym, ap, _∙_}
 use mathlib.Core.Bool.{Bool, _&&_}
 use lib.ListN.{getD}
 use denote.Ref.{now}

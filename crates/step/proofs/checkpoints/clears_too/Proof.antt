@@ -2,7 +2,7 @@ use Rattle.step.specs.Machine.{unmarked, opened}
 use Rattle.records.specs.Sets.{setBy}
 use Rattle.base.proofs.Choice.{and-left, and-right}
 use borrow.Author.Tests.{eqb-true}
-use mathlib.Core.Path.{_≡_, sym, ap, ap₂, _∙_}
+use mathlib.Core.Path.{sym, ap, ap₂, _∙_}
 use mathlib.Core.Bool.{Bool, _&&_}
 use lib.ListN.{getD}
 use lib.Dec.{eqb}

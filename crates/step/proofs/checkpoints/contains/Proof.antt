@@ -9,10 +9,10 @@ use Rattle.records.specs.declared.Layout.{Layout}
 use Rattle.step.specs.Machine.{isCheck, contains}
 use borrow.Author.Tests.{lt-ltb}
 use mathlib.Core.List.{List}
-use mathlib.Core.Path.{_≡_, sym, ap, ap₂, _∙_, refl}
-use mathlib.Core.Bool.{Bool, false, cond, _&&_}
+use mathlib.Core.Path.{_≡_, sym, ap, _∙_, refl}
+use mathlib.Core.Bool.{Bool, false, _&&_}
 use native.Mathlib.Omega.{arith}
-use lib.Dec.{eqb, ltb}
+use lib.Dec.{eqb}
 use lib.ListN.{getD}
 use Prim.Native.Nat.{ℕ, _+_, _≤_, _<_, _-_}
 use denote.Ref.{now}

@@ -1,4 +1,4 @@
-use mathlib.Core.Path.{_≡_, sym}
+use mathlib.Core.Path.{sym}
 use Rattle.base.proofs.Choice.{chosen}
 use borrow.Author.Needs.{needs}
 use Rattle.step.proofs.checkpoints.kept.Statement.{statement}

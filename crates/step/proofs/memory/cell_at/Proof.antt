@@ -1,14 +1,13 @@
 use Rattle.step.proofs.Groups.{least-group}
 use Rattle.records.specs.Maps.{cellAt}
-use Rattle.base.specs.Below.{some, least}
+use Rattle.base.specs.Below.{least}
 use lib.Seq.{getD-take, getD-drop, length-take-le}
 use lib.ListN.{length, length-drop, getD, take, drop}
 use lib.Dec.{eqb}
 use denote.Ref.{now}
 use native.Mathlib.Omega.{arith}
-use mathlib.Core.Bool.{Bool, false}
 use mathlib.Core.Path.{_≡_, refl, ap, sym, _∙_}
-use Prim.Native.Nat.{ℕ, _+_, _*_, _-_, _≤_, _<_}
+use Prim.Native.Nat.{ℕ, _+_, _*_, _-_, _≤_}
 use borrow.Author.Needs.{needs}
 use Rattle.step.proofs.memory.cell_at.Statement.{statement}
 use Rattle.step.proofs.memory.cell_at.Tie as tie
