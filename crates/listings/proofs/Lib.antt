@@ -1,0 +1,3 @@
+-- Laws of what is printed, and listings computed by the definition.
+mod Samples
+pub mod Texts

@@ -1,0 +1,2 @@
+// What the listing program prints for a set and a map: a line for each step, then the last line.
+mod output;
