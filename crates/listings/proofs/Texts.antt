@@ -11,7 +11,7 @@ use lib.ListN.{length, take, drop, length-append, length-drop}
 use lib.Seq.{take-all, take-append-le, take-append-add, take-take, length-take-le}
 use Rattle.base.specs.Bytes.{splice, placed, over}
 use Rattle.base.proofs.Bytes.{placed-fits, over-more, length-over}
-use Rattle.listings.specs.Listings.{places, digits, decimal}
+use Rattle.listings.specs.Listings.{places, digits, decimal, item}
 use Rattle.listings.specs.Outputs.{printed, count, Stands, Prints}
 
 -- ---- an output with a text printed into it
@@ -128,3 +128,10 @@ prints-both {at} {mid} {next} {out} {between} {afterwards} first second p q befo
 pub prints-as : {at next : ℕ} {out afterwards : List ℕ} {first second : List ℕ} → first ≡ second → Prints at out first next afterwards → Prints at out second next afterwards
 prints-as {at} {next} {out} {afterwards} {first} {second} e p before xs s =
     subst (λ (text : List ℕ). Stands (before ++ text) xs next afterwards) e (p before xs s)
+
+pub prints-item : {at next : ℕ} {out afterwards : List ℕ} {n m : ℕ} → n ≡ m → Prints at out (item (decimal n)) next afterwards → Prints at out (item (decimal m)) next afterwards
+prints-item e p = prints-as (ap (λ (k : ℕ). item (decimal k)) e) p
+
+-- several texts, the last ones first put together
+pub stands-as : {text other xs : List ℕ} {at : ℕ} {out : List ℕ} → Stands text xs at out → text ≡ other → Stands other xs at out
+stands-as {text} {other} {xs} {at} {out} s e = subst (λ (t : List ℕ). Stands t xs at out) e s

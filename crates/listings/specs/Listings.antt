@@ -64,9 +64,13 @@ argument i =
     cond (hasNone (i .number)) (text "-")
     (cond (eqb (i .mode) 1) (text "[" ++ decimal (i .argument) ++ text "]") (decimal (i .argument)))
 
--- a written cell, {} if none
+-- a written cell
+abbrev pub pair : (a v : ℕ) → List ℕ
+pair a v = text "{(" ++ decimal a ++ text "," ++ decimal v ++ text ")}"
+
+-- what a step wrote, {} if nothing
 unfoldable pub cell : Written → List ℕ
-cell w = cond (w .done) (text "{(" ++ decimal (w .address) ++ text "," ++ decimal (w .value) ++ text ")}") (text "{}")
+cell w = cond (w .done) (pair (w .address) (w .value)) (text "{}")
 
 -- A line: thread, pc, word, argument, accu, mem, adr, val, full, and the cell that the previous step wrote.
 unfoldable pub lineOf : ℕ → Statement → Thread → Written → List ℕ
