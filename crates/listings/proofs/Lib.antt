@@ -1,4 +1,6 @@
 -- Laws of what is printed, and listings computed by the definition.
+pub mod Lowest
+pub mod Runs
 mod Samples
 pub mod Texts
 pub mod StepLines

@@ -33,3 +33,19 @@ two-bytes n = omega (arith, div-add-mod' n 256)
 done-bit : (b : Bool) → eqb (bit b) 1 ≡ b
 done-bit true = refl
 done-bit false = refl
+
+-- the bytes of a trace step give its line
+line-of-bytes : (t : ℕ) (i : Statement) (x : Thread) (w : Written) → lineAt (stepBytes t i x w) ≡ lineOf t i x w
+unfolding lineAt lineOf stepBytes
+line-of-bytes t i x w =
+    λ k.
+    (item (decimal t) ++ item (decimal (two-bytes (x .pc) k)) ++ item (name (i .number))
+    ++ item (argument (record { number = i .number; mode = i .mode; argument = two-bytes (i .argument) k })))
+    ++ (item (decimal (two-bytes (x .accu) k)) ++ item (decimal (two-bytes (x .mem) k)) ++ item (decimal (two-bytes (x .adr) k))
+    ++ item (decimal (two-bytes (x .val) k)) ++ item (decimal (bit (x .full))))
+    ++ cell (record { done = done-bit (w .done) k; address = two-bytes (w .address) k; value = two-bytes (w .value) k })
+    ++ text "\n"
+
+pub line-of-step : (S : Set) (s : State) (w : Written) (c : Choice) → lineAt (traceStep S s w c) ≡ line S s w c
+unfolding traceStep line
+line-of-step S s w c = line-of-bytes (actor c) (shown S s c) (s .threads (actor c)) w
