@@ -1,15 +1,16 @@
 -- Laws of a run and one choice more: what is held, written, followed, traced and printed. Assumes nothing.
 use Prim.Native.Nat.{ℕ, zero, suc, _+_, _*_, _≤_, _<_}
 use mathlib.Core.Path.{_≡_, refl, ap, ap₂, sym, _∙_}
-use mathlib.Core.Bool.{Bool, true, false, _&&_}
+use mathlib.Core.Bool.{true}
 use mathlib.Core.List.{List, [], _∷_, _++_, append-assoc, append-nil}
 use native.Mathlib.Omega.{arith}
 use lib.Dec.{ltb}
-use lib.ListN.{length}
+use lib.ListN.{length, set, take}
+use lib.Seq.{take-suc-set}
+use native.Mathlib.Numerals.{add-one}
 use borrow.Author.Tests.{le-ltb}
 use Rattle.base.proofs.Choice.{chosen, passed}
-use Rattle.records.specs.Maps.{mapAccepted}
-use Rattle.records.specs.Sets.{Set, setOf, setAccepted}
+use Rattle.records.specs.Sets.{Set, setOf}
 use Rattle.step.specs.Machine.{State, step, written}
 use Rattle.step.specs.Maps.{Held, begin, outcome, advanced, onOutcome, follow}
 use Rattle.step.specs.Runs.{choiceOf, choices, after, endOf}
@@ -23,6 +24,7 @@ use Rattle.step.specs.declared.Written.{Written}
 use Rattle.step.proofs.Runs.{AllTaken}
 use Rattle.simulation.specs.Simulation.{limited, simulated}
 use Rattle.listings.specs.Listings.{line}
+use Rattle.listings.specs.Schedules.{accepts}
 
 -- what is held after a run
 unfoldable pub heldAfter : Set → Held → List Choice → Held
@@ -95,12 +97,12 @@ state-after S h (c ∷ run) = state-after S (advanced S h c) run
 
 -- ---- simulation of an accepted set and map
 
--- a set and a map that 9 does not refuse
-abbrev pub accepts : (set map : List ℕ) → Bool
-accepts set map = setAccepted set && mapAccepted 256 map
-
 pub simulated-runs : (set map schedule : List ℕ) → accepts set map ≡ true → length schedule ≤ 64 →
     simulated set map schedule 1536 ≡ follow (setOf set) (begin map) 0 (choices schedule)
 unfolding simulated limited
 simulated-runs set map schedule a h =
     chosen _ _ a ∙ passed _ _ (le-ltb 64 (length schedule) (omega arith)) ∙ passed _ _ (le-ltb 1536 (24 * length schedule) (omega arith))
+
+-- the first bytes of a schedule with a byte stored after them
+pub stored : (first bytes : List ℕ) (k b : ℕ) → take k bytes ≡ first → k < length bytes → take (k + 1) (set bytes k b) ≡ first ++ (b ∷ [])
+stored first bytes k b e h = rw add-one (take-suc-set bytes k b h ∙ ap (λ (xs : List ℕ). xs ++ (b ∷ [])) e)

@@ -1,12 +1,18 @@
 -- How the code finds the lowest choice: it tries the eight bytes that may be permitted. Assumes nothing.
 use Prim.Native.Nat.{ℕ, _+_}
-use mathlib.Core.Bool.{Bool, false, cond, not}
+use mathlib.Core.Bool.{Bool, false, cond, not, _&&_}
 use mathlib.Core.List.{List, [], _∷_, _++_}
 use lib.Dec.{eqb, ltb}
 use Rattle.base.specs.Below.{least}
+use Rattle.records.specs.Maps.{mapAccepted}
+use Rattle.records.specs.Sets.{setAccepted}
 use Rattle.step.specs.declared.Answer.{Answer}
 use Rattle.step.specs.declared.Answer.the-variants.{Ran, Refused}
 use Rattle.simulation.specs.Simulation.{simulated}
+
+-- a set and a map that 9 does not refuse
+abbrev pub accepts : (set map : List ℕ) → Bool
+accepts set map = setAccepted set && mapAccepted 256 map
 
 -- the eight schedule bytes in order: executes by thread, then flushes by thread
 abbrev pub candidate : ℕ → ℕ
