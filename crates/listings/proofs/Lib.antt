@@ -1,4 +1,5 @@
 -- Laws of what is printed, and listings computed by the definition.
+pub mod Listed
 pub mod Lowest
 pub mod Runs
 mod Samples
