@@ -25,13 +25,14 @@ use Rattle.step.specs.declared.End.{End}
 use Rattle.step.specs.declared.Outcome.{Outcome}
 use Rattle.step.specs.declared.Outcome.the-variants.{Taken, NotPermitted, Lacking}
 use Rattle.step.specs.declared.Written.{Written}
-use Rattle.step.proofs.Runs.{AllTaken, follow-taken, length-choices, length-trace, length-traceStep, ran-taken, refused-ran, taken-takes}
-use Rattle.simulation.specs.Simulation.{simulated, scheduleTrace}
-use Rattle.listings.specs.Listings.{line, lastLine, refusedLine, lowest, onLowest, listingFrom}
-use Rattle.listings.specs.Outputs.{lastOf}
+use Rattle.step.proofs.Runs.{AllTaken, follow-taken, length-choices, length-trace, length-traceStep, ran-taken, ran-where, refused-ran, taken-takes}
+use Rattle.simulation.specs.Simulation.{limited, simulated, scheduleTrace}
+use Rattle.listings.specs.Listings.{line, lastLine, refusedLine, lowest, onLowest, listingFrom, listing}
+use Rattle.listings.specs.Outputs.{lineAt, lastOf}
 use Rattle.listings.specs.Schedules.{candidate, denies, allows, nextByte, accepts}
 use Rattle.listings.proofs.Lowest.{can, found, found-lowest, found-none}
 use Rattle.listings.proofs.Runs.{heldAfter, wroteAfter, linesOf, choices-more, held-more, wrote-more, lines-more, trace-more, taken-more, follow-more, state-after, simulated-runs}
+use Rattle.listings.proofs.StepLines.{line-of-step}
 
 -- ---- outcomes
 
@@ -209,3 +210,36 @@ module _ (set map : List ℕ) (a : accepts set map ≡ true) where
       ∙ ap (λ (xs : List ℕ). take 24 (drop (24 * length bytes) xs)) (append-assoc first last more)
       ∙ ap (take 24) (drop-at first (last ++ more) (24 * length bytes) n)
       ∙ take-at last more 24 (length-traceStep S (heldBy bytes .state) (wroteBy bytes) (choiceOf b))
+
+  -- its line after the lines before it
+  pub line-printed : (bytes trace : List ℕ) (b : ℕ) →
+      linesOf (setOf set) (begin map) noWrite (choices bytes) ++ lineAt (take 24 (drop (24 * length bytes) (over (scheduleTrace set map (bytes ++ (b ∷ []))) trace)))
+      ≡ linesOf (setOf set) (begin map) noWrite (choices (bytes ++ (b ∷ [])))
+  line-printed bytes trace b =
+      let S = setOf set in
+      ap (λ (more : List ℕ). linesOf S (begin map) noWrite (choices bytes) ++ more)
+      (ap lineAt (step-bytes bytes trace b) ∙ line-of-step S (heldBy bytes .state) (wroteBy bytes) (choiceOf b))
+      ∙ sym (ap (linesOf S (begin map) noWrite) (choices-more bytes b) ∙ lines-more S (choiceOf b) (begin map) noWrite (choices bytes))
+
+-- ---- the first call, with an empty schedule
+
+-- it runs where set and map are accepted
+pub ran-accepts : (set map : List ℕ) {m : ℕ} {e : End} → simulated set map [] 1 ≡ Ran m e → accepts set map ≡ true
+unfolding simulated
+ran-accepts set map p = ran-where (accepts set map) 9 0 p .0
+
+-- and is refused where they are not
+pub refused-listing : (set map : List ℕ) (number place : ℕ) → simulated set map [] 1 ≡ Refused number place → refusedLine number ≡ listing set map
+unfolding simulated limited follow choices listing
+refused-listing set map number place p = go (accepts set map) refl
+  where
+    go : (b : Bool) → accepts set map ≡ b → refusedLine number ≡ listing set map
+    go true e = refused-ran (sym (sym (chosen _ _ e) ∙ p))
+    go false e =
+        let q : Refused 9 0 ≡ Refused number place = sym (passed _ _ e) ∙ p in
+        let k : number ≡ 9 = cc in
+        ap refusedLine k ∙ sym (passed _ _ e)
+
+pub accepted-listing : (set map : List ℕ) → accepts set map ≡ true → listingFrom (setOf set) (begin map) noWrite 64 ≡ listing set map
+unfolding listing
+accepted-listing set map e = sym (chosen _ _ e)

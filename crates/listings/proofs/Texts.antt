@@ -6,9 +6,9 @@ use mathlib.Core.Bool.{Bool, true, false, cond}
 use lib.Dec.{ltb}
 use native.Mathlib.Omega.{arith}
 use native.Mathlib.Decide.{decLe}
-use native.Mathlib.Nat.{min-eq-left, min-eq-right, min-le-left}
+use native.Mathlib.Nat.{min-eq-left, min-eq-right, min-le-left, zero-min}
 use lib.ListN.{length, take, drop, length-append, length-drop}
-use lib.Seq.{take-all, take-append-le, take-append-add, take-take, length-take-le}
+use lib.Seq.{take-all, take-length, take-append-le, take-append-add, take-take, length-take-le}
 use Rattle.base.specs.Bytes.{splice, placed, over}
 use Rattle.base.proofs.Bytes.{placed-fits, over-more, length-over}
 use Rattle.listings.specs.Listings.{places, digits, decimal, item}
@@ -135,3 +135,8 @@ prints-item e p = prints-as (ap (λ (k : ℕ). item (decimal k)) e) p
 -- several texts, the last ones first put together
 pub stands-as : {text other xs : List ℕ} {at : ℕ} {out : List ℕ} → Stands text xs at out → text ≡ other → Stands other xs at out
 stands-as {text} {other} {xs} {at} {out} s e = subst (λ (t : List ℕ). Stands t xs at out) e s
+
+-- nothing printed yet
+pub stands-none : (xs : List ℕ) → Stands [] xs 0 xs
+unfolding printed over
+stands-none xs = record { place = sym (zero-min (length xs)); bytes = sym (take-length xs) }
