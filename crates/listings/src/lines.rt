@@ -1,6 +1,6 @@
 // The line of a step, from the bytes of its trace step, and the last line.
 ghost use Prim.Native.Nat.{_≤_, _<_};
-ghost use Rattle.listings.specs.Listings.{item as itemOf, name, argument as argumentOf, pair as pairOf, lastLine, refusedLine};
+ghost use Rattle.listings.specs.Listings.{item as itemOf, name as nameOf, argument as argumentOf, pair as pairOf, lastLine, refusedLine};
 ghost use Rattle.listings.specs.Outputs.{Prints, actAt, registersAt, cellAt, lineAt};
 use crate::output::item;
 use crate::output::number;
@@ -9,37 +9,57 @@ use records::Statement;
 use records::instructions::is_bare;
 use step::End;
 
-// Prints the word of instruction n, one of the first ten. Two halves: the check of a `match`
-// over byte strings grows with the square of their number.
-fn early_word(out: &mut [u8], at: usize, n: u8) -> usize
-    requires { ⌜ n < 10 ⌝ }
-    ensures { λ r. ⌜ Prints at (now (out .entry)) (name n) r (now (out .exit)) ⌝ }
+// The words of the instructions are printed by four functions: the check of a `match` over byte strings grows
+// with the square of their number.
+
+// Prints LOAD, STORE or FENCE.
+fn access_word(out: &mut [u8], at: usize, n: u8) -> usize
+    requires { ⌜ n < 3 ⌝ }
+    ensures { λ r. ⌜ Prints at (now (out .entry)) (nameOf n) r (now (out .exit)) ⌝ }
 {
     match n {
         0 => put(out, at, b"LOAD"),
         1 => put(out, at, b"STORE"),
-        2 => put(out, at, b"FENCE"),
+        _ => put(out, at, b"FENCE"),
+    }
+}
+
+// Prints the word of an instruction from ADD to MULI.
+fn arithmetic_word(out: &mut [u8], at: usize, n: u8) -> usize
+    requires { ⌜ (3 ≤ n) × (n < 9) ⌝ }
+    ensures { λ r. ⌜ Prints at (now (out .entry)) (nameOf n) r (now (out .exit)) ⌝ }
+{
+    match n {
         3 => put(out, at, b"ADD"),
         4 => put(out, at, b"ADDI"),
         5 => put(out, at, b"SUB"),
         6 => put(out, at, b"SUBI"),
         7 => put(out, at, b"MUL"),
-        8 => put(out, at, b"MULI"),
-        _ => put(out, at, b"JMP"),
+        _ => put(out, at, b"MULI"),
     }
 }
 
-// Prints the word of instruction n, which is none of the first ten, or FLUSH.
-fn late_word(out: &mut [u8], at: usize, n: u8) -> usize
-    requires { ⌜ 10 ≤ n ⌝ }
-    ensures { λ r. ⌜ Prints at (now (out .entry)) (name n) r (now (out .exit)) ⌝ }
+// Prints the word of a jump.
+fn jump_word(out: &mut [u8], at: usize, n: u8) -> usize
+    requires { ⌜ (9 ≤ n) × (n < 15) ⌝ }
+    ensures { λ r. ⌜ Prints at (now (out .entry)) (nameOf n) r (now (out .exit)) ⌝ }
 {
     match n {
+        9 => put(out, at, b"JMP"),
         10 => put(out, at, b"JZ"),
         11 => put(out, at, b"JNZ"),
         12 => put(out, at, b"JS"),
         13 => put(out, at, b"JNS"),
-        14 => put(out, at, b"JNZNS"),
+        _ => put(out, at, b"JNZNS"),
+    }
+}
+
+// Prints the word of an instruction from MEM on, or FLUSH; nothing past these.
+fn other_word(out: &mut [u8], at: usize, n: u8) -> usize
+    requires { ⌜ 15 ≤ n ⌝ }
+    ensures { λ r. ⌜ Prints at (now (out .entry)) (nameOf n) r (now (out .exit)) ⌝ }
+{
+    match n {
         15 => put(out, at, b"MEM"),
         16 => put(out, at, b"CAS"),
         17 => put(out, at, b"HALT"),
@@ -50,16 +70,20 @@ fn late_word(out: &mut [u8], at: usize, n: u8) -> usize
     }
 }
 
-// Prints the word of instruction n or FLUSH, and the space after it.
-fn word(out: &mut [u8], at: usize, n: u8) -> usize
-    ensures { λ r. ⌜ Prints at (now (out .entry)) (itemOf (name n)) r (now (out .exit)) ⌝ }
+// Prints the word of instruction n, or FLUSH.
+fn name(out: &mut [u8], at: usize, n: u8) -> usize
+    ensures { λ r. ⌜ Prints at (now (out .entry)) (nameOf n) r (now (out .exit)) ⌝ }
 {
-    if n < 10 {
-        let next = early_word(out, at, n);
-        return put(out, next, b" ");
+    if n < 3 {
+        return access_word(out, at, n);
     }
-    let next = late_word(out, at, n);
-    put(out, next, b" ")
+    if n < 9 {
+        return arithmetic_word(out, at, n);
+    }
+    if n < 15 {
+        return jump_word(out, at, n);
+    }
+    other_word(out, at, n)
 }
 
 // Prints an argument: - for none, an indirect one in brackets.
@@ -75,6 +99,14 @@ fn argument(out: &mut [u8], at: usize, i: Statement) -> usize
         return put(out, next, b"]");
     }
     number(out, at, i.argument)
+}
+
+// Prints the word of instruction n or FLUSH, and the space after it.
+fn word(out: &mut [u8], at: usize, n: u8) -> usize
+    ensures { λ r. ⌜ Prints at (now (out .entry)) (itemOf (nameOf n)) r (now (out .exit)) ⌝ }
+{
+    let next = name(out, at, n);
+    put(out, next, b" ")
 }
 
 // Prints thread, pc, word and argument of a trace step, each with the space after it.
