@@ -131,7 +131,7 @@ module _ (set map : List ℕ) (a : accepts set map ≡ true) where
       (λ j h. ap (λ (r : Answer). not (denies r)) (decided bytes (candidate j) l taken) ∙ denied-takes (setOf set) (heldBy bytes) (choiceOf (candidate j)) _ _ _))
 
   -- the last line after a schedule
-  pub finished : (bytes : List ℕ) → length bytes ≤ 64 → AllTaken (setOf set) (begin map) (choices bytes) →
+  finished : (bytes : List ℕ) → length bytes ≤ 64 → AllTaken (setOf set) (begin map) (choices bytes) →
       lastOf (simulated set map bytes 1536) ≡ lastLine (endOf (setOf set) (heldBy bytes .state))
   unfolding lastOf
   finished bytes l taken =
@@ -152,11 +152,11 @@ module _ (set map : List ℕ) (a : accepts set map ≡ true) where
       (follows-more S (begin map) listing (choices bytes) n (choiceOf b) f o (found-lowest S four (heldBy bytes .state) t ∙ sym q))
 
   -- the choice is refused: 14 where a first cell read is lacking, else nothing is permitted
-  pub stops : (bytes : List ℕ) (n number place : ℕ) → length bytes < 64 → AllTaken (setOf set) (begin map) (choices bytes) →
+  refused-next : (bytes : List ℕ) (n number place : ℕ) → length bytes < 64 → AllTaken (setOf set) (begin map) (choices bytes) →
       simulated set map (bytes ++ (nextByte set map bytes ∷ [])) 1536 ≡ Refused number place →
       listingFrom (setOf set) (heldBy bytes) (wroteBy bytes) (suc n) ≡ cond (eqb number 14) (refusedLine 14) (lastOf (simulated set map bytes 1536))
   unfolding listingFrom
-  stops bytes n number place l taken p = go (outcome S H (choiceOf b)) refl _ _ _ (sym (decided bytes b l taken) ∙ p)
+  refused-next bytes n number place l taken p = go (outcome S H (choiceOf b)) refl _ _ _ (sym (decided bytes b l taken) ∙ p)
     where
       S : Set
       S = setOf set
@@ -194,8 +194,23 @@ module _ (set map : List ℕ) (a : accepts set map ≡ true) where
           let t = subst (λ (c : Choice). takes S (H .state) c ≡ true) same (lacking-takes S H (choiceOf b) e) in
           shows Lacking (ap (outcome S H) (found-lowest S four (H .state) t ∙ sym same) ∙ e) ∙ ap printed k
 
+  pub stops : (listing bytes : List ℕ) (n number place : ℕ) → length bytes < 64 → Follows (setOf set) (begin map) listing (choices bytes) (suc n) →
+      simulated set map (bytes ++ (nextByte set map bytes ∷ [])) 1536 ≡ Refused number place →
+      linesOf (setOf set) (begin map) noWrite (choices bytes) ++ cond (eqb number 14) (refusedLine 14) (lastOf (simulated set map bytes 1536)) ≡ listing
+  stops listing bytes n number place l f p =
+      ap (λ (more : List ℕ). linesOf (setOf set) (begin map) noWrite (choices bytes) ++ more) (sym (refused-next bytes n number place l (f .taken) p)) ∙ sym (f .rest)
+
+  -- no step is left
+  pub ends : (listing bytes : List ℕ) (n : ℕ) → length bytes ≤ 64 → Follows (setOf set) (begin map) listing (choices bytes) n → n ≡ 0 →
+      linesOf (setOf set) (begin map) noWrite (choices bytes) ++ lastOf (simulated set map bytes 1536) ≡ listing
+  unfolding listingFrom
+  ends listing bytes n l f z =
+      ap (λ (more : List ℕ). linesOf (setOf set) (begin map) noWrite (choices bytes) ++ more)
+      (finished bytes l (f .taken) ∙ ap (listingFrom (setOf set) (heldBy bytes) (wroteBy bytes)) (sym z))
+      ∙ sym (f .rest)
+
   -- the bytes of the step that was taken
-  pub step-bytes : (bytes trace : List ℕ) (b : ℕ) →
+  step-bytes : (bytes trace : List ℕ) (b : ℕ) →
       take 24 (drop (24 * length bytes) (over (scheduleTrace set map (bytes ++ (b ∷ []))) trace)) ≡ traceStep (setOf set) (heldBy bytes .state) (wroteBy bytes) (choiceOf b)
   unfolding over scheduleTrace begin
   step-bytes bytes out b =

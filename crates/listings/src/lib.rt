@@ -107,7 +107,7 @@ fn run(set: &[u8], map: &[u8], out: &mut [u8]) -> usize
             }
         }
     }
-    finish(set, map, &schedule, out, at)
+    finish(set, map, &schedule[..k], out, at)
 }
 
 // Prints the listing of a set and a map from the start of an output on, and gives how many bytes it printed.

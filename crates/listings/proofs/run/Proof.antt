@@ -1,7 +1,7 @@
 use mathlib.Core.Bool.{cond}
 use lib.Dec.{eqb}
 use Rattle.listings.proofs.Texts.{stands-as}
-use Rattle.listings.proofs.Listed.{goes-on, stops, finished, line-printed}
+use Rattle.listings.proofs.Listed.{goes-on, stops, ends, line-printed}
 use Rattle.listings.specs.Listings.{refusedLine}
 use Rattle.listings.specs.Outputs.{lineAt, lastOf}
 use Rattle.step.specs.declared.Choice.{Choice}
@@ -10,10 +10,10 @@ use Rattle.step.specs.declared.Answer.the-variants.{Ran}
 use Rattle.step.specs.declared.Answer.{Answer}
 use Rattle.simulation.specs.Simulation.{scheduleTrace, traceOutput}
 use Rattle.base.specs.Bytes.{over}
-use lib.Seq.{take-set-le, take-all}
+use lib.Seq.{take-set-le}
 use Rattle.listings.proofs.Texts.{stands-none}
 use Rattle.listings.proofs.Listed.{Follows, follows-none}
-use Rattle.listings.proofs.Runs.{heldAfter, wroteAfter, linesOf, stored}
+use Rattle.listings.proofs.Runs.{linesOf, stored}
 use Rattle.listings.specs.Schedules.{nextByte, accepts}
 use Rattle.listings.specs.Outputs.{Stands}
 use Rattle.listings.specs.Listings.{listingFrom}
@@ -224,19 +224,16 @@ returns c =
     let x = c .before .before .before .before .before .before .before .before .before in
     let l = c .before .before .before .before .before .before .before .before .before .before .before .before .before .before .loop in
     let number = c .before .before .before .before .before .before .answer2 .given .0 .0 in
-    let p = c .before .before .before .before .before .before .answer2 .given .1 in
-    let f = follows-of x in
-    let s = c .before .before .stop .ensures _ _ (l .inv .6) in
-    stands-as s
+    stands-as (c .before .before .stop .ensures _ _ (l .inv .6))
     (ap (λ (run : List ℕ). linesOf (setOf (set-of x)) (begin (map-of x)) noWrite (choices (bytes-of x)) ++ cond (eqb number 14) (refusedLine 14) (lastOf (simulated (set-of x) (map-of x) run 1536)))
     (take-set-le (l .k) (l .schedule) (l .k) (c .before .before .before .before .before .before .before .before .before .before .before .before .next .result) (omega arith))
-    ∙ ap (λ (more : List ℕ). linesOf (setOf (set-of x)) (begin (map-of x)) noWrite (choices (bytes-of x)) ++ more)
-    (sym (stops (set-of x) (map-of x) (l .inv .0) (bytes-of x) (64 - (l .k + 1)) number _ (bytes-below x) (f .taken) (sym (answered x) ∙ p)))
-    ∙ sym (f .rest))
+    ∙ stops (set-of x) (map-of x) (l .inv .0) _ (bytes-of x) (64 - (l .k + 1)) number _ (bytes-below x) (follows-of x) (sym (answered x) ∙ c .before .before .before .before .before .before .answer2 .given .1))
 
--- src/lib.rt:110:22
+array-share-prefix-schedule-3 : tie.Need-array-share-prefix-schedule-3 Inv-loop μ-loop
+array-share-prefix-schedule-3 c = search needs
+
 slice-aggregate-finish : tie.Need-slice-aggregate-finish Inv-loop μ-loop
-slice-aggregate-finish c = search needs
+slice-aggregate-finish c = let l = c .before .before .loop in sym (length-take-le _ _ (omega (arith, l .inv .2, l .inv .1)))
 
 -- src/lib.rt:110:5
 finish-requires : tie.Need-finish-requires Inv-loop μ-loop
@@ -248,21 +245,13 @@ same-length-2 c = search needs
 
 -- src/lib.rt:87:1
 returns-2 : tie.Need-returns-2 Inv-loop μ-loop
-unfolding listingFrom
 returns-2 c =
     let l = c .before .before .before .before .before .before .loop in
     let a = c .before .before .before .before .before .before .before .before .before .before .args in
-    let f = l .inv .5 in
-    let e : l .k ≡ 64 = omega (arith, c .before .before .before .before .before .loop-test .left, l .inv .1) in
-    let z : 64 - l .k ≡ 0 = omega arith in
-    let t : take (l .k) (l .schedule) ≡ l .schedule = take-all (l .k) (l .schedule) (omega (arith, l .inv .2)) in
-    let b : length (take (l .k) (l .schedule)) ≤ 64 = omega (arith, ap length t, l .inv .2) in
-    let lines = linesOf (setOf (now (a .set))) (begin (now (a .map))) noWrite (choices (take (l .k) (l .schedule))) in
+    let bytes = take (l .k) (l .schedule) in
+    let n : length bytes ≡ l .k = length-take-le (l .k) (l .schedule) (omega (arith, l .inv .1, l .inv .2)) in
     stands-as (c .before .before .finish .ensures _ _ (l .inv .6))
-    (ap (λ (run : List ℕ). lines ++ lastOf (simulated (now (a .set)) (now (a .map)) run 1536)) (sym t)
-    ∙ ap (λ (more : List ℕ). lines ++ more) (finished (now (a .set)) (now (a .map)) (l .inv .0) (take (l .k) (l .schedule)) b (f .taken))
-    ∙ ap (λ (n : ℕ). lines ++ listingFrom (setOf (now (a .set))) (heldAfter (setOf (now (a .set))) (begin (now (a .map))) (choices (take (l .k) (l .schedule)))) (wroteAfter (setOf (now (a .set))) (begin (now (a .map))) noWrite (choices (take (l .k) (l .schedule)))) n) (sym z)
-    ∙ sym (f .rest))
+    (ends (now (a .set)) (now (a .map)) (l .inv .0) _ bytes (64 - l .k) (omega (arith, l .inv .1)) (l .inv .5) (omega (arith, c .before .before .before .before .before .loop-test .left)))
 
 pub run-spec : {M : Type 1} → statement M
 run-spec =
@@ -294,6 +283,7 @@ run-spec =
     stop-requires
     same-length
     returns
+    array-share-prefix-schedule-3
     slice-aggregate-finish
     finish-requires
     same-length-2
