@@ -1,22 +1,22 @@
 -- The listing of an accepted set and map, step by step: what simulation answers for the next choice decides what is printed. Assumes nothing.
-use Prim.Native.Nat.{ℕ, zero, suc, _+_, _*_, _≤_, _<_}
-use mathlib.Core.Path.{_≡_, refl, ap, ap₂, sym, subst, _∙_}
-use mathlib.Core.Bool.{Bool, true, false, cond, not, _&&_}
+use Prim.Native.Nat.{ℕ, suc, _+_, _*_, _≤_, _<_}
+use mathlib.Core.Bool.{Bool, true, false, cond, not}
 use mathlib.Core.List.{List, [], _∷_, _++_, append-assoc}
+use mathlib.Core.Path.{_≡_, refl, ap, ap₂, sym, subst, _∙_}
 use native.Mathlib.Omega.{arith}
 use lib.Dec.{eqb}
 use lib.ListN.{length, take, drop, length-append}
 use lib.Seq.{take-at, drop-at}
-use Rattle.base.specs.Below.{least}
-use Rattle.base.specs.Bytes.{over}
 use Rattle.base.proofs.Below.{least-ext}
 use Rattle.base.proofs.Choice.{chosen, passed, and-left}
-use Rattle.records.specs.Maps.{mapAccepted, mapValue}
-use Rattle.records.specs.Sets.{Set, setOf, setAccepted}
+use Rattle.base.specs.Bytes.{over}
 use Rattle.records.proofs.Sets.{four-threads}
-use Rattle.step.specs.Machine.{State, start, step, written, noWrite, reads}
+use Rattle.records.specs.Maps.{mapAccepted}
+use Rattle.records.specs.Sets.{Set, setOf, setAccepted}
+use Rattle.step.proofs.Runs.{AllTaken, follow-taken, length-choices, length-trace, length-traceStep, ran-taken, ran-where, refused-ran, taken-takes}
+use Rattle.step.specs.Machine.{State, step, written, noWrite, reads}
 use Rattle.step.specs.Maps.{Held, begin, knowsAll, outcome, advanced, onOutcome, follow}
-use Rattle.step.specs.Runs.{choiceOf, choices, takes, after, endOf}
+use Rattle.step.specs.Runs.{choiceOf, choices, takes, endOf}
 use Rattle.step.specs.Traces.{traceStep, trace}
 use Rattle.step.specs.declared.Answer.{Answer}
 use Rattle.step.specs.declared.Answer.the-variants.{Ran, Refused}
@@ -25,7 +25,6 @@ use Rattle.step.specs.declared.End.{End}
 use Rattle.step.specs.declared.Outcome.{Outcome}
 use Rattle.step.specs.declared.Outcome.the-variants.{Taken, NotPermitted, Lacking}
 use Rattle.step.specs.declared.Written.{Written}
-use Rattle.step.proofs.Runs.{AllTaken, follow-taken, length-choices, length-trace, length-traceStep, ran-taken, ran-where, refused-ran, taken-takes}
 use Rattle.simulation.specs.Simulation.{limited, simulated, scheduleTrace}
 use Rattle.listings.specs.Listings.{line, lastLine, refusedLine, lowest, onLowest, listingFrom, listing}
 use Rattle.listings.specs.Outputs.{lineAt, lastOf}

@@ -1,21 +1,20 @@
 -- The first of the eight candidates that can be taken is the lowest choice. Assumes nothing.
 use Prim.Native.Nat.{ℕ, zero, suc, _+_, _-_, _≤_, _<_}
-use mathlib.Core.Path.{_≡_, refl, ap, sym, subst, _∙_}
 use mathlib.Core.Bool.{Bool, true, false, cond, not, _&&_}
-use native.Mathlib.Omega.{arith}
+use mathlib.Core.Path.{_≡_, refl, ap, sym, subst, _∙_}
 use native.Mathlib.Decide.{decLt, ℕ-discrete}
-use native.Mathlib.Numerals.{add-one}
+use native.Mathlib.Omega.{arith}
 use lib.Dec.{ltb}
-use borrow.Author.Tests.{lt-ltb, le-ltb, ltb-true, ltb-false}
+use borrow.Author.Tests.{lt-ltb, le-ltb, ltb-false}
+use Rattle.base.proofs.Below.{least-below, least-hit, least-passes}
+use Rattle.base.proofs.Choice.{chosen, passed, and-right, clash}
 use Rattle.base.specs.Below.{least}
-use Rattle.base.proofs.Below.{least-below, least-more, least-hit, least-passes}
-use Rattle.base.proofs.Choice.{chosen, passed, and-true, and-false, and-right-false, and-right, clash}
 use Rattle.records.specs.Sets.{Set}
-use Rattle.step.specs.Machine.{State, permitted, actor}
+use Rattle.step.proofs.Runs.{takes-actor}
+use Rattle.step.specs.Machine.{State, permitted}
 use Rattle.step.specs.Runs.{choiceOf, takes}
 use Rattle.step.specs.declared.Choice.{Choice}
 use Rattle.step.specs.declared.Choice.the-variants.{Execute, Flush}
-use Rattle.step.proofs.Runs.{takes-actor}
 use Rattle.listings.specs.Listings.{lowest}
 use Rattle.listings.specs.Schedules.{candidate}
 

@@ -1,27 +1,25 @@
 -- Laws of a run and one choice more: what is held, written, followed, traced and printed. Assumes nothing.
-use Prim.Native.Nat.{ℕ, zero, suc, _+_, _*_, _≤_, _<_}
-use mathlib.Core.Path.{_≡_, refl, ap, ap₂, sym, _∙_}
+use Prim.Native.Nat.{ℕ, suc, _+_, _*_, _≤_, _<_}
 use mathlib.Core.Bool.{true}
 use mathlib.Core.List.{List, [], _∷_, _++_, append-assoc, append-nil}
+use mathlib.Core.Path.{_≡_, refl, ap, ap₂, sym, _∙_}
+use native.Mathlib.Numerals.{add-one}
 use native.Mathlib.Omega.{arith}
-use lib.Dec.{ltb}
 use lib.ListN.{length, set, take}
 use lib.Seq.{take-suc-set}
-use native.Mathlib.Numerals.{add-one}
 use borrow.Author.Tests.{le-ltb}
 use Rattle.base.proofs.Choice.{chosen, passed}
 use Rattle.records.specs.Sets.{Set, setOf}
-use Rattle.step.specs.Machine.{State, step, written}
+use Rattle.step.proofs.Runs.{AllTaken}
+use Rattle.step.specs.Machine.{step, written}
 use Rattle.step.specs.Maps.{Held, begin, outcome, advanced, onOutcome, follow}
 use Rattle.step.specs.Runs.{choiceOf, choices, after, endOf}
 use Rattle.step.specs.Traces.{traceStep, trace}
-use Rattle.step.specs.declared.Answer.{Answer}
-use Rattle.step.specs.declared.Answer.the-variants.{Ran, Refused}
+use Rattle.step.specs.declared.Answer.the-variants.{Ran}
 use Rattle.step.specs.declared.Choice.{Choice}
 use Rattle.step.specs.declared.Outcome.{Outcome}
-use Rattle.step.specs.declared.Outcome.the-variants.{Taken, NotPermitted, Lacking}
+use Rattle.step.specs.declared.Outcome.the-variants.{Taken}
 use Rattle.step.specs.declared.Written.{Written}
-use Rattle.step.proofs.Runs.{AllTaken}
 use Rattle.simulation.specs.Simulation.{limited, simulated}
 use Rattle.listings.specs.Listings.{line}
 use Rattle.listings.specs.Schedules.{accepts}

@@ -1,18 +1,16 @@
 -- Laws of a step's line: the words, and the line that a trace step's bytes give. Assumes nothing.
 use Prim.Native.Nat.{ℕ, _+_, _*_, _/_, _%_, _≤_}
-use mathlib.Core.Path.{_≡_, refl, ap, ap₂, sym, _∙_}
 use mathlib.Core.Bool.{Bool, true, false}
 use mathlib.Core.List.{List, [], _++_}
-use native.Mathlib.Omega.{arith}
+use mathlib.Core.Path.{_≡_, refl, _∙_}
 use native.Mathlib.Nat.{div-add-mod'}
+use native.Mathlib.Omega.{arith}
 use lib.Dec.{eqb}
 use lib.ListN.{List·getD-eq-default}
 use borrow.Author.Tests.{ne-eqb}
-use Rattle.base.specs.Bytes.{wordAt, word}
 use Rattle.base.proofs.Choice.{passed}
 use Rattle.records.specs.Instructions.{words, wordOf}
 use Rattle.records.specs.Sets.{Set}
-use Rattle.records.specs.declared.Statement.{Statement}
 use Rattle.step.specs.Machine.{State, actor}
 use Rattle.step.specs.Traces.{bit, shown, stepBytes, traceStep}
 use Rattle.step.specs.declared.Choice.{Choice}
@@ -20,6 +18,7 @@ use Rattle.step.specs.declared.Thread.{Thread}
 use Rattle.step.specs.declared.Written.{Written}
 use Rattle.listings.specs.Listings.{text, decimal, item, name, argument, cell, lineOf, line}
 use Rattle.listings.specs.Outputs.{lineAt}
+use Rattle.records.specs.declared.Statement.{Statement}
 
 -- no word past FLUSH
 pub name-none : (n : ℕ) → 21 ≤ n → name n ≡ []

@@ -1,18 +1,18 @@
 -- Laws of texts printed one after the other into an output. Assumes nothing.
 use Prim.Native.Nat.{ℕ, _+_, _-_, _≤_, _<_, min}
-use mathlib.Core.Path.{_≡_, refl, ap, ap₂, sym, subst, _∙_}
-use mathlib.Core.List.{List, [], _∷_, _++_, append-assoc}
 use mathlib.Core.Bool.{Bool, true, false, cond}
-use lib.Dec.{ltb}
-use native.Mathlib.Omega.{arith}
+use mathlib.Core.List.{List, [], _++_, append-assoc}
+use mathlib.Core.Path.{_≡_, refl, ap, ap₂, sym, subst, _∙_}
 use native.Mathlib.Decide.{decLe}
 use native.Mathlib.Nat.{min-eq-left, min-eq-right, min-le-left, zero-min}
-use lib.ListN.{length, take, drop, length-append, length-drop}
+use native.Mathlib.Omega.{arith}
+use lib.Dec.{ltb}
+use lib.ListN.{length, take, drop, length-append}
 use lib.Seq.{take-all, take-length, take-append-le, take-append-add, take-take, length-take-le}
-use Rattle.base.specs.Bytes.{splice, placed, over}
 use Rattle.base.proofs.Bytes.{placed-fits, over-more, length-over}
+use Rattle.base.specs.Bytes.{splice, placed, over}
 use Rattle.listings.specs.Listings.{places, digits, decimal, item}
-use Rattle.listings.specs.Outputs.{printed, count, Stands, Prints}
+use Rattle.listings.specs.Outputs.{printed, Stands, Prints}
 
 -- ---- an output with a text printed into it
 

@@ -1,16 +1,14 @@
 -- What the listing program prints (document 01, "Sample runs"): a line for each step, then the last line. Assumes nothing.
-use Prim.Native.Nat.{ℕ, zero, suc, _+_, _/_, _%_}
 use Prim.Native.Char.{code}
+use Prim.Native.Nat.{ℕ, zero, suc, _+_, _/_, _%_}
 use Prim.Native.String.{String, [] as end, _∷_ as _then_}
 use mathlib.Core.Bool.{Bool, cond, _&&_, _||_}
 use mathlib.Core.List.{List, [], _∷_, _++_}
 use lib.Dec.{eqb, ltb}
-use lib.ListN.{length, take, drop}
 use Rattle.base.specs.Below.{least}
 use Rattle.records.specs.Instructions.{instructions, isBare, wordOf}
 use Rattle.records.specs.Maps.{mapAccepted}
 use Rattle.records.specs.Sets.{Set, setOf, setAccepted}
-use Rattle.records.specs.declared.Statement.{Statement}
 use Rattle.step.specs.Machine.{State, permitted, actor, written, noWrite}
 use Rattle.step.specs.Maps.{Held, begin, outcome, advanced}
 use Rattle.step.specs.Runs.{endOf}
@@ -23,6 +21,7 @@ use Rattle.step.specs.declared.Outcome.{Outcome}
 use Rattle.step.specs.declared.Outcome.the-variants.{Taken, NotPermitted, Lacking}
 use Rattle.step.specs.declared.Thread.{Thread}
 use Rattle.step.specs.declared.Written.{Written}
+use Rattle.records.specs.declared.Statement.{Statement}
 
 -- ---- texts and numbers
 

@@ -1,7 +1,7 @@
 -- How the code prints: texts one after the other into a lent output, and a step's line from the bytes of its trace step. Assumes nothing.
 use Prim.Native.Nat.{ℕ, min}
-use mathlib.Core.Path.{_≡_}
 use mathlib.Core.List.{List, _++_}
+use mathlib.Core.Path.{_≡_}
 use lib.Dec.{eqb}
 use lib.ListN.{length, getD, take}
 use Rattle.base.specs.Bytes.{wordAt, over}

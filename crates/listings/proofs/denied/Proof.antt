@@ -1,33 +1,25 @@
-use Rattle.listings.specs.Schedules.{denies}
+-- `listings::denied` meets its contract: simulation's answer is told by its cases. Assumes nothing.
 use mathlib.Core.Path.{ap, sym, _∙_}
 use borrow.Author.Needs.{needs}
+use Rattle.listings.specs.Schedules.{denies}
 use Rattle.listings.proofs.denied.Statement.{statement}
 use Rattle.listings.proofs.denied.Tie as tie
-use Rattle.listings.proofs.denied.Reads as reads
-use Rattle.listings.proofs.denied.Lts as lts
-use Rattle.simulation.proofs.simulate.Reads as simulate-reads
 
--- src/lib.rt:39:59
 slice-aggregate-simulate : tie.Need-slice-aggregate-simulate
 slice-aggregate-simulate c = search needs
 
--- src/lib.rt:39:9
 simulate-requires : tie.Need-simulate-requires
 simulate-requires c κs = search needs
 
--- src/lib.rt:41:23
 enum-known-answer : tie.Need-enum-known-answer
 enum-known-answer c = search needs
 
--- src/lib.rt:42:27
 enum-known-answer-2 : tie.Need-enum-known-answer-2
 enum-known-answer-2 c = search needs
 
--- src/lib.rt:35:1
 returns : tie.Need-returns
 returns c = sym (ap denies (sym (c .before .before .before .before .simulate .ensures .0) ∙ c .before .answer .given .1))
 
--- src/lib.rt:35:1
 returns-2 : tie.Need-returns-2
 returns-2 c = sym (ap denies (sym (c .before .before .before .before .simulate .ensures .0) ∙ c .before .answer2 .given .1))
 

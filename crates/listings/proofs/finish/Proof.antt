@@ -1,53 +1,39 @@
-use Rattle.listings.proofs.Texts.{prints-as}
-use Rattle.listings.specs.Outputs.{lastOf}
+-- `listings::finish` meets its contract: simulation's answer is told by its cases. Assumes nothing.
 use mathlib.Core.Path.{ap, sym, _∙_}
 use borrow.Author.Needs.{needs}
+use Rattle.listings.specs.Outputs.{lastOf}
+use Rattle.listings.proofs.Texts.{prints-as}
 use Rattle.listings.proofs.finish.Statement.{statement}
 use Rattle.listings.proofs.finish.Tie as tie
-use Rattle.listings.proofs.finish.Reads as reads
-use Rattle.listings.proofs.finish.Lts as lts
-use Rattle.listings.proofs.lines.last.Reads as last-reads
-use Rattle.listings.proofs.lines.refusal.Reads as refusal-reads
-use Rattle.simulation.proofs.simulate.Reads as simulate-reads
 
--- src/lib.rt:69:59
 slice-aggregate-simulate : tie.Need-slice-aggregate-simulate
 slice-aggregate-simulate c = search needs
 
--- src/lib.rt:69:9
 simulate-requires : tie.Need-simulate-requires
 simulate-requires c κs = search needs
 
--- src/lib.rt:71:23
 enum-known-answer : tie.Need-enum-known-answer
 enum-known-answer c = search needs
 
--- src/lib.rt:71:39
 last-requires : tie.Need-last-requires
 last-requires c κs = search needs
 
--- src/lib.rt:72:27
 enum-known-answer-2 : tie.Need-enum-known-answer-2
 enum-known-answer-2 c = search needs
 
--- src/lib.rt:72:46
 refusal-requires : tie.Need-refusal-requires
 refusal-requires c κs = search needs
 
--- src/lib.rt:65:1
 same-length : tie.Need-same-length
 same-length c = search needs
 
--- src/lib.rt:65:1
 returns : tie.Need-returns
 unfolding lastOf
 returns c = prints-as (ap lastOf (sym (c .before .before .before .before .before .answer .given .1) ∙ c .before .before .before .before .before .before .before .before .simulate .ensures .0)) (c .before .before .last .ensures)
 
--- src/lib.rt:65:1
 same-length-2 : tie.Need-same-length-2
 same-length-2 c = search needs
 
--- src/lib.rt:65:1
 returns-2 : tie.Need-returns-2
 unfolding lastOf
 returns-2 c = prints-as (ap lastOf (sym (c .before .before .before .before .before .answer2 .given .1) ∙ c .before .before .before .before .before .before .before .before .simulate .ensures .0)) (c .before .before .refusal .ensures)

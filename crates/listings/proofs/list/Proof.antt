@@ -1,61 +1,46 @@
-use Rattle.listings.proofs.Texts.{stands-none, stands-as}
-use Rattle.listings.proofs.Listed.{ran-accepts, refused-listing, accepted-listing}
-use denote.Ref.{now}
-use mathlib.Core.Path.{ap, sym, _∙_}
+-- `listings::list` meets its contract: the empty schedule runs exactly where set and map are accepted. Assumes nothing.
 use mathlib.Core.List.{[]}
+use mathlib.Core.Path.{sym, _∙_}
 use borrow.Author.Needs.{needs}
+use denote.Ref.{now}
+use Rattle.listings.proofs.Listed.{ran-accepts, refused-listing, accepted-listing}
+use Rattle.listings.proofs.Texts.{stands-none, stands-as}
 use Rattle.listings.proofs.list.Statement.{statement}
 use Rattle.listings.proofs.list.Tie as tie
-use Rattle.listings.proofs.list.Reads as reads
-use Rattle.listings.proofs.list.Lts as lts
-use Rattle.listings.proofs.lines.refusal.Reads as refusal-reads
-use Rattle.listings.proofs.run.Reads as run-reads
-use Rattle.simulation.proofs.simulate.Reads as simulate-reads
 
--- src/lib.rt:119:49
 slice-aggregate-simulate : tie.Need-slice-aggregate-simulate
 slice-aggregate-simulate c = search needs
 
--- src/lib.rt:119:54
 slice-aggregate-simulate-2 : tie.Need-slice-aggregate-simulate-2
 slice-aggregate-simulate-2 c = search needs
 
--- src/lib.rt:119:9
 simulate-requires : tie.Need-simulate-requires
 simulate-requires c κs = search needs
 
--- src/lib.rt:121:23
 enum-known-answer : tie.Need-enum-known-answer
 enum-known-answer c = search needs
 
--- src/lib.rt:121:39
 run-requires : tie.Need-run-requires
 run-requires c κs = ran-accepts _ _ (sym (c .before .before .before .before .before .simulate .ensures .0) ∙ c .before .before .answer .given .1)
 
--- src/lib.rt:122:27
 enum-known-answer-2 : tie.Need-enum-known-answer-2
 enum-known-answer-2 c = search needs
 
--- src/lib.rt:122:46
 refusal-requires : tie.Need-refusal-requires
 refusal-requires c κs = search needs
 
--- src/lib.rt:114:1
 same-length : tie.Need-same-length
 same-length c = search needs
 
--- src/lib.rt:114:1
 returns : tie.Need-returns
 returns c =
     let a = c .before .before .before .before .before .before .before .before .before .before .before .before .before .before .args in
     let s = stands-as (c .before .before .run .ensures) (accepted-listing (now (a .set)) (now (a .map)) (ran-accepts _ _ (sym (c .before .before .before .before .before .before .before .before .simulate .ensures .0) ∙ c .before .before .before .before .before .answer .given .1))) in
     (s .place, s .bytes)
 
--- src/lib.rt:114:1
 same-length-2 : tie.Need-same-length-2
 same-length-2 c = search needs
 
--- src/lib.rt:114:1
 returns-2 : tie.Need-returns-2
 returns-2 c =
     let a = c .before .before .before .before .before .before .before .before .before .before .before .before .before .before .args in

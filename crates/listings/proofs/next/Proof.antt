@@ -1,25 +1,20 @@
-use denote.Ref.{now}
+-- `listings::next` meets its contract. The loop's invariant: none of the j candidates before this one is permitted. Assumes nothing.
+use Prim.Native.Nat.{ℕ, _+_, _-_, _≤_, _<_}
+use mathlib.Core.Bool.{not}
+use mathlib.Core.List.{List}
+use mathlib.Core.Path.{_≡_, refl, ap, sym, subst, _∙_}
+use native.Mathlib.Omega.{arith}
+use lib.ListN.{length-set, length, take, set}
 use lib.Seq.{take-set-le, length-take-le}
-use lib.ListN.{length-set}
-use Rattle.listings.proofs.Runs.{stored}
-use Rattle.listings.specs.Schedules.{candidate, denies, allows, nextByte}
-use Rattle.simulation.specs.Simulation.{simulated}
+use borrow.Author.Needs.{needs}
+use denote.Ref.{now}
 use Rattle.base.proofs.Below.{least-more, least-hit}
 use Rattle.base.specs.Below.{least}
-use borrow.Author.Tests.{not-true, not-false}
-use borrow.Author.Needs.{needs}
-use lib.ListN.{length, take, set}
-use native.Mathlib.Omega.{arith}
-use mathlib.Core.List.{List, [], _∷_, _++_}
-use mathlib.Core.Bool.{Bool, not}
-use mathlib.Core.Path.{_≡_, refl, ap, sym, subst, _∙_}
-use Prim.Native.Nat.{ℕ, _+_, _-_, _≤_, _<_}
+use Rattle.simulation.specs.Simulation.{simulated}
+use Rattle.listings.specs.Schedules.{candidate, denies, allows, nextByte}
+use Rattle.listings.proofs.Runs.{stored}
 use Rattle.listings.proofs.next.Statement.{statement}
 use Rattle.listings.proofs.next.Tie as tie
-use Rattle.listings.proofs.next.Reads as reads
-use Rattle.listings.proofs.next.Lts as lts
-use Rattle.listings.proofs.candidate.Reads as candidate-reads
-use Rattle.listings.proofs.denied.Reads as denied-reads
 
 abbrev Inv-loop : tie.InvT-loop
 Inv-loop set map k tried₀ j₀ tried j = (k < 64) × (length tried ≡ 64) × (take k tried ≡ take k tried₀) × (j ≤ 7) × (least j (allows set map (take k tried₀)) ≡ j)
@@ -39,39 +34,31 @@ allowed x =
     ∙ ap (λ (b : ℕ). take (a .k + 1) (set (l .tried) (a .k) b)) (sym (x .before .before .candidate .ensures)))
     ∙ sym (ap not (x .denied .ensures))
 
--- src/lib.rt:53:5
 loop-holds : tie.Need-loop-holds Inv-loop μ-loop
 unfolding least
 loop-holds c = (search needs, search needs, refl, search needs, refl)
 
--- src/lib.rt:54:13
 candidate-requires : tie.Need-candidate-requires Inv-loop μ-loop
 candidate-requires c κs = search needs
 
--- src/lib.rt:55:9
 array-write-tried : tie.Need-array-write-tried Inv-loop μ-loop
 array-write-tried c = search needs
 
--- src/lib.rt:56:39
 add-tried : tie.Need-add-tried Inv-loop μ-loop
 add-tried c = search needs
 
--- src/lib.rt:56:30
 array-share-prefix-tried : tie.Need-array-share-prefix-tried Inv-loop μ-loop
 array-share-prefix-tried c = omega (arith, length-set (c .before .before .loop .tried) (c .before .before .before .before .before .args .k) (c .candidate .result), c .before .before .loop .inv .0, c .before .before .loop .inv .1)
 
--- src/lib.rt:56:30
 slice-aggregate-denied : tie.Need-slice-aggregate-denied Inv-loop μ-loop
 slice-aggregate-denied c =
     let l = c .before .before .before .loop in
     let n = length-set (l .tried) (c .before .before .before .before .before .before .args .k) (c .before .candidate .result) in
     sym (length-take-le _ _ (omega (arith, n, l .inv .0, l .inv .1)))
 
--- src/lib.rt:56:13
 denied-requires : tie.Need-denied-requires Inv-loop μ-loop
 denied-requires c κs = search needs
 
--- src/lib.rt:57:13
 returns : tie.Need-returns Inv-loop μ-loop
 unfolding nextByte
 returns c =
@@ -79,15 +66,12 @@ returns c =
     let l = c .before .before .before .before .before .loop in
     c .before .before .before .candidate .ensures ∙ ap candidate (sym (least-hit (allows (now (a .set)) (now (a .map)) (take (a .k) (a .schedule))) 7 (l .j) (l .inv .4) (allowed (c .before) ∙ c .if1 .taken) (c .before .before .before .before .loop-test .taken)))
 
--- src/lib.rt:59:9
 add-j : tie.Need-add-j Inv-loop μ-loop
 add-j c = search needs
 
--- src/lib.rt:53:5
 loop-less : tie.Need-loop-less Inv-loop μ-loop
 loop-less c = search needs
 
--- src/lib.rt:53:5
 loop-again : tie.Need-loop-again Inv-loop μ-loop
 loop-again c =
     let a = c .before .before .before .before .before .before .before .before .args in
@@ -99,11 +83,9 @@ loop-again c =
       least-more (allows (now (a .set)) (now (a .map)) (take (a .k) (a .schedule))) (l .j) (l .inv .4) (allowed (c .before) ∙ c .if1 .left),
     )
 
--- src/lib.rt:61:5
 candidate-requires-2 : tie.Need-candidate-requires-2 Inv-loop μ-loop
 candidate-requires-2 c κs = search needs
 
--- src/lib.rt:47:1
 returns-2 : tie.Need-returns-2 Inv-loop μ-loop
 unfolding nextByte
 returns-2 c =

@@ -1,22 +1,17 @@
-use denote.Ref.{now}
-use Rattle.listings.proofs.Texts.{stands-none}
+-- `listings::refused` meets its contract. Assumes nothing.
 use mathlib.Core.List.{[]}
 use borrow.Author.Needs.{needs}
+use denote.Ref.{now}
+use Rattle.listings.proofs.Texts.{stands-none}
 use Rattle.listings.proofs.refused.Statement.{statement}
 use Rattle.listings.proofs.refused.Tie as tie
-use Rattle.listings.proofs.refused.Reads as reads
-use Rattle.listings.proofs.refused.Lts as lts
-use Rattle.listings.proofs.lines.refusal.Reads as refusal-reads
 
--- src/lib.rt:131:5
 refusal-requires : tie.Need-refusal-requires
 refusal-requires c κs = search needs
 
--- src/lib.rt:127:1
 same-length : tie.Need-same-length
 same-length c = search needs
 
--- src/lib.rt:127:1
 returns : tie.Need-returns
 returns c = let s = c .before .before .refusal .ensures [] (now (c .before .before .before .before .before .args .out)) (stands-none (now (c .before .before .before .before .before .args .out))) in (s .place, s .bytes)
 

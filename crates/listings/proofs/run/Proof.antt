@@ -1,45 +1,31 @@
-use mathlib.Core.Bool.{cond}
-use lib.Dec.{eqb}
-use Rattle.listings.proofs.Texts.{stands-as}
-use Rattle.listings.proofs.Listed.{goes-on, stops, ends, line-printed}
-use Rattle.listings.specs.Listings.{refusedLine}
-use Rattle.listings.specs.Outputs.{lineAt, lastOf}
-use Rattle.step.specs.declared.Choice.{Choice}
-use Rattle.step.specs.declared.End.{End}
-use Rattle.step.specs.declared.Answer.the-variants.{Ran}
-use Rattle.step.specs.declared.Answer.{Answer}
-use Rattle.simulation.specs.Simulation.{scheduleTrace, traceOutput}
-use Rattle.base.specs.Bytes.{over}
-use lib.Seq.{take-set-le}
-use Rattle.listings.proofs.Texts.{stands-none}
-use Rattle.listings.proofs.Listed.{Follows, follows-none}
-use Rattle.listings.proofs.Runs.{linesOf, stored}
-use Rattle.listings.specs.Schedules.{nextByte, accepts}
-use Rattle.listings.specs.Outputs.{Stands}
-use Rattle.listings.specs.Listings.{listingFrom}
-use Rattle.simulation.specs.Simulation.{simulated}
-use Rattle.step.specs.Runs.{choices}
-use Rattle.step.specs.Maps.{begin}
-use Rattle.step.specs.Machine.{noWrite}
-use Rattle.records.specs.Sets.{Set, setOf}
-use denote.Ref.{now}
-use borrow.Author.Needs.{needs}
-use lib.Seq.{length-take-le}
-use lib.ListN.{length, take, drop, set, length-set}
-use native.Mathlib.Omega.{arith}
-use mathlib.Core.List.{List, [], _∷_, _++_}
-use mathlib.Core.Bool.{true}
-use mathlib.Core.Path.{_≡_, refl, ap, ap₂, sym, subst, _∙_}
+-- `listings::run` meets its contract. The loop's invariant: the first k bytes of the schedule are a run of lowest choices, and its lines stand in the output. Assumes nothing.
 use Prim.Native.Nat.{ℕ, suc, _+_, _-_, _*_, _≤_, _<_}
+use mathlib.Core.Bool.{cond, true}
+use mathlib.Core.List.{List, [], _∷_, _++_}
+use mathlib.Core.Path.{_≡_, refl, ap, ap₂, sym, subst, _∙_}
+use native.Mathlib.Omega.{arith}
+use lib.Dec.{eqb}
+use lib.ListN.{length, take, drop, set, length-set}
+use lib.Seq.{take-set-le, length-take-le}
+use borrow.Author.Needs.{needs}
+use denote.Ref.{now}
+use Rattle.base.specs.Bytes.{over}
+use Rattle.records.specs.Sets.{setOf}
+use Rattle.step.specs.Machine.{noWrite}
+use Rattle.step.specs.Maps.{begin}
+use Rattle.step.specs.Runs.{choices}
+use Rattle.step.specs.declared.Answer.{Answer}
+use Rattle.step.specs.declared.Answer.the-variants.{Ran}
+use Rattle.step.specs.declared.End.{End}
+use Rattle.simulation.specs.Simulation.{scheduleTrace, traceOutput, simulated}
+use Rattle.listings.specs.Listings.{refusedLine, listingFrom}
+use Rattle.listings.specs.Outputs.{lineAt, lastOf, Stands}
+use Rattle.listings.specs.Schedules.{nextByte, accepts}
+use Rattle.listings.proofs.Listed.{goes-on, stops, ends, line-printed, Follows, follows-none}
+use Rattle.listings.proofs.Runs.{linesOf, stored}
+use Rattle.listings.proofs.Texts.{stands-as, stands-none}
 use Rattle.listings.proofs.run.Statement.{statement}
 use Rattle.listings.proofs.run.Tie as tie
-use Rattle.listings.proofs.run.Reads as reads
-use Rattle.listings.proofs.run.Lts as lts
-use Rattle.listings.proofs.finish.Reads as finish-reads
-use Rattle.listings.proofs.lines.line.Reads as line-reads
-use Rattle.listings.proofs.next.Reads as next-reads
-use Rattle.listings.proofs.stop.Reads as stop-reads
-use Rattle.simulation.proofs.simulate.Reads as simulate-reads
 
 abbrev Inv-loop : tie.InvT-loop
 Inv-loop set map out₀ schedule₀ trace₀ at₀ k₀ out schedule trace at k =
@@ -101,79 +87,61 @@ follows-of : (x : tie.After-simulate Inv-loop μ-loop) →
     Follows (setOf (set-of x)) (begin (map-of x)) (listingFrom (setOf (set-of x)) (begin (map-of x)) noWrite 64) (choices (bytes-of x)) (suc (64 - (x .before .before .before .before .before .loop .k + 1)))
 follows-of x = subst (λ (n : ℕ). Follows (setOf (set-of x)) (begin (map-of x)) (listingFrom (setOf (set-of x)) (begin (map-of x)) noWrite 64) (choices (bytes-of x)) n) (left x) (x .before .before .before .before .before .loop .inv .5)
 
--- src/lib.rt:95:5
 loop-holds : tie.Need-loop-holds Inv-loop μ-loop
 unfolding choices linesOf
 loop-holds c = (search needs, search needs, refl, refl, refl, follows-none _ _ 64, stands-none _)
 
--- src/lib.rt:96:23
 next-requires : tie.Need-next-requires Inv-loop μ-loop
 next-requires c κs = search needs
 
--- src/lib.rt:96:9
 array-write-schedule : tie.Need-array-write-schedule Inv-loop μ-loop
 array-write-schedule c = search needs
 
--- src/lib.rt:97:65
 add-schedule : tie.Need-add-schedule Inv-loop μ-loop
 add-schedule c = search needs
 
--- src/lib.rt:97:53
 array-share-prefix-schedule : tie.Need-array-share-prefix-schedule Inv-loop μ-loop
 array-share-prefix-schedule c = let l = c .before .before .loop in omega (arith, length-set (l .schedule) (l .k) (c .next .result), l .inv .2, c .before .loop-test .taken)
 
--- src/lib.rt:97:53
 slice-aggregate-simulate : tie.Need-slice-aggregate-simulate Inv-loop μ-loop
 slice-aggregate-simulate c =
     let l = c .before .before .before .loop in
     let n = length-set (l .schedule) (l .k) (c .before .next .result) in
     sym (length-take-le _ _ (omega (arith, n, l .inv .2, c .before .before .loop-test .taken)))
 
--- src/lib.rt:97:73
 slice-aggregate-simulate-2 : tie.Need-slice-aggregate-simulate-2 Inv-loop μ-loop
 slice-aggregate-simulate-2 c = search needs
 
--- src/lib.rt:97:13
 simulate-requires : tie.Need-simulate-requires Inv-loop μ-loop
 simulate-requires c κs = search needs
 
--- src/lib.rt:99:27
 enum-known-answer : tie.Need-enum-known-answer Inv-loop μ-loop
 enum-known-answer c = search needs
 
--- src/lib.rt:100:28
 mul-from : tie.Need-mul-from Inv-loop μ-loop
 mul-from c = search needs
 
--- src/lib.rt:101:26
 add-to : tie.Need-add-to Inv-loop μ-loop
 add-to c = search needs
 
--- src/lib.rt:102:36
 sub-line : tie.Need-sub-line Inv-loop μ-loop
 sub-line c = search needs
 
--- src/lib.rt:102:36
 part-line-start : tie.Need-part-line-start Inv-loop μ-loop
 part-line-start c = search needs
 
--- src/lib.rt:102:36
 part-line-end : tie.Need-part-line-end Inv-loop μ-loop
 part-line-end c = search needs
 
--- src/lib.rt:102:17
 line-requires : tie.Need-line-requires Inv-loop μ-loop
 line-requires c κs = search needs
 
--- src/lib.rt:103:17
 add-k : tie.Need-add-k Inv-loop μ-loop
 add-k c = search needs
 
--- src/lib.rt:95:5
 loop-less : tie.Need-loop-less Inv-loop μ-loop
 loop-less c = search needs
 
--- src/lib.rt:95:5
 loop-again : tie.Need-loop-again Inv-loop μ-loop
 loop-again c =
     let x = c .before .before .before .before .before .before .before .before .before .before in
@@ -195,30 +163,24 @@ loop-again c =
           ∙ ap (λ (run : List ℕ). linesOf S h noWrite (choices run)) (sym (grown x))),
     )
 
--- src/lib.rt:105:31
 enum-known-answer-2 : tie.Need-enum-known-answer-2 Inv-loop μ-loop
 enum-known-answer-2 c = search needs
 
--- src/lib.rt:106:39
 array-share-prefix-schedule-2 : tie.Need-array-share-prefix-schedule-2 Inv-loop μ-loop
 array-share-prefix-schedule-2 c = let l = c .before .before .before .before .before .before .before .before .before .loop in omega (arith, length-set (l .schedule) (l .k) (c .before .before .before .before .before .before .before .next .result), l .inv .2, l .inv .1)
 
--- src/lib.rt:106:39
 slice-aggregate-stop : tie.Need-slice-aggregate-stop Inv-loop μ-loop
 slice-aggregate-stop c =
     let l = c .before .before .before .before .before .before .before .before .before .before .loop in
     let n = length-set (l .schedule) (l .k) (c .before .before .before .before .before .before .before .before .next .result) in
     sym (length-take-le _ _ (omega (arith, n, l .inv .2, l .inv .1)))
 
--- src/lib.rt:106:17
 stop-requires : tie.Need-stop-requires Inv-loop μ-loop
 stop-requires c κs = search needs
 
--- src/lib.rt:106:17
 same-length : tie.Need-same-length Inv-loop μ-loop
 same-length c = search needs
 
--- src/lib.rt:106:17
 returns : tie.Need-returns Inv-loop μ-loop
 returns c =
     let x = c .before .before .before .before .before .before .before .before .before in
@@ -235,15 +197,12 @@ array-share-prefix-schedule-3 c = search needs
 slice-aggregate-finish : tie.Need-slice-aggregate-finish Inv-loop μ-loop
 slice-aggregate-finish c = let l = c .before .before .loop in sym (length-take-le _ _ (omega (arith, l .inv .2, l .inv .1)))
 
--- src/lib.rt:110:5
 finish-requires : tie.Need-finish-requires Inv-loop μ-loop
 finish-requires c κs = search needs
 
--- src/lib.rt:87:1
 same-length-2 : tie.Need-same-length-2 Inv-loop μ-loop
 same-length-2 c = search needs
 
--- src/lib.rt:87:1
 returns-2 : tie.Need-returns-2 Inv-loop μ-loop
 returns-2 c =
     let l = c .before .before .before .before .before .before .loop in

@@ -1,64 +1,50 @@
-use Rattle.listings.proofs.Texts.{prints-as}
-use Rattle.listings.specs.Listings.{name}
-use Rattle.records.specs.Instructions.{words, wordOf}
-use Rattle.base.proofs.Below.{none-from}
-use native.Mathlib.Omega.{arith}
+-- `listings::lines::access_word` meets its contract. Each arm is one number. Assumes nothing.
 use Prim.Native.Nat.{_≤_}
 use mathlib.Core.Path.{_≡_, ap, sym}
+use native.Mathlib.Omega.{arith}
 use borrow.Author.Needs.{needs}
+use Rattle.base.proofs.Below.{none-from}
+use Rattle.records.specs.Instructions.{words, wordOf}
+use Rattle.listings.specs.Listings.{name}
+use Rattle.listings.proofs.Texts.{prints-as}
 use Rattle.listings.proofs.lines.access_word.Statement.{statement}
 use Rattle.listings.proofs.lines.access_word.Tie as tie
-use Rattle.listings.proofs.lines.access_word.Reads as reads
-use Rattle.listings.proofs.lines.access_word.Lts as lts
-use Rattle.listings.proofs.output.put.Reads as put-reads
 
--- src/lines.rt:21:27
 slice-aggregate-put : tie.Need-slice-aggregate-put
 slice-aggregate-put c = search needs
 
--- src/lines.rt:21:14
 put-requires : tie.Need-put-requires
 put-requires c κs = search needs
 
--- src/lines.rt:22:27
 slice-aggregate-put-2 : tie.Need-slice-aggregate-put-2
 slice-aggregate-put-2 c = search needs
 
--- src/lines.rt:22:14
 put-requires-2 : tie.Need-put-requires-2
 put-requires-2 c κs = search needs
 
--- src/lines.rt:23:27
 slice-aggregate-put-3 : tie.Need-slice-aggregate-put-3
 slice-aggregate-put-3 c = search needs
 
--- src/lines.rt:23:14
 put-requires-3 : tie.Need-put-requires-3
 put-requires-3 c κs = search needs
 
--- src/lines.rt:16:1
 same-length : tie.Need-same-length
 same-length c = search needs
 
--- src/lines.rt:16:1
 returns : tie.Need-returns
 unfolding name words wordOf
 returns c = prints-as (sym (ap name (c .before .before .before .before .before .match .keys1))) (c .before .before .put .ensures)
 
--- src/lines.rt:16:1
 same-length-2 : tie.Need-same-length-2
 same-length-2 c = search needs
 
--- src/lines.rt:16:1
 returns-2 : tie.Need-returns-2
 unfolding name words wordOf
 returns-2 c = prints-as (sym (ap name (c .before .before .before .before .before .match .keys2))) (c .before .before .put2 .ensures)
 
--- src/lines.rt:16:1
 same-length-3 : tie.Need-same-length-3
 same-length-3 c = search needs
 
--- src/lines.rt:16:1
 returns-3 : tie.Need-returns-3
 unfolding name words wordOf
 returns-3 c =

@@ -1,57 +1,42 @@
+-- `listings::lines::cell` meets its contract, by the definition's cases. Assumes nothing.
 use mathlib.Core.Path.{ap₂, sym, _∙_}
+use borrow.Author.Needs.{needs}
 use borrow.Author.Tests.{eq-eqb, ne-eqb}
 use Rattle.base.proofs.Choice.{chosen, passed}
-use Rattle.listings.proofs.Texts.{prints-as}
 use Rattle.listings.specs.Listings.{pair, cell}
-use borrow.Author.Needs.{needs}
+use Rattle.listings.proofs.Texts.{prints-as}
 use Rattle.listings.proofs.lines.cell.Statement.{statement}
 use Rattle.listings.proofs.lines.cell.Tie as tie
-use Rattle.listings.proofs.lines.cell.Reads as reads
-use Rattle.listings.proofs.lines.cell.Lts as lts
-use Rattle.base.proofs.byte_at.Reads as byte-at-reads
-use Rattle.base.proofs.word_at.Reads as word-at-reads
-use Rattle.listings.proofs.lines.pair.Reads as pair-reads
-use Rattle.listings.proofs.output.put.Reads as put-reads
 
--- src/lines.rt:123:8
 byte-at-requires : tie.Need-byte-at-requires
 byte-at-requires c κs = search needs
 
--- src/lines.rt:124:30
 word-at-requires : tie.Need-word-at-requires
 word-at-requires c κs = search needs
 
--- src/lines.rt:124:55
 word-at-requires-2 : tie.Need-word-at-requires-2
 word-at-requires-2 c κs = search needs
 
--- src/lines.rt:124:9
 pair-requires : tie.Need-pair-requires
 pair-requires c κs = search needs
 
--- src/lines.rt:124:9
 same-length : tie.Need-same-length
 same-length c = search needs
 
--- src/lines.rt:124:9
 returns : tie.Need-returns
 unfolding cell
 returns c =
     prints-as (ap₂ pair (c .before .before .before .before .word-at .ensures) (c .before .before .before .word-at2 .ensures) ∙ sym (chosen _ _ (eq-eqb _ _ (sym (c .before .before .before .before .before .before .before .byte-at .ensures) ∙ c .before .before .before .before .before .before .if1 .taken)))) (c .before .before .pair .ensures)
 
--- src/lines.rt:126:18
 slice-aggregate-put : tie.Need-slice-aggregate-put
 slice-aggregate-put c = search needs
 
--- src/lines.rt:126:5
 put-requires : tie.Need-put-requires
 put-requires c κs = search needs
 
--- src/lines.rt:120:1
 same-length-2 : tie.Need-same-length-2
 same-length-2 c = search needs
 
--- src/lines.rt:120:1
 returns-2 : tie.Need-returns-2
 unfolding cell
 returns-2 c =

@@ -1,115 +1,89 @@
-use Rattle.listings.proofs.Texts.{prints-as}
-use Rattle.listings.specs.Listings.{name}
-use Rattle.records.specs.Instructions.{words, wordOf}
-use Rattle.base.proofs.Below.{none-from}
-use native.Mathlib.Omega.{arith}
+-- `listings::lines::jump_word` meets its contract. Each arm is one number. Assumes nothing.
 use Prim.Native.Nat.{_≤_}
 use mathlib.Core.Path.{_≡_, ap, sym}
+use native.Mathlib.Omega.{arith}
 use borrow.Author.Needs.{needs}
+use Rattle.base.proofs.Below.{none-from}
+use Rattle.records.specs.Instructions.{words, wordOf}
+use Rattle.listings.specs.Listings.{name}
+use Rattle.listings.proofs.Texts.{prints-as}
 use Rattle.listings.proofs.lines.jump_word.Statement.{statement}
 use Rattle.listings.proofs.lines.jump_word.Tie as tie
-use Rattle.listings.proofs.lines.jump_word.Reads as reads
-use Rattle.listings.proofs.lines.jump_word.Lts as lts
-use Rattle.listings.proofs.output.put.Reads as put-reads
 
--- src/lines.rt:48:27
 slice-aggregate-put : tie.Need-slice-aggregate-put
 slice-aggregate-put c = search needs
 
--- src/lines.rt:48:14
 put-requires : tie.Need-put-requires
 put-requires c κs = search needs
 
--- src/lines.rt:49:28
 slice-aggregate-put-2 : tie.Need-slice-aggregate-put-2
 slice-aggregate-put-2 c = search needs
 
--- src/lines.rt:49:15
 put-requires-2 : tie.Need-put-requires-2
 put-requires-2 c κs = search needs
 
--- src/lines.rt:50:28
 slice-aggregate-put-3 : tie.Need-slice-aggregate-put-3
 slice-aggregate-put-3 c = search needs
 
--- src/lines.rt:50:15
 put-requires-3 : tie.Need-put-requires-3
 put-requires-3 c κs = search needs
 
--- src/lines.rt:51:28
 slice-aggregate-put-4 : tie.Need-slice-aggregate-put-4
 slice-aggregate-put-4 c = search needs
 
--- src/lines.rt:51:15
 put-requires-4 : tie.Need-put-requires-4
 put-requires-4 c κs = search needs
 
--- src/lines.rt:52:28
 slice-aggregate-put-5 : tie.Need-slice-aggregate-put-5
 slice-aggregate-put-5 c = search needs
 
--- src/lines.rt:52:15
 put-requires-5 : tie.Need-put-requires-5
 put-requires-5 c κs = search needs
 
--- src/lines.rt:53:27
 slice-aggregate-put-6 : tie.Need-slice-aggregate-put-6
 slice-aggregate-put-6 c = search needs
 
--- src/lines.rt:53:14
 put-requires-6 : tie.Need-put-requires-6
 put-requires-6 c κs = search needs
 
--- src/lines.rt:43:1
 same-length : tie.Need-same-length
 same-length c = search needs
 
--- src/lines.rt:43:1
 returns : tie.Need-returns
 unfolding name words wordOf
 returns c = prints-as (sym (ap name (c .before .before .before .before .before .match .keys1))) (c .before .before .put .ensures)
 
--- src/lines.rt:43:1
 same-length-2 : tie.Need-same-length-2
 same-length-2 c = search needs
 
--- src/lines.rt:43:1
 returns-2 : tie.Need-returns-2
 unfolding name words wordOf
 returns-2 c = prints-as (sym (ap name (c .before .before .before .before .before .match .keys2))) (c .before .before .put2 .ensures)
 
--- src/lines.rt:43:1
 same-length-3 : tie.Need-same-length-3
 same-length-3 c = search needs
 
--- src/lines.rt:43:1
 returns-3 : tie.Need-returns-3
 unfolding name words wordOf
 returns-3 c = prints-as (sym (ap name (c .before .before .before .before .before .match .keys3))) (c .before .before .put3 .ensures)
 
--- src/lines.rt:43:1
 same-length-4 : tie.Need-same-length-4
 same-length-4 c = search needs
 
--- src/lines.rt:43:1
 returns-4 : tie.Need-returns-4
 unfolding name words wordOf
 returns-4 c = prints-as (sym (ap name (c .before .before .before .before .before .match .keys4))) (c .before .before .put4 .ensures)
 
--- src/lines.rt:43:1
 same-length-5 : tie.Need-same-length-5
 same-length-5 c = search needs
 
--- src/lines.rt:43:1
 returns-5 : tie.Need-returns-5
 unfolding name words wordOf
 returns-5 c = prints-as (sym (ap name (c .before .before .before .before .before .match .keys5))) (c .before .before .put5 .ensures)
 
--- src/lines.rt:43:1
 same-length-6 : tie.Need-same-length-6
 same-length-6 c = search needs
 
--- src/lines.rt:43:1
 returns-6 : tie.Need-returns-6
 unfolding name words wordOf
 returns-6 c =

@@ -1,131 +1,101 @@
+-- `listings::lines::other_word` meets its contract. Each arm is one number, and the last is past FLUSH. Assumes nothing.
+use mathlib.Core.Path.{ap, sym}
+use borrow.Author.Needs.{needs}
+use Rattle.base.proofs.Below.{none-from}
+use Rattle.records.specs.Instructions.{words, wordOf}
+use Rattle.listings.specs.Listings.{name}
 use Rattle.listings.proofs.StepLines.{name-none}
 use Rattle.listings.proofs.Texts.{prints-as}
-use Rattle.listings.specs.Listings.{name}
-use Rattle.records.specs.Instructions.{words, wordOf}
-use Rattle.base.proofs.Below.{none-from}
-use mathlib.Core.Path.{_≡_, ap, sym}
-use borrow.Author.Needs.{needs}
 use Rattle.listings.proofs.lines.other_word.Statement.{statement}
 use Rattle.listings.proofs.lines.other_word.Tie as tie
-use Rattle.listings.proofs.lines.other_word.Reads as reads
-use Rattle.listings.proofs.lines.other_word.Lts as lts
-use Rattle.listings.proofs.output.put.Reads as put-reads
 
--- src/lines.rt:63:28
 slice-aggregate-put : tie.Need-slice-aggregate-put
 slice-aggregate-put c = search needs
 
--- src/lines.rt:63:15
 put-requires : tie.Need-put-requires
 put-requires c κs = search needs
 
--- src/lines.rt:64:28
 slice-aggregate-put-2 : tie.Need-slice-aggregate-put-2
 slice-aggregate-put-2 c = search needs
 
--- src/lines.rt:64:15
 put-requires-2 : tie.Need-put-requires-2
 put-requires-2 c κs = search needs
 
--- src/lines.rt:65:28
 slice-aggregate-put-3 : tie.Need-slice-aggregate-put-3
 slice-aggregate-put-3 c = search needs
 
--- src/lines.rt:65:15
 put-requires-3 : tie.Need-put-requires-3
 put-requires-3 c κs = search needs
 
--- src/lines.rt:66:28
 slice-aggregate-put-4 : tie.Need-slice-aggregate-put-4
 slice-aggregate-put-4 c = search needs
 
--- src/lines.rt:66:15
 put-requires-4 : tie.Need-put-requires-4
 put-requires-4 c κs = search needs
 
--- src/lines.rt:67:28
 slice-aggregate-put-5 : tie.Need-slice-aggregate-put-5
 slice-aggregate-put-5 c = search needs
 
--- src/lines.rt:67:15
 put-requires-5 : tie.Need-put-requires-5
 put-requires-5 c κs = search needs
 
--- src/lines.rt:68:28
 slice-aggregate-put-6 : tie.Need-slice-aggregate-put-6
 slice-aggregate-put-6 c = search needs
 
--- src/lines.rt:68:15
 put-requires-6 : tie.Need-put-requires-6
 put-requires-6 c κs = search needs
 
--- src/lines.rt:69:27
 slice-aggregate-put-7 : tie.Need-slice-aggregate-put-7
 slice-aggregate-put-7 c = search needs
 
--- src/lines.rt:69:14
 put-requires-7 : tie.Need-put-requires-7
 put-requires-7 c κs = search needs
 
--- src/lines.rt:58:1
 same-length : tie.Need-same-length
 same-length c = search needs
 
--- src/lines.rt:58:1
 returns : tie.Need-returns
 unfolding name words wordOf
 returns c = prints-as (sym (ap name (c .before .before .before .before .before .match .keys1))) (c .before .before .put .ensures)
 
--- src/lines.rt:58:1
 same-length-2 : tie.Need-same-length-2
 same-length-2 c = search needs
 
--- src/lines.rt:58:1
 returns-2 : tie.Need-returns-2
 unfolding name words wordOf
 returns-2 c = prints-as (sym (ap name (c .before .before .before .before .before .match .keys2))) (c .before .before .put2 .ensures)
 
--- src/lines.rt:58:1
 same-length-3 : tie.Need-same-length-3
 same-length-3 c = search needs
 
--- src/lines.rt:58:1
 returns-3 : tie.Need-returns-3
 unfolding name words wordOf
 returns-3 c = prints-as (sym (ap name (c .before .before .before .before .before .match .keys3))) (c .before .before .put3 .ensures)
 
--- src/lines.rt:58:1
 same-length-4 : tie.Need-same-length-4
 same-length-4 c = search needs
 
--- src/lines.rt:58:1
 returns-4 : tie.Need-returns-4
 unfolding name words wordOf
 returns-4 c = prints-as (sym (ap name (c .before .before .before .before .before .match .keys4))) (c .before .before .put4 .ensures)
 
--- src/lines.rt:58:1
 same-length-5 : tie.Need-same-length-5
 same-length-5 c = search needs
 
--- src/lines.rt:58:1
 returns-5 : tie.Need-returns-5
 unfolding name words wordOf
 returns-5 c = prints-as (sym (ap name (c .before .before .before .before .before .match .keys5))) (c .before .before .put5 .ensures)
 
--- src/lines.rt:58:1
 same-length-6 : tie.Need-same-length-6
 same-length-6 c = search needs
 
--- src/lines.rt:58:1
 returns-6 : tie.Need-returns-6
 unfolding name words wordOf
 returns-6 c = prints-as (sym (ap name (c .before .before .before .before .before .match .keys6))) (c .before .before .put6 .ensures)
 
--- src/lines.rt:58:1
 same-length-7 : tie.Need-same-length-7
 same-length-7 c = search needs
 
--- src/lines.rt:58:1
 returns-7 : tie.Need-returns-7
 returns-7 c =
     let n = c .before .before .before .before .before .before .before .args .n in

@@ -1,53 +1,37 @@
+-- `listings::lines::pair` meets its contract: its texts stand one after the other. Assumes nothing.
 use mathlib.Core.List.{append-assoc}
-use Rattle.listings.proofs.Texts.{stands-as}
-use mathlib.Core.List.{_++_}
-use Rattle.listings.proofs.Texts.{prints-both}
-use Rattle.listings.specs.Listings.{text, decimal}
 use borrow.Author.Needs.{needs}
+use Rattle.listings.proofs.Texts.{stands-as}
 use Rattle.listings.proofs.lines.pair.Statement.{statement}
 use Rattle.listings.proofs.lines.pair.Tie as tie
-use Rattle.listings.proofs.lines.pair.Reads as reads
-use Rattle.listings.proofs.lines.pair.Lts as lts
-use Rattle.listings.proofs.output.number.Reads as number-reads
-use Rattle.listings.proofs.output.put.Reads as put-reads
 
--- src/lines.rt:112:31
 slice-aggregate-put : tie.Need-slice-aggregate-put
 slice-aggregate-put c = search needs
 
--- src/lines.rt:112:9
 put-requires : tie.Need-put-requires
 put-requires c κs = search needs
 
--- src/lines.rt:113:9
 number-requires : tie.Need-number-requires
 number-requires c κs = search needs
 
--- src/lines.rt:114:33
 slice-aggregate-put-2 : tie.Need-slice-aggregate-put-2
 slice-aggregate-put-2 c = search needs
 
--- src/lines.rt:114:9
 put-requires-2 : tie.Need-put-requires-2
 put-requires-2 c κs = search needs
 
--- src/lines.rt:115:9
 number-requires-2 : tie.Need-number-requires-2
 number-requires-2 c κs = search needs
 
--- src/lines.rt:116:22
 slice-aggregate-put-3 : tie.Need-slice-aggregate-put-3
 slice-aggregate-put-3 c = search needs
 
--- src/lines.rt:116:5
 put-requires-3 : tie.Need-put-requires-3
 put-requires-3 c κs = search needs
 
--- src/lines.rt:109:1
 same-length : tie.Need-same-length
 same-length c = search needs
 
--- src/lines.rt:109:1
 returns : tie.Need-returns
 returns c = λ before xs s. stands-as (c .before .before .put3 .ensures _ xs (c .before .before .before .before .before .before .before .number2 .ensures _ xs (c .before .before .before .before .before .before .before .before .before .before .before .put2 .ensures _ xs (c .before .before .before .before .before .before .before .before .before .before .before .before .before .before .before .before .number .ensures _ xs (c .before .before .before .before .before .before .before .before .before .before .before .before .before .before .before .before .before .before .before .before .put .ensures before xs s))))) (simp append-assoc)
 

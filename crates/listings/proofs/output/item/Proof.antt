@@ -1,30 +1,22 @@
+-- `listings::output::item` meets its contract. Assumes nothing.
+use borrow.Author.Needs.{needs}
 use Rattle.listings.specs.Listings.{decimal, text}
 use Rattle.listings.proofs.Texts.{prints-both}
-use borrow.Author.Needs.{needs}
 use Rattle.listings.proofs.output.item.Statement.{statement}
 use Rattle.listings.proofs.output.item.Tie as tie
-use Rattle.listings.proofs.output.item.Reads as reads
-use Rattle.listings.proofs.output.item.Lts as lts
-use Rattle.listings.proofs.output.number.Reads as number-reads
-use Rattle.listings.proofs.output.put.Reads as put-reads
 
--- src/output.rt:69:9
 number-requires : tie.Need-number-requires
 number-requires c κs = search needs
 
--- src/output.rt:70:20
 slice-aggregate-put : tie.Need-slice-aggregate-put
 slice-aggregate-put c = search needs
 
--- src/output.rt:70:5
 put-requires : tie.Need-put-requires
 put-requires c κs = search needs
 
--- src/output.rt:66:1
 same-length : tie.Need-same-length
 same-length c = search needs
 
--- src/output.rt:66:1
 returns : tie.Need-returns
 returns c =
     let m = c .before .before .before .before .before .before .before in

@@ -1,35 +1,29 @@
-use Rattle.listings.specs.Listings.{places}
-use Rattle.base.proofs.Choice.{chosen, passed}
+-- `listings::output::places` meets its contract, by the definition's cases. Assumes nothing.
 use mathlib.Core.Path.{sym, _∙_}
 use borrow.Author.Tests.{lt-ltb, le-ltb}
+use Rattle.base.proofs.Choice.{chosen, passed}
+use Rattle.listings.specs.Listings.{places}
 use Rattle.listings.proofs.output.places.Statement.{statement}
 use Rattle.listings.proofs.output.places.Tie as tie
-use Rattle.listings.proofs.output.places.Reads as reads
-use Rattle.listings.proofs.output.places.Lts as lts
 
--- src/output.rt:29:9
 returns : tie.Need-returns
 unfolding places
 returns c = sym (chosen _ _ (lt-ltb _ _ (c .if1 .taken)))
 
--- src/output.rt:32:9
 returns-2 : tie.Need-returns-2
 unfolding places
 returns-2 c = sym (passed _ _ (le-ltb _ _ (c .before .if1 .left)) ∙ chosen _ _ (lt-ltb _ _ (c .if2 .taken)))
 
--- src/output.rt:35:9
 returns-3 : tie.Need-returns-3
 unfolding places
 returns-3 c = sym (passed _ _ (le-ltb _ _ (c .before .before .if1 .left)) ∙ passed _ _ (le-ltb _ _ (c .before .if2 .left)) ∙ chosen _ _ (lt-ltb _ _ (c .if3 .taken)))
 
--- src/output.rt:38:9
 returns-4 : tie.Need-returns-4
 unfolding places
 returns-4 c =
     sym (passed _ _ (le-ltb _ _ (c .before .before .before .if1 .left)) ∙ passed _ _ (le-ltb _ _ (c .before .before .if2 .left))
     ∙ passed _ _ (le-ltb _ _ (c .before .if3 .left)) ∙ chosen _ _ (lt-ltb _ _ (c .if4 .taken)))
 
--- src/output.rt:25:1
 returns-5 : tie.Need-returns-5
 unfolding places
 returns-5 c =
