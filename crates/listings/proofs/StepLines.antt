@@ -11,6 +11,7 @@ use borrow.Author.Tests.{ne-eqb}
 use Rattle.base.proofs.Choice.{passed}
 use Rattle.records.specs.Instructions.{words, wordOf}
 use Rattle.records.specs.Sets.{Set}
+use Rattle.records.specs.declared.Statement.{Statement}
 use Rattle.step.specs.Machine.{State, actor}
 use Rattle.step.specs.Traces.{bit, shown, stepBytes, traceStep}
 use Rattle.step.specs.declared.Choice.{Choice}
@@ -18,7 +19,6 @@ use Rattle.step.specs.declared.Thread.{Thread}
 use Rattle.step.specs.declared.Written.{Written}
 use Rattle.listings.specs.Listings.{text, decimal, item, name, argument, cell, lineOf, line}
 use Rattle.listings.specs.Outputs.{lineAt}
-use Rattle.records.specs.declared.Statement.{Statement}
 
 -- no word past FLUSH
 pub name-none : (n : ℕ) → 21 ≤ n → name n ≡ []

@@ -9,6 +9,7 @@ use Rattle.base.specs.Below.{least}
 use Rattle.records.specs.Instructions.{instructions, isBare, wordOf}
 use Rattle.records.specs.Maps.{mapAccepted}
 use Rattle.records.specs.Sets.{Set, setOf, setAccepted}
+use Rattle.records.specs.declared.Statement.{Statement}
 use Rattle.step.specs.Machine.{State, permitted, actor, written, noWrite}
 use Rattle.step.specs.Maps.{Held, begin, outcome, advanced}
 use Rattle.step.specs.Runs.{endOf}
@@ -21,7 +22,6 @@ use Rattle.step.specs.declared.Outcome.{Outcome}
 use Rattle.step.specs.declared.Outcome.the-variants.{Taken, NotPermitted, Lacking}
 use Rattle.step.specs.declared.Thread.{Thread}
 use Rattle.step.specs.declared.Written.{Written}
-use Rattle.records.specs.declared.Statement.{Statement}
 
 -- ---- texts and numbers
 

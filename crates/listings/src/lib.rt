@@ -3,11 +3,11 @@
 mod lines;
 mod output;
 
-ghost use Prim.Native.Nat.{_+_, _≤_, _<_};
+ghost use Prim.Native.Nat.{_<_};
 ghost use mathlib.Core.Path.{_≡_};
 ghost use mathlib.Core.Bool.{true, cond};
 ghost use lib.Dec.{eqb};
-ghost use lib.ListN.{length, take};
+ghost use lib.ListN.{take};
 ghost use Rattle.records.specs.Sets.{setOf};
 ghost use Rattle.step.specs.Machine.{noWrite};
 ghost use Rattle.step.specs.Maps.{begin};

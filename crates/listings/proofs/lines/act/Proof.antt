@@ -6,9 +6,9 @@ use lib.ListN.{getD}
 use borrow.Author.Needs.{needs}
 use denote.Ref.{now}
 use Rattle.base.specs.Bytes.{wordAt}
+use Rattle.records.specs.declared.Statement.{Statement}
 use Rattle.listings.specs.Listings.{item, name, argument}
 use Rattle.listings.proofs.Texts.{stands-as, prints-as, prints-item}
-use Rattle.records.specs.declared.Statement.{Statement}
 use Rattle.listings.proofs.lines.act.Statement.{statement}
 use Rattle.listings.proofs.lines.act.Tie as tie
 
