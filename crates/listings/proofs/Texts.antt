@@ -16,7 +16,7 @@ use Rattle.listings.specs.Outputs.{printed, Stands, Prints}
 
 -- ---- an output with a text printed into it
 
-printed-fits : (text xs : List ℕ) → length text ≤ length xs → printed text xs ≡ over text xs
+pub printed-fits : (text xs : List ℕ) → length text ≤ length xs → printed text xs ≡ over text xs
 unfolding printed
 printed-fits text xs h = let l = length-over text xs h in take-all (length xs) (over text xs) (omega arith)
 
