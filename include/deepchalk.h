@@ -1,13 +1,16 @@
-/* Deepchalk's proved calls for C: simulation by a given schedule, and replay of a trace.
+/* Deepchalk's proved calls for C: reading a set text, simulation by a given schedule, and replay of
+ * a trace.
  * Link libdeepchalk.a. Numbers, records and steps are those of document 01; multi-byte fields are
  * little-endian.
  *
  * Buffers are passed as a pointer and a length in bytes. A pointer must not be null, also where its
  * length is 0. Inputs of any length and content are taken. Buffers must not overlap an output.
  *
+ *   text      a set text, at most 16,384 bytes
  *   set       statement records, 8 bytes each: thread, instruction number, mode (1 indirect), 0,
  *             argument (2), pc (2)
- *   map       at most 256 cells, 4 bytes each: address (2), value (2); addresses strictly ascend
+ *   map       at most 256 cells, 128 from a text, 4 bytes each: address (2), value (2); addresses
+ *             strictly ascend
  *   schedule  a byte for each step, at most 64: t executes thread t, 128 + t flushes it
  *   trace     24 bytes for each step, at most 64
  */
@@ -21,8 +24,17 @@
 extern "C" {
 #endif
 
-/* Refusals that these calls return. Place is the step, from 0, for 12 to 14, else 0. */
+/* Refusals that these calls return. Place is the line, from 1, for 2 and 3, the step, from 0, for 12
+ * to 14, else 0. */
 enum {
+    DEEPCHALK_TEXT_LENGTH = 1,    /* text above 16,384 bytes */
+    DEEPCHALK_MALFORMED = 2,      /* line malformed or forbidden byte */
+    DEEPCHALK_NUMBER = 3,         /* number above 65,535 */
+    DEEPCHALK_THREADS = 4,        /* threads not 1 to 4 */
+    DEEPCHALK_STATEMENTS = 5,     /* a thread's statements not 1 to 32 */
+    DEEPCHALK_LABEL = 6,          /* label doubled, unknown, or target beyond the last statement */
+    DEEPCHALK_CHECKPOINTS = 7,    /* more than 8 different checkpoints */
+    DEEPCHALK_MAP = 8,            /* map address doubled, or above 128 cells */
     DEEPCHALK_RECORDS = 9,        /* statement or map records not as document 01 has them */
     DEEPCHALK_ROOM = 11,          /* lent output too short */
     DEEPCHALK_NOT_PERMITTED = 12, /* choice not permitted, or machine has exited */
@@ -38,6 +50,15 @@ enum {
     DEEPCHALK_OPEN = 2   /* not ended, and some choice is permitted */
 };
 
+/* Reads the text and writes its statement records to the front of `set` and its map records to the
+ * front of `map`.
+ * Checks in order: 1, then 2 and 3 in each line, then 4 to 8, 11 (8 bytes for each statement in
+ * `set`, 4 for each cell in `map`).
+ * A refusal leaves every byte of `set` and `map` as it was, a success those beyond the records. */
+uint64_t deepchalk_read(const uint8_t *text, size_t text_len,
+                        uint8_t *set, size_t set_len,
+                        uint8_t *map, size_t map_len);
+
 /* Runs the schedule over the set and the map and writes its trace to the front of `trace`.
  * Checks in order: 9, 17, 11 (24 bytes for each schedule byte), then 12 and 14 in each step.
  * A refusal leaves every byte of `trace` as it was, a success those beyond the steps. */
@@ -52,8 +73,8 @@ uint64_t deepchalk_replay(const uint8_t *set, size_t set_len,
                           const uint8_t *map, size_t map_len,
                           const uint8_t *trace, size_t trace_len);
 
-/* The answer's parts. The number is 0 on success; end, code and steps are then the run's. On a
- * refusal the place goes with the number, and end and code are 0. */
+/* The answer's parts. The number is 0 on success; end, code and steps are then the run's, statements
+ * and cells those of the text. On a refusal the place goes with the number, and the others are 0. */
 
 static inline unsigned deepchalk_number(uint64_t answer) { return (unsigned)(answer & 0xff); }
 
@@ -72,6 +93,12 @@ static inline uint16_t deepchalk_steps(uint64_t answer)
 {
     return deepchalk_number(answer) == 0 ? (uint16_t)(answer >> 32 & 0xffff) : 0;
 }
+
+/* Of the text that was read; 0 on a refusal. */
+static inline uint16_t deepchalk_statements(uint64_t answer) { return (uint16_t)(answer >> 16 & 0xffff); }
+
+/* Of the text that was read; 0 on a refusal. */
+static inline uint16_t deepchalk_cells(uint64_t answer) { return deepchalk_steps(answer); }
 
 #ifdef __cplusplus
 }

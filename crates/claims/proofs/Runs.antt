@@ -30,7 +30,7 @@ use Rattle.step.proofs.Runs.{scheduleOf, schedule, schedule-choices, choices-sc
 use Rattle.step.proofs.Runs.{AllTaken, taken-takes, taken-run, follow-ran}
 use Rattle.step.proofs.Runs.{length-trace, take-trace, drop-trace, stepChoice-trace, stepChoices, length-stepChoices, stepChoices-trace}
 use Rattle.simulation.specs.Simulation.{simulated, limited, scheduleTrace}
-use Rattle.replay.specs.Replay.{retrace, replayed, limited as replay-limited}
+use Rattle.replay.specs.Replay.{retrace, replayed, limitedTrace}
 use Rattle.claims.specs.Runs.{Bytes, Simulates, ReplayAcceptsWhatSimulationWrites, OneSchedule, SimulationRuns}
 
 -- ---- replay and the run that a trace shows
@@ -115,7 +115,7 @@ pub record ReplayedTo (set map bytes : List ℕ) (n : ℕ) (e : End) : Type 0 wh
   pub retraced : retrace (setOf set) (begin map) noWrite 0 (length bytes / 24) bytes ≡ Ran n e
 
 pub replayed-ran : (set map bytes : List ℕ) (n : ℕ) (e : End) → replayed set map bytes ≡ Ran n e → ReplayedTo set map bytes n e
-unfolding replayed replay-limited
+unfolding replayed limitedTrace
 replayed-ran set map bytes n e p =
     let (a, p₁) = ran-where (setAccepted set && mapAccepted 256 map) 9 0 p in
     let (b, p₂) = ran-where (eqb (length bytes % 24) 0 && leb (length bytes / 24) 64) 17 0 p₁ in
@@ -124,7 +124,7 @@ replayed-ran set map bytes n e p =
     record { accepted = a; whole = omega arith; few = few; retraced = p₂ }
 
 pub ran-replayed : (set map bytes : List ℕ) (n : ℕ) (e : End) → ReplayedTo set map bytes n e → replayed set map bytes ≡ Ran n e
-unfolding replayed replay-limited
+unfolding replayed limitedTrace
 ran-replayed set map bytes n e r =
     let whole = r .whole in
     chosen _ _ (r .accepted)

@@ -3,6 +3,8 @@ use Prim.Native.Nat.{ℕ, _+_, _*_}
 use Rattle.step.specs.declared.Answer.{Answer}
 use Rattle.step.specs.declared.Answer.the-variants.{Ran, Refused}
 use Rattle.step.specs.declared.End.{End}
+use Rattle.text.specs.declared.Answer.{Answer as Text}
+use Rattle.text.specs.declared.Answer.the-variants.{Read, Refused as Unread}
 use Rattle.step.specs.declared.End.the-variants.{Code, Stuck, Open}
 
 -- the end: 0 for a code, 1 stuck, 2 open
@@ -22,3 +24,8 @@ endCode Open = 0
 abbrev pub packed : Answer → ℕ
 packed (Ran steps end) = 256 * endNumber end + 65536 * endCode end + 4294967296 * steps
 packed (Refused number place) = number + 4294967296 * place
+
+-- On success bits 16 to 31 are the statements and 32 to 47 the map cells.
+abbrev pub packedRead : Text → ℕ
+packedRead (Read statements cells) = 65536 * statements + 4294967296 * cells
+packedRead (Unread number place) = number + 4294967296 * place

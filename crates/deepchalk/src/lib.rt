@@ -3,7 +3,8 @@ ghost use mathlib.Core.Path.{_≡_};
 ghost use lib.ListN.{length};
 ghost use Rattle.simulation.specs.Simulation.{simulated, traceOutput};
 ghost use Rattle.replay.specs.Replay.{replayed};
-ghost use Rattle.deepchalk.specs.Packed.{packed};
+ghost use Rattle.text.specs.Answers.{answer as answerOf, setOutput, mapOutput};
+ghost use Rattle.deepchalk.specs.Packed.{packed, packedRead};
 use step::Answer;
 use step::End;
 
@@ -22,6 +23,29 @@ fn pack(answer: Answer) -> u64
         }
         Answer::Refused { number, place } => (number as u64) + 4294967296 * (place as u64),
     }
+}
+
+// The answer of reading as one number.
+fn pack_read(answer: text::Answer) -> u64
+    ensures { λ r. ⌜ r ≡ packedRead answer ⌝ }
+{
+    match answer {
+        text::Answer::Read { statements, cells } => {
+            65536 * (statements as u64) + 4294967296 * (cells as u64)
+        }
+        text::Answer::Refused { number, place } => (number as u64) + 4294967296 * (place as u64),
+    }
+}
+
+// Reads a set text, and writes its statement records and its map records.
+#[no_mangle]
+pub extern "C" fn deepchalk_read(text: &[u8], set: &mut [u8], map: &mut [u8]) -> u64
+    ensures { λ r. ⌜ (r ≡ packedRead (answerOf (now (text .entry)) (length (now (set .entry))) (length (now (map .entry)))))
+        × (now (set .exit) ≡ setOutput (answerOf (now (text .entry)) (length (now (set .entry))) (length (now (map .entry)))) (now (text .entry)) (now (set .entry)))
+        × (now (map .exit) ≡ mapOutput (answerOf (now (text .entry)) (length (now (set .entry))) (length (now (map .entry)))) (now (text .entry)) (now (map .entry))) ⌝ }
+{
+    let answer = text::read(text, set, map);
+    pack_read(answer)
 }
 
 // Simulates a schedule over a set and a map, and writes its trace.

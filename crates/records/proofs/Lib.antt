@@ -5,3 +5,4 @@ pub mod Maps
 pub mod Places
 mod Samples
 pub mod Sets
+mod Words

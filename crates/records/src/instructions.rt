@@ -1,10 +1,12 @@
 // The twenty instructions by number, with their words and classes.
 ghost use mathlib.Core.Path.{_≡_};
-ghost use Prim.Native.Nat.{_≤_, _<_};
+ghost use mathlib.Core.Bool.{cond};
+ghost use lib.ListN.{getD};
 ghost use Rattle.base.specs.Below.{least};
 ghost use Rattle.base.specs.Bytes.{same};
 ghost use Rattle.records.specs.Instructions.{wordOf, isMemory, isJump, isBare, isLast};
 use crate::Statement;
+use base::byte_at;
 use base::same;
 
 pub const LOAD: u8 = 0;
@@ -75,67 +77,119 @@ pub fn is_last(n: u8) -> bool
     (n == EXIT) | (n == JMP) | (n == HALT)
 }
 
-// Whether w is the word of instruction n, one of the first ten. Two halves: the check of a `match`
-// over byte strings grows with the square of their number.
-fn is_early_word(w: &[u8], n: u8) -> bool
-    requires { ⌜ n < 10 ⌝ }
-    ensures { λ r. ⌜ r ≡ same (now (w .entry)) (wordOf n) ⌝ }
+// Instruction n where w is its word, 20 where it is not.
+fn number_if(w: &[u8], word: &[u8], n: u8) -> u8
+    ensures { λ r. ⌜ r ≡ cond (same (now (w .entry)) (now (word .entry))) n 20 ⌝ }
 {
-    match n {
-        0 => same(w, b"LOAD"),
-        1 => same(w, b"STORE"),
-        2 => same(w, b"FENCE"),
-        3 => same(w, b"ADD"),
-        4 => same(w, b"ADDI"),
-        5 => same(w, b"SUB"),
-        6 => same(w, b"SUBI"),
-        7 => same(w, b"MUL"),
-        8 => same(w, b"MULI"),
-        _ => same(w, b"JMP"),
-    }
-}
-
-// Whether w is the word of instruction n, which is none of the first ten.
-fn is_late_word(w: &[u8], n: u8) -> bool
-    requires { ⌜ 10 ≤ n ⌝ }
-    ensures { λ r. ⌜ r ≡ same (now (w .entry)) (wordOf n) ⌝ }
-{
-    match n {
-        10 => same(w, b"JZ"),
-        11 => same(w, b"JNZ"),
-        12 => same(w, b"JS"),
-        13 => same(w, b"JNS"),
-        14 => same(w, b"JNZNS"),
-        15 => same(w, b"MEM"),
-        16 => same(w, b"CAS"),
-        17 => same(w, b"HALT"),
-        18 => same(w, b"EXIT"),
-        19 => same(w, b"CHECK"),
-        _ => w.len() == 0,
-    }
-}
-
-// Whether w is the word of instruction n.
-pub fn is_word(w: &[u8], n: u8) -> bool
-    ensures { λ r. ⌜ r ≡ same (now (w .entry)) (wordOf n) ⌝ }
-{
-    if n < 10 {
-        is_early_word(w, n)
+    if same(w, word) {
+        n
     } else {
-        is_late_word(w, n)
+        Statement::INSTRUCTIONS
     }
 }
 
-// The instruction whose word is w, 20 where none is.
+// The instruction whose word is w, which starts with A; 20 where none is.
+fn number_with_a(w: &[u8]) -> u8
+    requires { ⌜ getD (now w) 0 0 ≡ 65 ⌝ }
+    ensures { λ r. ⌜ r ≡ least 20 (λ n. same (now (w .entry)) (wordOf n)) ⌝ }
+{
+    if same(w, b"ADD") {
+        return ADD;
+    }
+    if same(w, b"ADDI") {
+        return ADDI;
+    }
+    Statement::INSTRUCTIONS
+}
+
+// The instruction whose word is w, which starts with C; 20 where none is.
+fn number_with_c(w: &[u8]) -> u8
+    requires { ⌜ getD (now w) 0 0 ≡ 67 ⌝ }
+    ensures { λ r. ⌜ r ≡ least 20 (λ n. same (now (w .entry)) (wordOf n)) ⌝ }
+{
+    if same(w, b"CAS") {
+        return CAS;
+    }
+    if same(w, b"CHECK") {
+        return CHECK;
+    }
+    Statement::INSTRUCTIONS
+}
+
+// The instruction whose word is w, which starts with J; 20 where none is.
+fn number_with_j(w: &[u8]) -> u8
+    requires { ⌜ getD (now w) 0 0 ≡ 74 ⌝ }
+    ensures { λ r. ⌜ r ≡ least 20 (λ n. same (now (w .entry)) (wordOf n)) ⌝ }
+{
+    if same(w, b"JMP") {
+        return JMP;
+    }
+    if same(w, b"JZ") {
+        return JZ;
+    }
+    if same(w, b"JNZ") {
+        return JNZ;
+    }
+    if same(w, b"JS") {
+        return JS;
+    }
+    if same(w, b"JNS") {
+        return JNS;
+    }
+    if same(w, b"JNZNS") {
+        return JNZNS;
+    }
+    Statement::INSTRUCTIONS
+}
+
+// The instruction whose word is w, which starts with M; 20 where none is.
+fn number_with_m(w: &[u8]) -> u8
+    requires { ⌜ getD (now w) 0 0 ≡ 77 ⌝ }
+    ensures { λ r. ⌜ r ≡ least 20 (λ n. same (now (w .entry)) (wordOf n)) ⌝ }
+{
+    if same(w, b"MUL") {
+        return MUL;
+    }
+    if same(w, b"MULI") {
+        return MULI;
+    }
+    if same(w, b"MEM") {
+        return MEM;
+    }
+    Statement::INSTRUCTIONS
+}
+
+// The instruction whose word is w, which starts with S; 20 where none is.
+fn number_with_s(w: &[u8]) -> u8
+    requires { ⌜ getD (now w) 0 0 ≡ 83 ⌝ }
+    ensures { λ r. ⌜ r ≡ least 20 (λ n. same (now (w .entry)) (wordOf n)) ⌝ }
+{
+    if same(w, b"STORE") {
+        return STORE;
+    }
+    if same(w, b"SUB") {
+        return SUB;
+    }
+    if same(w, b"SUBI") {
+        return SUBI;
+    }
+    Statement::INSTRUCTIONS
+}
+
+// The instruction whose word is w, 20 where none is. Its first letter leaves one to six words to compare it with.
 pub fn number_of(w: &[u8]) -> u8
     ensures { λ r. ⌜ r ≡ least 20 (λ n. same (now (w .entry)) (wordOf n)) ⌝ }
 {
-    let mut n: u8 = 0;
-    while n < Statement::INSTRUCTIONS {
-        if is_word(w, n) {
-            return n;
-        }
-        n += 1;
+    match byte_at(w, 0) {
+        b'A' => number_with_a(w),
+        b'C' => number_with_c(w),
+        b'E' => number_if(w, b"EXIT", EXIT),
+        b'F' => number_if(w, b"FENCE", FENCE),
+        b'H' => number_if(w, b"HALT", HALT),
+        b'J' => number_with_j(w),
+        b'L' => number_if(w, b"LOAD", LOAD),
+        b'M' => number_with_m(w),
+        b'S' => number_with_s(w),
+        _ => Statement::INSTRUCTIONS,
     }
-    n
 }

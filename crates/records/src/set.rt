@@ -128,7 +128,7 @@ fn opens(set: &[u8], k: usize) -> bool
 }
 
 // Whether there are at most 8 different checkpoints; it stops at a ninth.
-fn few_checkpoints(set: &[u8]) -> bool
+pub fn few_checkpoints(set: &[u8]) -> bool
     ensures { λ r. ⌜ r ≡ leb (number (records (now (set .entry))) (opensAt (now (set .entry)))) 8 ⌝ }
 {
     let n = set.len() / 8;

@@ -27,8 +27,8 @@ retrace S h w i (suc n) bytes =
     (Refused 12 i)
 
 -- 17, a trace above 64 steps or not whole records; then the steps.
-unfoldable pub limited : Set → (map trace : List ℕ) → Answer
-limited S map trace =
+unfoldable pub limitedTrace : Set → (map trace : List ℕ) → Answer
+limitedTrace S map trace =
     cond (eqb (length trace % 24) 0 && leb (length trace / 24) 64)
     (retrace S (begin map) noWrite 0 (length trace / 24) trace)
     (Refused 17 0)
@@ -36,4 +36,4 @@ limited S map trace =
 -- 9 comes first.
 unfoldable pub replayed : (set map trace : List ℕ) → Answer
 replayed set map trace =
-    cond (setAccepted set && mapAccepted 256 map) (limited (setOf set) map trace) (Refused 9 0)
+    cond (setAccepted set && mapAccepted 256 map) (limitedTrace (setOf set) map trace) (Refused 9 0)

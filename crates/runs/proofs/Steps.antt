@@ -1,66 +1,211 @@
--- One turn of a loop over a schedule: what the definitions of a run and of its trace say of the next step. Assumes nothing.
-use Prim.Native.Nat.{ℕ, suc, _+_, _*_, _≤_, _<_}
-use mathlib.Core.Path.{_≡_, refl, ap, sym, _∙_}
-use mathlib.Core.Bool.{Bool, true, false, cond, not, _&&_}
-use mathlib.Core.List.{List, [], _∷_, _++_, append-assoc}
+-- One turn of the loop: what the definitions say of the next step, and what the step's answer makes of the machine. Assumes nothing.
+use Prim.Native.Nat.{ℕ, zero, suc, _+_, _-_, _*_, _/_, _%_, _≤_, _<_}
+use mathlib.Core.Path.{_≡_, refl, ap, ap₂, sym, subst, subst⁻¹, _∙_}
+use mathlib.Core.Bool.{Bool, true, false, cond, not, _&&_, _||_}
+use mathlib.Core.List.{List, _∷_, _++_, append-assoc}
 use native.Mathlib.Numerals.{add-one}
 use native.Mathlib.Omega.{arith}
-use borrow.Author.Tests.{le-leb, lt-ltb}
-use lib.Dec.{leb, ltb}
-use lib.ListN.{length, getD, take, drop}
+use borrow.Author.Tests.{le-leb, lt-ltb, ltb-true}
+use lib.Dec.{eqb, leb, ltb}
+use lib.ListN.{length, getD, set, take, drop, drop-of-length-le}
 use lib.Seq.{drop-cons}
+use Rattle.base.specs.Below.{every}
 use Rattle.base.specs.Bytes.{placed}
 use Rattle.base.proofs.Bytes.{take-placed}
-use Rattle.base.proofs.Choice.{chosen, and-true, and-right}
+use Rattle.base.proofs.Choice.{chosen, and-true}
+use Rattle.records.specs.Instructions.{EXIT}
 use Rattle.records.specs.Maps.{cells, addressAt, valueAt, holds, content}
 use Rattle.records.specs.Sets.{Set}
 use Rattle.records.specs.declared.Layout.{Layout}
-use Rattle.step.proofs.Runs.{length-traceStep, permitted-actor, taken-takes}
-use Rattle.step.specs.Held.{stateOf, memoryOf, knownOf, heldOf, hasRoom, onTaken, stateAfter, heldAfter, Advances}
-use Rattle.step.specs.Machine.{State, actor, permitted, start, step, written, noWrite}
-use Rattle.step.specs.Maps.{Held, begin, outcome, advanced, onOutcome, follow}
+use Rattle.records.specs.declared.Statement.{Statement}
+use Rattle.step.proofs.Four.{stored}
+use Rattle.step.proofs.Runs.{length-traceStep, takes-actor, taken-takes}
+use Rattle.step.proofs.Settled.{outcome-by, written-by, shown-by, stateBy, stepped, quiet-state}
+use Rattle.step.specs.Held.{stateOf, memoryOf, knownOf, heldOf, canStep, waits, statementBy, threadBy, writtenBy, outcomeBy, quiet, marksSettled, threadsSettled, onTaken, Advances}
+use Rattle.step.specs.Machine.{State, fresh, unmarked, actor, start, step, written, noWrite, memoryAfter}
+use Rattle.step.specs.Maps.{Held, begin, outcome, advanced, knownAfter, onOutcome, follow}
 use Rattle.step.specs.Runs.{choiceOf, choices, somePermitted, endOf}
-use Rattle.step.specs.Traces.{traceStep, trace}
+use Rattle.step.specs.Traces.{stepBytes, traceStep, trace}
+use Rattle.step.specs.declared.Answer.{Answer}
+use Rattle.step.specs.declared.Answer.the-variants.{Refused}
 use Rattle.step.specs.declared.Choice.{Choice}
 use Rattle.step.specs.declared.Machine.{Machine}
+use Rattle.step.specs.declared.Mark.{Mark}
 use Rattle.step.specs.declared.Outcome.{Outcome}
-use Rattle.step.specs.declared.Outcome.the-variants.{Taken, NotPermitted}
+use Rattle.step.specs.declared.Outcome.the-variants.{Taken, NotPermitted, Lacking}
 use Rattle.step.specs.declared.Stepped.{Stepped}
+use Rattle.step.specs.declared.Thread.{Thread}
 use Rattle.step.specs.declared.Written.{Written}
 use Rattle.step.specs.declared.End.the-variants.{Code, Stuck, Open}
 use Rattle.runs.specs.Ends.{endFor}
+use Rattle.runs.specs.Walks.{countOf, made, agrees, refusalOf, onRefusal, walked, walkedOver, Begins}
 
--- ---- a step that was made
+-- ---- refusals
 
-module _ {fit : Bool} {S : Set} {h : Held} {c : Choice} {filled : ℕ} {r : Stepped} {later : Held} (a : Advances fit S h c filled r later) (room : fit ≡ true) where
-  pub came-out : r .outcome ≡ outcome S h c
-  came-out = a .came ∙ chosen _ _ room
+pub on-refused : (n i : ℕ) (rest : Answer) → (n ≡ 0 → ⊥) → onRefusal n i rest ≡ Refused n i
+on-refused zero i rest f = absurd (f refl)
+on-refused (suc n) i rest f = refl
 
-  module _ (t : r .outcome ≡ Taken) where
-    pub taken-held : later ≡ advanced S h c
-    taken-held = a .held ∙ ap (λ (o : Outcome). onTaken o (advanced S h c) h) t
+-- nothing is asked of the bytes of a refused run
+pub refused-begins : (a : Answer) (number place : ℕ) (trace bytes : List ℕ) → a ≡ Refused number place → Begins a trace bytes
+refused-begins a number place trace bytes e = subst⁻¹ (λ (z : Answer). Begins z trace bytes) e tt
 
-    pub taken-wrote : r .wrote ≡ written S (h .state) c
-    taken-wrote = a .wrote ∙ ap (λ (o : Outcome). onTaken o (written S (h .state) c) noWrite) t
+-- a step that is not refused is taken
+pub stands : (o : Outcome) (agreed : Bool) → refusalOf o agreed ≡ 0 → o ≡ Taken
+stands Taken agreed e = refl
+stands NotPermitted agreed e = absurd (omega arith)
+stands Lacking true e = absurd (omega arith)
+stands Lacking false e = absurd (omega arith)
 
--- the machine with a taken step put into it
-pub applied-held : (layout : Layout) (m n : Machine) (c : Choice) (r : Stepped) (addresses values : List ℕ) → r .outcome ≡ Taken →
-    ((memory : ℕ → ℕ) → stateOf n memory ≡ cond (leb (layout .threads) 4 && ltb (actor c) (layout .threads)) (stateAfter layout m (actor c) r memory) (stateOf m memory)) →
-    layout .threads ≤ 4 → actor c < layout .threads →
-    heldOf n addresses values (r .filled) ≡ heldAfter layout m c r addresses values
-applied-held layout m n c r addresses values t e p q k = record {
-  state = (e (memoryOf addresses values (r .filled)) ∙ chosen _ _ (and-true (le-leb _ _ p) (lt-ltb _ _ q))
-      ∙ ap (λ (o : Outcome). onTaken o (stateAfter layout m (actor c) r (memoryOf addresses values (r .filled))) (stateOf m (memoryOf addresses values (r .filled)))) (sym t)) k;
-  known = knownOf addresses (r .filled);
-}
+-- ---- the next step
 
--- a step that is taken is by a thread that is there
-pub taken-actor : (S : Set) (h : Held) (c : Choice) → outcome S h c ≡ Taken → actor c < S .threads
-taken-actor S h c e = permitted-actor S (h .state) c (and-right (not (h .state .ended)) (permitted S (h .state) c) (taken-takes S h c e))
+module _ (S : Set) (replaying : Bool) (input : List ℕ) (h : Held) (w : Written) (i : ℕ) (c : Choice) (e : c ≡ made replaying input i) where
+  abbrev pub rest : ℕ → Answer
+  rest n = walked S replaying input (advanced S h c) (written S (h .state) c) (i + 1) n
 
-pub has-room : (layout : Layout) (addresses values filled : ℕ) → layout .threads ≤ 4 → filled < addresses → filled < values →
-    hasRoom layout addresses values filled ≡ true
-has-room layout addresses values filled p q r = and-true (and-true (le-leb _ _ p) (lt-ltb _ _ q)) (lt-ltb _ _ r)
+  pub walked-next : (n : ℕ) → 0 < n →
+      walked S replaying input h w i n ≡ onRefusal (refusalOf (outcome S h c) (agrees replaying input i (traceStep S (h .state) w c))) i (rest (n - 1))
+  unfolding walked
+  walked-next zero l = absurd (omega arith)
+  walked-next (suc n) l =
+      let m : suc n - 1 ≡ n = omega arith in
+      ap (λ (k : Choice). onRefusal (refusalOf (outcome S h k) (agrees replaying input i (traceStep S (h .state) w k))) i (walked S replaying input (advanced S h k) (written S (h .state) k) (suc i) n)) (sym e)
+      ∙ rw (← add-one i, m) refl
+
+-- ---- a step that was made: the acting thread is found by its number modulo 4
+
+module _ (S : Set) (m : Machine) (memory : ℕ → ℕ) (known : ℕ → Bool) (c : Choice) (few : S .threads ≤ 4) where
+  abbrev pub slot : ℕ
+  slot = actor c % 4
+
+  abbrev marksOf : ℕ → Mark
+  marksOf u = getD (m .marks) u unmarked
+
+  abbrev pub held : Held
+  held = record { state = stateOf m memory; known = known }
+
+  -- what the step is told of thread number k
+  abbrev pub Told : Bool → ℕ → ℕ → Stepped → (ℕ → ℕ) → (ℕ → Bool) → Type 0
+  Told can k filled r later knows =
+      Advances can c (statementBy S c (getD (m .threads) k fresh)) (getD (m .threads) k fresh) (waits S marksOf (getD (m .marks) k unmarked)) memory known filled r later knows
+
+  there : ltb (actor c) (S .threads) ≡ true → slot ≡ actor c
+  there l = let t = ltb-true (actor c) (S .threads) l in omega (arith, t, few)
+
+  pub slot-is : actor c < S .threads → slot ≡ actor c
+  slot-is l = omega (arith, l, few)
+
+  by-slot : (l live : Bool) → (l ≡ true → slot ≡ actor c) →
+      outcomeBy (l && live) c (statementBy S c (getD (m .threads) slot fresh)) (getD (m .threads) slot fresh) (waits S marksOf (getD (m .marks) slot unmarked)) memory known
+      ≡ outcomeBy (l && live) c (statementBy S c (getD (m .threads) (actor c) fresh)) (getD (m .threads) (actor c) fresh) (waits S marksOf (getD (m .marks) (actor c) unmarked)) memory known
+  by-slot true live e = ap (λ (k : ℕ). outcomeBy live c (statementBy S c (getD (m .threads) k fresh)) (getD (m .threads) k fresh) (waits S marksOf (getD (m .marks) k unmarked)) memory known) (e refl)
+  by-slot false live e = refl
+
+  module _ {can : Bool} {filled : ℕ} {r : Stepped} {later : ℕ → ℕ} {knows : ℕ → Bool} (a : Told can slot filled r later knows) (room : can ≡ (ltb (actor c) (S .threads) && not (m .ended))) where
+    pub came-out : r .outcome ≡ outcome S held c
+    came-out =
+        a .came
+        ∙ ap (λ (b : Bool). outcomeBy b c (statementBy S c (getD (m .threads) slot fresh)) (getD (m .threads) slot fresh) (waits S marksOf (getD (m .marks) slot unmarked)) memory known) room
+        ∙ by-slot (ltb (actor c) (S .threads)) (not (m .ended)) there ∙ sym (outcome-by S m memory known c)
+
+    -- the bytes of a step that a thread makes are its trace step's
+    shown-bytes : actor c < S .threads → (w : Written) → stepBytes (actor c) (r .statement) (getD (m .threads) slot fresh) w ≡ traceStep S (stateOf m memory) w c
+    unfolding traceStep
+    shown-bytes l w =
+        ap (λ (j : Statement). stepBytes (actor c) j (getD (m .threads) slot fresh) w) (a .stated)
+        ∙ ap (λ (k : ℕ). stepBytes (actor c) (statementBy S c (getD (m .threads) k fresh)) (getD (m .threads) k fresh) w) (slot-is l)
+        ∙ ap (λ (j : Statement). stepBytes (actor c) j (getD (m .threads) (actor c) fresh) w) (sym (shown-by S m memory c))
+
+    -- so the refusal is the definition's
+    pub refused-so : (agreed : List ℕ → Bool) (w : Written) →
+        refusalOf (r .outcome) (agreed (stepBytes (actor c) (r .statement) (getD (m .threads) slot fresh) w)) ≡ refusalOf (outcome S held c) (agreed (traceStep S (stateOf m memory) w c))
+    refused-so agreed w = go (ltb (actor c) (S .threads)) refl
+      where
+        go : (l : Bool) → ltb (actor c) (S .threads) ≡ l →
+            refusalOf (r .outcome) (agreed (stepBytes (actor c) (r .statement) (getD (m .threads) slot fresh) w)) ≡ refusalOf (outcome S held c) (agreed (traceStep S (stateOf m memory) w c))
+        go true e = ap₂ (λ (o : Outcome) (bytes : List ℕ). refusalOf o (agreed bytes)) came-out (shown-bytes (ltb-true _ _ e) w)
+        go false e =
+            let no : outcome S held c ≡ NotPermitted = outcome-by S m memory known c
+            ∙ ap (λ (b : Bool). outcomeBy (b && not (m .ended)) c (statementBy S c (getD (m .threads) (actor c) fresh)) (getD (m .threads) (actor c) fresh) (waits S marksOf (getD (m .marks) (actor c) unmarked)) memory known) e in
+            ap (λ (o : Outcome). refusalOf o (agreed (stepBytes (actor c) (r .statement) (getD (m .threads) slot fresh) w))) (came-out ∙ no)
+            ∙ sym (ap (λ (o : Outcome). refusalOf o (agreed (traceStep S (stateOf m memory) w c))) no)
+
+    -- ---- where it was taken
+
+    module _ (t : r .outcome ≡ Taken) where
+      pub acting : actor c < S .threads
+      acting = takes-actor S (stateOf m memory) c (taken-takes S held c (sym came-out ∙ t))
+
+      pub bytes-so : (w : Written) → stepBytes (actor c) (r .statement) (getD (m .threads) slot fresh) w ≡ traceStep S (stateOf m memory) w c
+      bytes-so w = shown-bytes acting w
+
+      told : Told can (actor c) filled r later knows
+      told = subst (λ (k : ℕ). Told can k filled r later knows) (slot-is acting) a
+
+      abbrev acted : Thread
+      acted = getD (m .threads) (actor c) fresh
+
+      abbrev stated : Statement
+      stated = statementBy S c acted
+
+      pub wrote-so : r .wrote ≡ written S (stateOf m memory) c
+      wrote-so = told .wrote ∙ ap (λ (o : Outcome). onTaken o (writtenBy c stated acted memory) noWrite) t ∙ sym (written-by S m memory c)
+
+      later-is : later ≡ memoryAfter (written S (stateOf m memory) c) memory
+      later-is =
+          told .memory-is ∙ ap {B = ℕ → ℕ} (λ (o : Outcome). onTaken o (memoryAfter (writtenBy c stated acted memory) memory) memory) t
+          ∙ ap {B = ℕ → ℕ} (λ (z : Written). memoryAfter z memory) (sym (written-by S m memory c))
+
+      knows-is : knows ≡ knownAfter (written S (stateOf m memory) c) known
+      knows-is =
+          told .known-is ∙ ap {B = ℕ → Bool} (λ (o : Outcome). onTaken o (knownAfter (writtenBy c stated acted memory) known) known) t
+          ∙ ap {B = ℕ → Bool} (λ (z : Written). knownAfter z known) (sym (written-by S m memory c))
+
+      state-is : stateBy S m memory (actor c) (r .thread) (r .statement) (marksSettled S marksOf (actor c) (r .statement)) later ≡ step S (stateOf m memory) c
+      state-is = stepped S m memory c (r .thread) (r .statement) later (told .thread ∙ ap (λ (o : Outcome). onTaken o (threadBy c stated acted memory) fresh) t) (told .stated) later-is
+
+      module _ (n : Machine) (threads : n .threads ≡ set (m .threads) slot (r .thread)) (four-threads : length (m .threads) ≡ 4) where
+        threads-are : (λ u. getD (n .threads) u fresh) ≡ threadsSettled (λ u. getD (m .threads) u fresh) (actor c) (r .thread)
+        threads-are =
+            ap {B = ℕ → Thread} (λ (ts : List Thread) (u : ℕ). getD ts u fresh) (threads ∙ ap (λ (k : ℕ). set (m .threads) k (r .thread)) (slot-is acting))
+            ∙ stored (m .threads) (actor c) (r .thread) fresh (omega (arith, acting, few, four-threads))
+
+        settled : stateOf n later ≡ stateBy S m memory (actor c) (r .thread) (r .statement) (marksSettled S marksOf (actor c) (r .statement)) later →
+            record { state = stateOf n later; known = knows } ≡ advanced S held c
+        unfolding advanced
+        settled e k = record { state = (e ∙ state-is) k; known = knows-is k }
+
+        -- marks and end stay
+        pub quiet-held : n .marks ≡ m .marks → n .ended ≡ m .ended → n .code ≡ m .code → length (m .marks) ≡ 4 → quiet marksOf (r .statement) (r .thread) ≡ true →
+            record { state = stateOf n later; known = knows } ≡ advanced S held c
+        quiet-held marks ended code four-marks q =
+            settled ((λ k. record {
+              threads = threads-are k;
+              marks = λ u. getD (marks k) u unmarked;
+              memory = later;
+              ended = ended k;
+              code = code k;
+            }) ∙ quiet-state S m memory (actor c) (r .thread) (r .statement) later four-marks acting q)
+
+        -- they are made anew
+        pub loud-held :
+            (λ u. getD (n .marks) u unmarked) ≡ cond (ltb (actor c) 4) (marksSettled S marksOf (actor c) (r .statement)) marksOf →
+            n .ended ≡ (m .ended || eqb (r .statement .number) EXIT || every (S .threads) (λ u. getD (n .threads) u fresh .halted)) →
+            n .code ≡ cond (eqb (r .statement .number) EXIT) (r .statement .argument) (m .code) →
+            record { state = stateOf n later; known = knows } ≡ advanced S held c
+        loud-held marks ended code =
+            settled (λ k. record {
+              threads = threads-are k;
+              marks = (marks ∙ chosen _ _ (lt-ltb (actor c) 4 (omega (arith, acting, few)))) k;
+              memory = later;
+              ended = (ended ∙ ap (λ (f : ℕ → Thread). m .ended || eqb (r .statement .number) EXIT || every (S .threads) (λ u. f u .halted)) threads-are) k;
+              code = code k;
+            })
+
+-- the arrays have room
+pub has-room : (layout : Layout) (ended : Bool) (addresses values filled : ℕ) (c : Choice) → filled < addresses → filled < values →
+    canStep layout ended addresses values filled c ≡ (ltb (actor c) (layout .threads) && not ended)
+has-room layout ended addresses values filled c p q = ap (λ (b : Bool). b && ltb (actor c) (layout .threads) && not ended) (and-true (lt-ltb _ _ p) (lt-ltb _ _ q))
 
 -- the end of a run on a layout of at most four threads
 pub end-is : (layout : Layout) (S : Set) (s : State) → layout .threads ≤ 4 → endFor layout S s ≡ endOf S s
@@ -93,6 +238,35 @@ module _ (S : Set) (schedule : List ℕ) (i : ℕ) (l : i < length schedule) (c 
       ∙ sym (append-assoc (take (24 * i) bytes) (traceStep S s w c) _)
       ∙ ap (λ (t : List ℕ). t ++ trace S (step S s c) (written S s c) (choices (drop (i + 1) schedule)))
       (sym (take-placed bytes (24 * i) (traceStep S s w c) (omega arith)) ∙ ap (λ (k : ℕ). take k (placed bytes (24 * i) (traceStep S s w c))) m)
+
+-- ---- a whole schedule
+
+agreed-outcome : (o : Outcome) (i : ℕ) (r : Answer) → onRefusal (refusalOf o true) i r ≡ onOutcome o i r
+agreed-outcome Taken i r = refl
+agreed-outcome NotPermitted i r = refl
+agreed-outcome Lacking i r = refl
+
+-- the loop over a schedule follows its choices
+pub walked-follow : (S : Set) (schedule : List ℕ) (h : Held) (w : Written) (i n : ℕ) → i + n ≡ length schedule →
+    walked S false schedule h w i n ≡ follow S h i (choices (drop i schedule))
+unfolding walked follow choices
+walked-follow S schedule h w i zero e =
+    let l : length schedule ≤ i = omega arith in
+    sym (ap (λ (ks : List ℕ). follow S h i (choices ks)) (drop-of-length-le schedule l))
+walked-follow S schedule h w i (suc n) e =
+    let c = choiceOf (getD schedule i 0) in
+    let l : i < length schedule = omega arith in
+    let p : suc i + n ≡ length schedule = omega arith in
+    agreed-outcome (outcome S h c) i (walked S false schedule (advanced S h c) (written S (h .state) c) (suc i) n)
+    ∙ ap (onOutcome (outcome S h c) i) (walked-follow S schedule (advanced S h c) (written S (h .state) c) (suc i) n p ∙ ap (λ (k : ℕ). follow S (advanced S h c) k (choices (drop k schedule))) (sym (add-one i)))
+    ∙ sym (follow-next S schedule i l c refl h)
+
+-- within the limits the loop runs
+pub runs-over : (S : Set) (map : List ℕ) (replaying : Bool) (input : List ℕ) (room : ℕ) → S .threads ≤ 4 → cells map ≤ 256 → countOf replaying (length input) ≤ 64 →
+    (replaying || leb (countOf replaying (length input)) (room / 24)) ≡ true →
+    walkedOver S map replaying input room ≡ walked S replaying input (begin map) noWrite 0 (countOf replaying (length input))
+unfolding walkedOver
+runs-over S map replaying input room p q r t = chosen _ _ (and-true (and-true (and-true (le-leb _ _ p) (le-leb (cells map) 256 q)) (le-leb _ _ r)) t)
 
 -- ---- the start over a map
 

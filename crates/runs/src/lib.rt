@@ -1,28 +1,31 @@
-// What simulation and replay share: the start over a map, a schedule's choices, the end of a run, and trace steps.
+// What simulation and replay share: one loop over the steps of a schedule or of a trace.
 ghost use mathlib.Core.Path.{_≡_};
-ghost use mathlib.Core.Bool.{cond, _&&_};
-ghost use Prim.Native.Nat.{ℕ};
+ghost use mathlib.Core.Bool.{true, false, cond, _&&_};
+ghost use Prim.Native.Nat.{ℕ, _+_, _*_, _≤_};
 ghost use lib.Dec.{leb};
-ghost use lib.ListN.{length, getD};
-ghost use Rattle.records.specs.Maps.{cells, addressAt, valueAt, holds, content};
+ghost use lib.ListN.{length};
+ghost use Rattle.records.specs.Maps.{cells, addressAt, valueAt, holds, content, mapValue};
 ghost use Rattle.records.specs.Sets.{setBy};
-ghost use Rattle.step.specs.Held.{stateOf, memoryOf, knownOf};
-ghost use Rattle.step.specs.Machine.{fresh, start};
+ghost use Rattle.step.specs.Held.{stateOf, heldOf, memoryOf, knownOf};
+ghost use Rattle.step.specs.Machine.{start, noWrite};
 ghost use Rattle.step.specs.Runs.{choiceOf, canAct};
-ghost use Rattle.step.specs.Traces.{bit, stepBytes, traceStep};
+ghost use Rattle.step.specs.Traces.{bit, stepBytes};
 ghost use Rattle.runs.specs.Ends.{endFor};
+ghost use Rattle.runs.specs.Walks.{countOf, made as madeOf, agrees as agreesOf, refusalOf, walked, walkedOver, traced, Begins};
 use records::Layout;
 use records::Statement;
+use step::Answer;
 use step::Choice;
 use step::End;
 use step::Machine;
 use step::Mark;
+use step::Outcome;
 use step::Thread;
 use step::Written;
 
 // Fresh threads and no marks.
-pub fn fresh_machine() -> Machine
-    ensures { λ r. ⌜ ((memory : ℕ → ℕ) → stateOf r memory ≡ start memory) ⌝ }
+fn fresh_machine() -> Machine
+    ensures { λ r. ⌜ ((memory : ℕ → ℕ) → stateOf r memory ≡ start memory) × (length (r .threads) ≡ 4) × (length (r .marks) ≡ 4) ⌝ }
 {
     let x = Thread::fresh();
     let m = Mark {
@@ -38,7 +41,7 @@ pub fn fresh_machine() -> Machine
 }
 
 // The choice that a schedule's byte names.
-pub fn choice_of(k: u8) -> Choice
+fn choice_of(k: u8) -> Choice
     ensures { λ r. ⌜ r ≡ choiceOf k ⌝ }
 {
     if k < 128 {
@@ -48,7 +51,7 @@ pub fn choice_of(k: u8) -> Choice
 }
 
 // Puts a map's cells into the sparse memory, if there is room, and gives the filled count.
-pub fn begin(map: &[u8], addresses: &mut [u16], values: &mut [u16]) -> usize
+fn begin(map: &[u8], addresses: &mut [u16], values: &mut [u16]) -> usize
     ensures { λ r. ⌜ (r ≡ cond (leb (cells (now (map .entry))) (length (now (addresses .entry))) && leb (cells (now (map .entry))) (length (now (values .entry)))) (cells (now (map .entry))) 0)
         × (memoryOf (now (addresses .exit)) (now (values .exit)) r ≡ content (addressAt (now (map .entry))) (valueAt (now (map .entry))) r)
         × (knownOf (now (addresses .exit)) r ≡ holds (addressAt (now (map .entry))) r) ⌝ }
@@ -80,7 +83,7 @@ fn acts(set: &[u8], layout: Layout, m: Machine, t: u8) -> bool
 }
 
 // How a run stands.
-pub fn end_of(set: &[u8], layout: Layout, m: Machine) -> End
+fn end_of(set: &[u8], layout: Layout, m: Machine) -> End
     ensures { λ r. ⌜ ((memory : ℕ → ℕ) → r ≡ endFor layout (setBy (now (set .entry)) layout) (stateOf m memory)) ⌝ }
 {
     if m.ended {
@@ -137,36 +140,186 @@ fn step_bytes(t: u8, i: Statement, x: Thread, w: Written) -> [u8; 24]
     ]
 }
 
-// Thread t, fresh where there is none.
-fn thread_at(threads: [Thread; 4], t: u8) -> Thread
-    ensures { λ r. ⌜ r ≡ getD threads t fresh ⌝ }
+// How many steps an input has: a schedule's bytes, or a trace's records.
+fn count_of(replaying: bool, length: usize) -> usize
+    ensures { λ r. ⌜ r ≡ countOf replaying length ⌝ }
 {
-    let at = t as usize;
-    if at < 4 {
-        return threads[at];
+    if replaying {
+        return length / 24;
     }
-    Thread::fresh()
+    length
 }
 
-// The trace step of a choice; w is what the previous step wrote.
-pub fn trace_step(set: &[u8], layout: Layout, m: Machine, w: Written, choice: Choice) -> [u8; 24]
-    ensures { λ r. ⌜ ((memory : ℕ → ℕ) → r ≡ traceStep (setBy (now (set .entry)) layout) (stateOf m memory) w choice) ⌝ }
+// The choice of step i.
+fn made(replaying: bool, input: &[u8], i: usize) -> Choice
+    requires { ⌜ i ≤ 64 ⌝ }
+    ensures { λ r. ⌜ r ≡ madeOf replaying (now (input .entry)) i ⌝ }
 {
-    let threads = m.threads;
-    match choice {
-        Choice::Execute(t) => {
-            let x = thread_at(threads, t);
-            let i = records::fetch(set, layout, t, x.pc);
-            step_bytes(t, i, x, w)
+    if replaying {
+        let at = 24 * i;
+        let thread = base::byte_at(input, at);
+        if base::byte_at(input, at + 1) == Statement::INSTRUCTIONS {
+            return Choice::Flush(thread);
         }
-        Choice::Flush(t) => {
-            let x = thread_at(threads, t);
-            let i = Statement {
-                number: Statement::INSTRUCTIONS,
-                mode: 0,
-                argument: 0,
-            };
-            step_bytes(t, i, x, w)
+        return Choice::Execute(thread);
+    }
+    choice_of(base::byte_at(input, i))
+}
+
+// Whether step i of a trace has these bytes; a schedule says nothing of them.
+fn agrees(replaying: bool, input: &[u8], i: usize, bytes: [u8; 24]) -> bool
+    requires { ⌜ (i ≤ 64) × (replaying ≡ true → 24 * i + 24 ≤ length (now input)) ⌝ }
+    ensures { λ r. ⌜ r ≡ agreesOf replaying (now (input .entry)) i bytes ⌝ }
+{
+    if replaying {
+        let at = 24 * i;
+        let end = at + 24;
+        return base::same(&input[at..end], &bytes);
+    }
+    true
+}
+
+// The refusal of a step, 0 where it stands: 12 before 13 before 14.
+fn refusal_of(outcome: Outcome, agreed: bool) -> u8
+    ensures { λ r. ⌜ r ≡ refusalOf outcome agreed ⌝ }
+{
+    match outcome {
+        Outcome::NotPermitted => 12,
+        Outcome::Taken => {
+            if agreed {
+                return 0;
+            }
+            13
+        }
+        Outcome::Lacking => {
+            if agreed {
+                return 14;
+            }
+            13
         }
     }
+}
+
+// A refusal at a step.
+fn refused(number: u8, step: usize) -> Answer
+    requires { ⌜ step ≤ 64 ⌝ }
+    ensures { λ r. ⌜ r ≡ Answer.Refused number step ⌝ }
+{
+    Answer::Refused {
+        number,
+        place: step as u32,
+    }
+}
+
+// Runs a schedule, or along a trace, from a first machine over a sparse memory, and puts each step's record into the lent bytes.
+// The machine is changed in place: a step copies it nowhere.
+fn run(
+    set: &[u8],
+    layout: Layout,
+    first: Machine,
+    replaying: bool,
+    input: &[u8],
+    count: usize,
+    addresses: &mut [u16],
+    values: &mut [u16],
+    cells: usize,
+    trace: &mut [u8],
+) -> Answer
+    requires { ⌜ (layout .threads ≤ 4) × (count ≤ 64) × (count ≡ countOf replaying (length (now input)))
+        × ((cells + count ≤ length (now addresses)) × (cells + count ≤ length (now values))) × (replaying ≡ false → 24 * count ≤ length (now trace))
+        × ((length (first .threads) ≡ 4) × (length (first .marks) ≡ 4)) ⌝ }
+    ensures { λ r. ⌜ (r ≡ walked (setBy (now (set .entry)) layout) replaying (now (input .entry)) (heldOf first (now (addresses .entry)) (now (values .entry)) cells) noWrite 0 count)
+        × Begins r (traced (setBy (now (set .entry)) layout) replaying (stateOf first (memoryOf (now (addresses .entry)) (now (values .entry)) cells)) (now (input .entry))) (now (trace .exit)) ⌝ }
+{
+    let mut m = first;
+    let mut filled = cells;
+    let mut wrote = Written {
+        done: false,
+        address: 0,
+        value: 0,
+    };
+    let mut steps: usize = 0;
+    let mut budget = count;
+    while 0 < budget {
+        let choice = made(replaying, input, steps);
+        let t = step::choices::actor(choice);
+        let at = (t % 4) as usize;
+        let x = m.threads[at];
+        let marks = m.marks;
+        let mark = m.marks[at];
+        let s = step::act::advance(
+            set,
+            layout,
+            marks,
+            mark,
+            m.ended,
+            x,
+            addresses,
+            values,
+            filled,
+            choice,
+        );
+        let i = s.statement;
+        let y = s.thread;
+        let outcome = s.outcome;
+        let bytes = step_bytes(t, i, x, wrote);
+        base::place(trace, 24 * steps, &bytes);
+        let refusal = refusal_of(outcome, agrees(replaying, input, steps, bytes));
+        if refusal != 0 {
+            return refused(refusal, steps);
+        }
+        m.threads[at] = y;
+        filled = s.filled;
+        wrote = s.wrote;
+        steps += 1;
+        budget -= 1;
+        if !step::act::quiet(marks, i, y) {
+            let threads = m.threads;
+            let after = step::act::marks_after(set, layout, marks, t, i);
+            m.marks = after;
+            m.ended = step::act::ended_after(layout.threads, threads, i, m.ended);
+            m.code = step::act::code_after(i, m.code);
+        }
+    }
+    let end = end_of(set, layout, m);
+    Answer::Ran {
+        steps: steps as u16,
+        end,
+    }
+}
+
+// Runs a schedule over a map, or along a trace, and puts a schedule's trace into the lent bytes; 17 past the limits of a run.
+pub fn walk(
+    set: &[u8],
+    layout: Layout,
+    map: &[u8],
+    replaying: bool,
+    input: &[u8],
+    trace: &mut [u8],
+) -> Answer
+    ensures { λ r. ⌜ (r ≡ walkedOver (setBy (now (set .entry)) layout) (now (map .entry)) replaying (now (input .entry)) (length (now (trace .entry))))
+        × Begins r (traced (setBy (now (set .entry)) layout) replaying (start (mapValue (now (map .entry)))) (now (input .entry))) (now (trace .exit)) ⌝ }
+{
+    let count = count_of(replaying, input.len());
+    let room = replaying | (count <= trace.len() / 24);
+    let within = (layout.threads <= 4) & (map.len() / 4 <= 256) & (count <= Machine::STEPS) & room;
+    if within {
+        let mut addresses = [0u16; Machine::CELLS];
+        let mut values = [0u16; Machine::CELLS];
+        let filled = begin(map, &mut addresses, &mut values);
+        let m = fresh_machine();
+        return run(
+            set,
+            layout,
+            m,
+            replaying,
+            input,
+            count,
+            &mut addresses,
+            &mut values,
+            filled,
+            trace,
+        );
+    }
+    refused(17, 0)
 }

@@ -1,13 +1,28 @@
 -- A trace written from the start of an output. Assumes nothing.
 use Prim.Native.Nat.{ℕ, _+_, _≤_}
 use mathlib.Core.Path.{_≡_, ap, _∙_, sym}
-use mathlib.Core.List.{List, _++_}
+use mathlib.Core.List.{List, [], _++_}
 use native.Mathlib.Nat.{zero-add}
 use native.Mathlib.Omega.{arith}
-use lib.ListN.{length, drop}
+use lib.ListN.{length, take, drop}
 use Rattle.base.specs.Bytes.{splice, placed, over}
-use Rattle.base.proofs.Bytes.{placed-fits}
+use Rattle.base.proofs.Bytes.{placed-fits, over-none}
+use Rattle.runs.specs.Walks.{Begins}
+use Rattle.simulation.specs.Simulation.{bytesOut, outputOver}
+use Rattle.step.specs.declared.Answer.{Answer}
+use Rattle.step.specs.declared.Answer.the-variants.{Ran, Refused}
 
 pub placed-over : (xs ys : List ℕ) → length ys ≤ length xs → placed xs 0 ys ≡ over ys xs
 unfolding splice over
 placed-over xs ys h = placed-fits xs 0 ys (omega arith) ∙ ap (λ (n : ℕ). ys ++ drop n xs) (zero-add (length ys))
+
+-- more than there is is never written
+pub out-most : (a : Answer) (n : ℕ) → bytesOut a n ≤ n
+out-most (Ran steps end) n = omega arith
+out-most (Refused number place) n = omega arith
+
+-- a trace is written where the run is accepted, and nothing where it is refused
+pub put-out : (a : Answer) (bytes trace out : List ℕ) (n : ℕ) → length trace ≡ n → n ≤ length out → Begins a trace bytes →
+    placed out 0 (take (bytesOut a n) bytes) ≡ outputOver a trace out
+put-out (Ran steps end) bytes trace out n e l begins = ap (λ (k : ℕ). placed out 0 (take k bytes)) (sym e) ∙ ap (placed out 0) begins ∙ placed-over out trace (omega arith)
+put-out (Refused number place) bytes trace out n e l begins = placed-over out [] (omega arith) ∙ sym (over-none out)

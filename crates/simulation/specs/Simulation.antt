@@ -3,8 +3,7 @@ use Prim.Native.Nat.{ℕ, _*_}
 use mathlib.Core.Bool.{Bool, cond, _&&_}
 use mathlib.Core.List.{List}
 use lib.Dec.{ltb}
-use lib.ListN.{length, take}
-use mathlib.Core.Path.{_≡_}
+use lib.ListN.{length}
 use Rattle.base.specs.Bytes.{over}
 use Rattle.records.specs.Maps.{mapAccepted, mapValue}
 use Rattle.records.specs.Sets.{Set, setOf, setAccepted}
@@ -39,7 +38,7 @@ outputOver (Refused number place) trace out = out
 abbrev pub traceOutput : Answer → (set map schedule out : List ℕ) → List ℕ
 traceOutput answer set map schedule out = outputOver answer (scheduleTrace set map schedule) out
 
--- bytes begin with a trace, where the answer has one
-abbrev pub Begins : Answer → (trace bytes : List ℕ) → Type 0
-Begins (Ran steps end) trace bytes = take (length trace) bytes ≡ trace
-Begins (Refused number place) trace bytes = Unit {0}
+-- how many of a run's bytes are written
+abbrev pub bytesOut : Answer → ℕ → ℕ
+bytesOut (Ran steps end) bytes = bytes
+bytesOut (Refused number place) bytes = 0

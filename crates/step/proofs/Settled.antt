@@ -1,28 +1,31 @@
 -- The state after a step, as the code puts it together. Assumes nothing.
-use Prim.Native.Nat.{ℕ, zero, suc, _≤_}
+use Prim.Native.Nat.{ℕ, zero, suc, _≤_, _<_}
 use native.Mathlib.Omega.{arith}
 use mathlib.Core.Path.{_≡_, refl, ap, ap₂, sym, _∙_, fun-ext, subst⁻¹}
 use mathlib.Core.List.{List}
 use mathlib.Core.Bool.{Bool, true, false, cond, not, _&&_, _||_}
-use lib.Dec.{eqb}
+use borrow.Author.Tests.{eq-eqb, not-true}
+use lib.Dec.{eqb, ltb}
 use lib.ListN.{length, getD, List·getD-eq-default}
-use Rattle.base.proofs.Choice.{chosen, passed, and-false, or-left, or-right, clash}
+use Rattle.base.proofs.Below.{every-not}
+use Rattle.base.proofs.Choice.{chosen, passed, and-left, and-right, and-false, or-left, or-right, or-no, clash}
+use Rattle.base.specs.Below.{every}
 use Rattle.records.specs.Instructions.{CHECK, EXIT}
 use Rattle.records.specs.Sets.{Set}
-use Rattle.records.specs.declared.Layout.{Layout}
 use Rattle.records.specs.declared.Statement.{Statement}
-use Rattle.base.specs.Below.{every}
-use Rattle.step.specs.declared.Thread.{Thread}
-use Rattle.step.specs.Held.{stateOf, heldOf, marksSettled, threadsSettled, threadBy, statementBy, writtenBy, readsBy, onTaken, notTaken, heldAfter, Advances}
-use Rattle.step.specs.Maps.{outcome}
+use Rattle.step.proofs.Permitted.{permitted-is}
+use Rattle.step.specs.Held.{stateOf, memoryOf, knownOf, marksSettled, threadsSettled, waits, allowed, threadBy, statementBy, writtenBy, readsBy, outcomeBy, quiet, onTaken, notTaken, Advances}
+use Rattle.step.specs.Maps.{knowsAll, outcome}
+use Rattle.step.specs.Machine.{State, actor, reads, unmarked, fresh, current, opened, cleared, waiting, written, memoryAfter, acted, leavesMark, step}
+use Rattle.step.specs.Traces.{shown}
 use Rattle.step.specs.declared.Choice.{Choice}
-use Rattle.step.specs.declared.Outcome.{Outcome}
-use Rattle.step.specs.declared.Outcome.the-variants.{Taken, NotPermitted, Lacking}
-use Rattle.step.specs.declared.Stepped.{Stepped}
-use Rattle.step.specs.Machine.{State, actor, reads, unmarked, fresh, flushed, executed, current, opened, cleared, written, memoryAfter, acted, leavesMark, step}
 use Rattle.step.specs.declared.Choice.the-variants.{Execute, Flush}
 use Rattle.step.specs.declared.Machine.{Machine}
 use Rattle.step.specs.declared.Mark.{Mark}
+use Rattle.step.specs.declared.Outcome.{Outcome}
+use Rattle.step.specs.declared.Outcome.the-variants.{Taken, NotPermitted, Lacking}
+use Rattle.step.specs.declared.Stepped.{Stepped}
+use Rattle.step.specs.declared.Thread.{Thread}
 
 module _ (S : Set) (marks : ℕ → Mark) (t : ℕ) (i : Statement) where
   abbrev marksHere : Bool
@@ -57,15 +60,44 @@ unmarked-stay S marks n e = fun-ext (λ u. sym (passed _ _ (and-false (opened S 
 -- ---- a step by the acting thread alone
 
 module _ (S : Set) (m : Machine) (memory : ℕ → ℕ) where
-  pub written-by : (c : Choice) → written S (stateOf m memory) c ≡ writtenBy c (current S (stateOf m memory) (actor c)) (getD (m .threads) (actor c) fresh) memory
+  abbrev pub actingIn : Choice → Thread
+  actingIn c = getD (m .threads) (actor c) fresh
+
+  pub written-by : (c : Choice) → written S (stateOf m memory) c ≡ writtenBy c (statementBy S c (actingIn c)) (actingIn c) memory
   unfolding written
   written-by (Execute t) = refl
   written-by (Flush t) = refl
 
-  pub reads-by : (c : Choice) → reads S (stateOf m memory) c ≡ readsBy c (current S (stateOf m memory) (actor c)) (getD (m .threads) (actor c) fresh) memory
+  pub reads-by : (c : Choice) → reads S (stateOf m memory) c ≡ readsBy c (statementBy S c (actingIn c)) (actingIn c) memory
   unfolding reads
   reads-by (Execute t) = refl
   reads-by (Flush t) = refl
+
+  pub shown-by : (c : Choice) → shown S (stateOf m memory) c ≡ statementBy S c (actingIn c)
+  unfolding shown
+  shown-by (Execute t) = refl
+  shown-by (Flush t) = refl
+
+  allowed-by : (c : Choice) (waiting : Bool) → allowed c (current S (stateOf m memory) (actor c)) (actingIn c) waiting ≡ allowed c (statementBy S c (actingIn c)) (actingIn c) waiting
+  allowed-by (Execute t) w = refl
+  allowed-by (Flush t) w = refl
+
+  turned : (ended there allowed : Bool) → (not ended && (there && allowed)) ≡ (there && not ended && allowed)
+  turned true true allowed = refl
+  turned true false allowed = refl
+  turned false true allowed = refl
+  turned false false allowed = refl
+
+  pub outcome-by : (known : ℕ → Bool) (c : Choice) →
+      outcome S (record { state = stateOf m memory; known = known }) c
+      ≡ outcomeBy (ltb (actor c) (S .threads) && not (m .ended)) c (statementBy S c (actingIn c)) (actingIn c) (waits S (λ u. getD (m .marks) u unmarked) (getD (m .marks) (actor c) unmarked)) memory known
+  unfolding outcome waiting
+  outcome-by known c =
+      let w = waits S (λ u. getD (m .marks) u unmarked) (getD (m .marks) (actor c) unmarked) in
+      ap₂ (λ (b : Bool) (cells : List ℕ). cond b (cond (knowsAll known cells) Taken Lacking) NotPermitted)
+      (ap (λ (b : Bool). not (m .ended) && b) (permitted-is S (stateOf m memory) c ∙ ap (λ (b : Bool). ltb (actor c) (S .threads) && b) (allowed-by c w))
+      ∙ turned (m .ended) (ltb (actor c) (S .threads)) (allowed c (statementBy S c (actingIn c)) (actingIn c) w))
+      (reads-by c)
 
   -- the state by what the acting thread's choice does
   abbrev pub stateBy : ℕ → Thread → Statement → (ℕ → Mark) → (ℕ → ℕ) → State
@@ -78,34 +110,57 @@ module _ (S : Set) (m : Machine) (memory : ℕ → ℕ) where
   }
 
   step-by : (c : Choice) →
-      let y = threadBy c (current S (stateOf m memory) (actor c)) (getD (m .threads) (actor c) fresh) memory in
-      let i = statementBy c (current S (stateOf m memory) (actor c)) in
+      let y = threadBy c (statementBy S c (actingIn c)) (actingIn c) memory in
+      let i = statementBy S c (actingIn c) in
       stateBy (actor c) y i (marksSettled S (λ u. getD (m .marks) u unmarked) (actor c) i) (memoryAfter (written S (stateOf m memory) c) memory) ≡ step S (stateOf m memory) c
   unfolding step acted leavesMark
   step-by (Execute t) = refl
   step-by (Flush t) = refl
 
-  pub stepped : (c : Choice) (y : Thread) (i : Statement) (marks : ℕ → Mark) (mem : ℕ → ℕ) →
-      y ≡ threadBy c (current S (stateOf m memory) (actor c)) (getD (m .threads) (actor c) fresh) memory →
-      i ≡ statementBy c (current S (stateOf m memory) (actor c)) →
-      marks ≡ marksSettled S (λ u. getD (m .marks) u unmarked) (actor c) i →
+  pub stepped : (c : Choice) (y : Thread) (i : Statement) (mem : ℕ → ℕ) →
+      y ≡ threadBy c (statementBy S c (actingIn c)) (actingIn c) memory →
+      i ≡ statementBy S c (actingIn c) →
       mem ≡ memoryAfter (written S (stateOf m memory) c) memory →
-      stateBy (actor c) y i marks mem ≡ step S (stateOf m memory) c
-  stepped c y i marks mem p q r s =
-      ap (λ (z : ℕ → Mark). stateBy (actor c) y i z mem) r
-      ∙ ap (λ (j : Statement). stateBy (actor c) y j (marksSettled S (λ u. getD (m .marks) u unmarked) (actor c) j) mem) q
-      ∙ ap₂ (λ (z : Thread) (k : ℕ → ℕ). stateBy (actor c) z (statementBy c (current S (stateOf m memory) (actor c))) (marksSettled S (λ u. getD (m .marks) u unmarked) (actor c) (statementBy c (current S (stateOf m memory) (actor c)))) k) p s
+      stateBy (actor c) y i (marksSettled S (λ u. getD (m .marks) u unmarked) (actor c) i) mem ≡ step S (stateOf m memory) c
+  stepped c y i mem p q s =
+      ap (λ (j : Statement). stateBy (actor c) y j (marksSettled S (λ u. getD (m .marks) u unmarked) (actor c) j) mem) q
+      ∙ ap₂ (λ (z : Thread) (k : ℕ → ℕ). stateBy (actor c) z (statementBy S c (actingIn c)) (marksSettled S (λ u. getD (m .marks) u unmarked) (actor c) (statementBy S c (actingIn c))) k) p s
       ∙ step-by c
+
+  -- a step that changes neither marks nor end
+  pub quiet-state : (t : ℕ) (y : Thread) (i : Statement) (mem : ℕ → ℕ) → length (m .marks) ≡ 4 → t < S .threads → quiet (λ u. getD (m .marks) u unmarked) i y ≡ true →
+      record { threads = threadsSettled (λ u. getD (m .threads) u fresh) t y; marks = λ u. getD (m .marks) u unmarked; memory = mem; ended = m .ended; code = m .code }
+      ≡ stateBy t y i (marksSettled S (λ u. getD (m .marks) u unmarked) t i) mem
+  quiet-state t y i mem n l q =
+      let marks : ℕ → Mark = λ u. getD (m .marks) u unmarked in
+      let marked = marks 0 .on || marks 1 .on || marks 2 .on || marks 3 .on in
+      let checks = eqb (i .number) CHECK in
+      let exits = eqb (i .number) EXIT in
+      let p = and-left (not marked && not (y .halted) && not checks) (not exits) q in
+      let noexit = not-true exits (and-right (not marked && not (y .halted) && not checks) (not exits) q) in
+      let nocheck = not-true checks (and-right (not marked && not (y .halted)) (not checks) p) in
+      let r = and-left (not marked && not (y .halted)) (not checks) p in
+      let halts = every-not (λ u. threadsSettled (λ v. getD (m .threads) v fresh) t y u .halted) (S .threads) t l
+      (ap (λ (z : Thread). z .halted) (chosen y (getD (m .threads) t fresh) (eq-eqb t t refl)) ∙ not-true (y .halted) (and-right (not marked) (not (y .halted)) r)) in
+      λ k. record {
+        threads = threadsSettled (λ u. getD (m .threads) u fresh) t y;
+        marks = (unmarked-stay S (m .marks) n (not-true marked (and-left (not marked) (not (y .halted)) r)) ∙ marks-cleared S marks t i (and-false (not (opened S marks (i .argument))) nocheck)) k;
+        memory = mem;
+        ended = sym (ap₂ (λ (a b : Bool). m .ended || a || b) noexit halts ∙ or-no (m .ended || false) ∙ or-no (m .ended)) k;
+        code = sym (passed (i .argument) (m .code) noexit) k;
+      }
 
 -- ---- a step that is not taken
 
-module _ (S : Set) (layout : Layout) (m : Machine) (adr val : List ℕ) (filled : ℕ) (c : Choice) (r : Stepped) where
-  pub unmoved : (fit : Bool) (o : Outcome) → onTaken o false true ≡ true → r ≡ notTaken fit o filled → o ≡ cond fit (outcome S (heldOf m adr val filled) c) NotPermitted →
-      Advances fit S (heldOf m adr val filled) c filled r (heldAfter layout m c r adr val)
-  unmoved fit o n e q = subst⁻¹ (λ (z : Stepped). Advances fit S (heldOf m adr val filled) c filled z (heldAfter layout m c z adr val)) e (go o n q)
+module _ (can : Bool) (c : Choice) (i : Statement) (x : Thread) (waiting : Bool) (addresses values : List ℕ) (filled : ℕ) (r : Stepped) where
+  pub unmoved : (o : Outcome) (j : Statement) → onTaken o false true ≡ true → r ≡ notTaken o j filled → j ≡ i →
+      o ≡ outcomeBy can c i x waiting (memoryOf addresses values filled) (knownOf addresses filled) →
+      Advances can c i x waiting (memoryOf addresses values filled) (knownOf addresses filled) filled r (memoryOf addresses values (r .filled)) (knownOf addresses (r .filled))
+  unmoved o j n e s q =
+      subst⁻¹ (λ (z : Stepped). Advances can c i x waiting (memoryOf addresses values filled) (knownOf addresses filled) filled z (memoryOf addresses values (z .filled)) (knownOf addresses (z .filled))) e (go o n q)
     where
-      go : (o : Outcome) → onTaken o false true ≡ true → o ≡ cond fit (outcome S (heldOf m adr val filled) c) NotPermitted →
-          Advances fit S (heldOf m adr val filled) c filled (notTaken fit o filled) (heldAfter layout m c (notTaken fit o filled) adr val)
+      go : (o : Outcome) → onTaken o false true ≡ true → o ≡ outcomeBy can c i x waiting (memoryOf addresses values filled) (knownOf addresses filled) →
+          Advances can c i x waiting (memoryOf addresses values filled) (knownOf addresses filled) filled (notTaken o j filled) (memoryOf addresses values filled) (knownOf addresses filled)
       go Taken n q = clash n refl
-      go NotPermitted n q = record { fits = refl; came = q; held = refl; wrote = refl; read = refl; more = omega arith }
-      go Lacking n q = record { fits = refl; came = q; held = refl; wrote = refl; read = refl; more = omega arith }
+      go NotPermitted n q = record { came = q; stated = s; thread = refl; memory-is = refl; known-is = refl; wrote = refl; read = refl; more = omega arith }
+      go Lacking n q = record { came = q; stated = s; thread = refl; memory-is = refl; known-is = refl; wrote = refl; read = refl; more = omega arith }

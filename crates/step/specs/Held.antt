@@ -4,21 +4,20 @@ use Prim.Native.Nat.{ℕ, _+_, _≤_}
 use mathlib.Core.Path.{_≡_}
 use mathlib.Core.Bool.{Bool, true, false, cond, not, _&&_, _||_}
 use mathlib.Core.List.{List, [], _∷_, _++_}
-use lib.Dec.{eqb, leb, ltb}
+use lib.Dec.{eqb, ltb}
 use lib.ListN.{length, getD}
-use Rattle.base.specs.Below.{every}
 use Rattle.records.specs.Maps.{holds, content}
 use Rattle.records.specs.Instructions.{EXIT, CHECK}
 use Rattle.records.specs.Sets.{Set, nothing}
 use Rattle.records.specs.declared.Layout.{Layout}
 use Rattle.records.specs.declared.Statement.{Statement}
-use Rattle.step.specs.Machine.{State, fresh, unmarked, isEmpty, flushed, address, cellsRead, executed, casMatches, needsEmpty, actor, opened, cleared, allHalted, written, wrote, noWrite, reads}
+use Rattle.step.specs.Machine.{State, fresh, unmarked, isEmpty, flushed, address, cellsRead, executed, casMatches, needsEmpty, actor, opened, cleared, memoryAfter, wrote, noWrite}
 use Rattle.step.specs.declared.Mark.{Mark}
 use Rattle.step.specs.declared.Outcome.{Outcome}
 use Rattle.step.specs.declared.Outcome.the-variants.{Taken, NotPermitted, Lacking}
 use Rattle.step.specs.declared.Stepped.{Stepped}
 use Rattle.step.specs.declared.Thread.{Thread}
-use Rattle.step.specs.Maps.{Held, outcome, advanced}
+use Rattle.step.specs.Maps.{Held, knowsAll, knownAfter}
 use Rattle.step.specs.declared.Choice.{Choice}
 use Rattle.step.specs.declared.Choice.the-variants.{Execute, Flush}
 use Rattle.step.specs.declared.Read.{Read}
@@ -62,35 +61,61 @@ knownIn addresses = knownOf addresses (length addresses)
 abbrev pub heldOf : Machine → List ℕ → List ℕ → ℕ → Held
 heldOf m addresses values filled = record { state = stateOf m (memoryOf addresses values filled); known = knownOf addresses filled }
 
--- at most four threads, and room for one cell more: every run of at most 64 steps over at most 256 cells has it in arrays of 320
-abbrev pub hasRoom : Layout → (addresses values filled : ℕ) → Bool
-hasRoom layout addresses values filled = leb (layout .threads) 4 && ltb filled addresses && ltb filled values
-
 -- ---- a choice by the acting thread alone: its statement i, its registers x and whether it waits
 
-abbrev pub allowed : Choice → Statement → Thread → Bool → Bool
-allowed (Execute t) i x waits = not (x .halted) && not waits && (not (needsEmpty (i .number)) || isEmpty x)
-allowed (Flush t) i x waits = not (isEmpty x)
+-- its thread is there, the machine has not ended, and the arrays have room for one cell more: every run of at most 64 steps
+-- over at most 256 cells has it in arrays of 320
+abbrev pub canStep : Layout → Bool → (addresses values filled : ℕ) → Choice → Bool
+canStep layout ended addresses values filled c = ltb filled addresses && ltb filled values && ltb (actor c) (layout .threads) && not ended
 
+-- a thread with this mark waits
+abbrev pub waits : Set → (ℕ → Mark) → Mark → Bool
+waits S marks mark = mark .on && not (opened S marks (mark .checkpoint))
+
+-- the statement executed, none in a flush
+abbrev pub statementBy : Set → Choice → Thread → Statement
+statementBy S (Execute t) x = S .statement t (x .pc)
+statementBy S (Flush t) x = nothing
+
+-- the choice is permitted where its thread is there
+abbrev pub allowed : Choice → Statement → Thread → Bool → Bool
+allowed (Execute t) i x waiting = not (x .halted) && not waiting && (not (needsEmpty (i .number)) || isEmpty x)
+allowed (Flush t) i x waiting = not (isEmpty x)
+
+-- the registers afterwards
 abbrev pub threadBy : Choice → Statement → Thread → (ℕ → ℕ) → Thread
 threadBy (Execute t) i x memory = executed i memory x
 threadBy (Flush t) i x memory = flushed x
 
-abbrev pub statementBy : Choice → Statement → Statement
-statementBy (Execute t) i = i
-statementBy (Flush t) i = nothing
-
+-- the cell written
 abbrev pub writtenBy : Choice → Statement → Thread → (ℕ → ℕ) → Written
 writtenBy (Execute t) i x memory = cond (casMatches i x memory) (wrote (address i x memory) (x .accu)) noWrite
 writtenBy (Flush t) i x memory = wrote (x .adr) (x .val)
 
+-- the cells read
 abbrev pub readsBy : Choice → Statement → Thread → (ℕ → ℕ) → List ℕ
 readsBy (Execute t) i x memory = cellsRead i x memory
 readsBy (Flush t) i x memory = []
 
+-- the outcome, where the thread can step at all
+abbrev pub outcomeBy : Bool → Choice → Statement → Thread → Bool → (ℕ → ℕ) → (ℕ → Bool) → Outcome
+outcomeBy can c i x waiting memory known =
+    cond (can && allowed c i x waiting) (cond (knowsAll known (readsBy c i x memory)) Taken Lacking) NotPermitted
+
+-- a step taken with statement i and registers y afterwards changes neither marks nor end
+abbrev pub quiet : (ℕ → Mark) → Statement → Thread → Bool
+quiet marks i y =
+    not (marks 0 .on || marks 1 .on || marks 2 .on || marks 3 .on) && not (y .halted)
+    && not (eqb (i .number) CHECK) && not (eqb (i .number) EXIT)
+
+-- ---- what a call that takes a step gives
+
 -- the cells that a step read, as the code reports them
 abbrev pub cellsOf : Read → List ℕ
 cellsOf r = cond (r .argument) (r .first ∷ []) [] ++ cond (r .word) (r .second ∷ []) []
+
+abbrev pub noRead : Read
+noRead = record { argument = false; first = 0; word = false; second = 0 }
 
 -- x where the step was taken, else y
 abbrev pub onTaken : {A : Type 0} → Outcome → A → A → A
@@ -98,47 +123,18 @@ onTaken Taken x y = x
 onTaken NotPermitted x y = y
 onTaken Lacking x y = y
 
--- ---- what a call that takes a step gives
+-- a step that is not taken gives no registers
+abbrev pub notTaken : Outcome → Statement → ℕ → Stepped
+notTaken o i filled = record { outcome = o; statement = i; thread = fresh; filled = filled; wrote = noWrite; read = noRead }
 
-abbrev pub noRead : Read
-noRead = record { argument = false; first = 0; word = false; second = 0 }
-
--- a step that is not taken gives no registers and no marks: these are put into no machine
-abbrev pub notTaken : Bool → Outcome → ℕ → Stepped
-notTaken fit o filled = record {
-  fit = fit;
-  outcome = o;
-  thread = fresh;
-  marks = unmarked ∷ unmarked ∷ unmarked ∷ unmarked ∷ [];
-  exits = false;
-  code = 0;
-  filled = filled;
-  wrote = noWrite;
-  read = noRead;
-}
-
--- the state with what a step of thread t gave put into it
-abbrev pub stateAfter : Layout → Machine → ℕ → Stepped → (ℕ → ℕ) → State
-stateAfter layout m t r memory = record {
-  threads = threadsSettled (λ u. getD (m .threads) u fresh) t (r .thread);
-  marks = λ u. getD (r .marks) u unmarked;
-  memory = memory;
-  ended = m .ended || r .exits || every (layout .threads) (λ u. threadsSettled (λ v. getD (m .threads) v fresh) t (r .thread) u .halted);
-  code = cond (r .exits) (r .code) (m .code);
-}
-
--- the state afterwards, and the cells known: a step that is not taken changes no state
-abbrev pub heldAfter : Layout → Machine → Choice → Stepped → (addresses values : List ℕ) → Held
-heldAfter layout m c r addresses values = record {
-  state = onTaken (r .outcome) (stateAfter layout m (actor c) r (memoryOf addresses values (r .filled))) (stateOf m (memoryOf addresses values (r .filled)));
-  known = knownOf addresses (r .filled);
-}
-
--- what a call that takes a step promises: its outcome, what was read and written, and the state afterwards
-pub record Advances (fit : Bool) (S : Set) (before : Held) (c : Choice) (filled : ℕ) (r : Stepped) (afterwards : Held) : Type 0 where
-  pub fits : r .fit ≡ fit
-  pub came : r .outcome ≡ cond fit (outcome S before c) NotPermitted
-  pub held : afterwards ≡ onTaken (r .outcome) (advanced S before c) before
-  pub wrote : r .wrote ≡ onTaken (r .outcome) (written S (before .state) c) noWrite
-  pub read : cellsOf (r .read) ≡ onTaken (r .outcome) (reads S (before .state) c) []
+-- what a call that takes a step promises of its answer r and of the memory and the cells known afterwards
+pub record Advances (can : Bool) (c : Choice) (i : Statement) (x : Thread) (waiting : Bool) (memory : ℕ → ℕ) (known : ℕ → Bool) (filled : ℕ)
+    (r : Stepped) (later : ℕ → ℕ) (knows : ℕ → Bool) : Type 0 where
+  pub came : r .outcome ≡ outcomeBy can c i x waiting memory known
+  pub stated : r .statement ≡ i
+  pub thread : r .thread ≡ onTaken (r .outcome) (threadBy c i x memory) fresh
+  pub memory-is : later ≡ onTaken (r .outcome) (memoryAfter (writtenBy c i x memory) memory) memory
+  pub known-is : knows ≡ onTaken (r .outcome) (knownAfter (writtenBy c i x memory) known) known
+  pub wrote : r .wrote ≡ onTaken (r .outcome) (writtenBy c i x memory) noWrite
+  pub read : cellsOf (r .read) ≡ onTaken (r .outcome) (readsBy c i x memory) []
   pub more : r .filled ≤ filled + 1

@@ -1,17 +1,17 @@
 // One step: the acting thread's registers, the marks, the memory and the end.
 ghost use mathlib.Core.Path.{_≡_};
-ghost use mathlib.Core.Bool.{true, cond, _&&_};
-ghost use Prim.Native.Nat.{ℕ, _+_, _≤_, _<_};
-ghost use lib.Dec.{eqb, leb, ltb};
+ghost use mathlib.Core.Bool.{true, false, cond, _&&_, _||_};
+ghost use mathlib.Core.List.{[], _∷_};
+ghost use Prim.Native.Nat.{_+_, _≤_, _<_};
+ghost use lib.Dec.{eqb, ltb};
 ghost use lib.ListN.{length, getD};
 ghost use Rattle.base.specs.Below.{every};
-ghost use Rattle.records.specs.Instructions.{CAS as cas};
-ghost use Rattle.records.specs.Sets.{setBy, nothing};
-ghost use Rattle.step.specs.Held.{stateOf, noRead, memoryOf, memoryIn, knownOf, knownIn, heldOf, marksSettled, threadsSettled, hasRoom, cellsOf, threadBy, statementBy, writtenBy, readsBy, notTaken, stateAfter, heldAfter, Advances};
-ghost use Rattle.step.specs.Machine.{fresh, unmarked, row as rowOf, nextPc, withPc, memoryAfter, wrote as wroteOf, address, cellsRead, executed as executedOf, casMatches, noWrite, flushed, actor as actorOf};
+ghost use Rattle.records.specs.Instructions.{CAS as cas, EXIT as exit};
+ghost use Rattle.records.specs.Sets.{setBy};
+ghost use Rattle.step.specs.Held.{noRead, memoryOf, memoryIn, knownOf, knownIn, marksSettled, quiet as quietOf, canStep, waits, cellsOf, threadBy, statementBy, writtenBy, readsBy, notTaken, Advances};
+ghost use Rattle.step.specs.Machine.{fresh, unmarked, row as rowOf, nextPc, withPc, memoryAfter, wrote as wroteOf, address, cellsRead, executed as executedOf, casMatches, noWrite, flushed};
 ghost use Rattle.step.specs.Maps.{knowsAll, knownAfter};
 use crate::Choice;
-use crate::Machine;
 use crate::Mark;
 use crate::Outcome;
 use crate::Read;
@@ -61,32 +61,58 @@ fn executed(i: Statement, o: Operand, x: Thread) -> Thread
     Thread { pc, ..y }
 }
 
-// Whether every thread has halted.
-fn all_halted(layout: Layout, threads: [Thread; 4]) -> bool
-    requires { ⌜ layout .threads ≤ 4 ⌝ }
-    ensures { λ r. ⌜ r ≡ every (layout .threads) (λ t. getD threads t fresh .halted) ⌝ }
+// Whether each of n threads has halted, by four threads' flags. None is there after them.
+fn all_halted(n: u8, first: bool, second: bool, third: bool, fourth: bool) -> bool
+    ensures { λ r. ⌜ r ≡ every n (λ t. getD (first ∷ second ∷ third ∷ fourth ∷ []) t false) ⌝ }
 {
-    let mut t: u8 = 0;
-    while t < layout.threads {
-        let x = threads[t as usize];
-        if x.halted {
-            t += 1;
-        } else {
-            return false;
-        }
+    match n {
+        0 => true,
+        1 => first,
+        2 => first & second,
+        3 => first & second & third,
+        4 => first & second & third & fourth,
+        _ => false,
     }
-    true
 }
 
-// The marks after thread t's statement i: without any, they stay; open checkpoints' are cleared, and a CHECK of one that is not open leaves its own.
-fn marks_after(set: &[u8], layout: Layout, marks: [Mark; 4], t: u8, i: Statement) -> [Mark; 4]
-    requires { ⌜ (layout .threads ≤ 4) × (t < layout .threads) ⌝ }
+// Whether the machine has ended after statement i, which left these threads.
+pub fn ended_after(n: u8, threads: [Thread; 4], i: Statement, ended: bool) -> bool
+    ensures { λ r. ⌜ r ≡ (ended || eqb (i .number) exit || every n (λ t. getD threads t fresh .halted)) ⌝ }
+{
+    let halted = all_halted(
+        n,
+        threads[0].halted,
+        threads[1].halted,
+        threads[2].halted,
+        threads[3].halted,
+    );
+    ended | (i.number == EXIT) | halted
+}
+
+// Whether a taken step changes neither marks nor end: no thread is marked, and its statement i with the registers y afterwards
+// neither checks, exits nor halts.
+pub fn quiet(marks: [Mark; 4], i: Statement, y: Thread) -> bool
+    ensures { λ r. ⌜ r ≡ quietOf (λ t. getD marks t unmarked) i y ⌝ }
+{
+    let marked = marks[0].on | marks[1].on | marks[2].on | marks[3].on;
+    !marked & !y.halted & (i.number != CHECK) & (i.number != EXIT)
+}
+
+// The machine's code after statement i.
+pub fn code_after(i: Statement, code: u16) -> u16
+    ensures { λ r. ⌜ r ≡ cond (eqb (i .number) exit) (i .argument) code ⌝ }
+{
+    if i.number == EXIT {
+        return i.argument;
+    }
+    code
+}
+
+// The marks after statement i of thread t, one of four: open checkpoints' are cleared, and a CHECK of one that is not open leaves its own.
+fn marks_settled(set: &[u8], layout: Layout, marks: [Mark; 4], t: u8, i: Statement) -> [Mark; 4]
+    requires { ⌜ t < 4 ⌝ }
     ensures { λ r. ⌜ (λ u. getD r u unmarked) ≡ marksSettled (setBy (now (set .entry)) layout) (λ v. getD marks v unmarked) t i ⌝ }
 {
-    let quiet = !(marks[0].on | marks[1].on | marks[2].on | marks[3].on) & (i.number != CHECK);
-    if quiet {
-        return marks;
-    }
     let mut after = checkpoints::clear(set, layout, marks);
     if i.number == CHECK {
         if checkpoints::opened(set, layout, marks, i.argument) {
@@ -99,6 +125,16 @@ fn marks_after(set: &[u8], layout: Layout, marks: [Mark; 4], t: u8, i: Statement
         return after;
     }
     after
+}
+
+// The marks after statement i of thread t; as they were where it is not one of four.
+pub fn marks_after(set: &[u8], layout: Layout, marks: [Mark; 4], t: u8, i: Statement) -> [Mark; 4]
+    ensures { λ r. ⌜ (λ u. getD r u unmarked) ≡ cond (ltb t 4) (marksSettled (setBy (now (set .entry)) layout) (λ v. getD marks v unmarked) t i) (λ v. getD marks v unmarked) ⌝ }
+{
+    if t < 4 {
+        return marks_settled(set, layout, marks, t, i);
+    }
+    marks
 }
 
 // Writes v at address a, and gives the filled count.
@@ -141,11 +177,10 @@ fn matches(i: Statement, o: Operand, x: Thread) -> bool
 }
 
 // What the acting thread's choice does: whether the cells it reads are known, the thread's registers afterwards,
-// the statement executed (none in a flush), and the cells written and read.
+// and the cells written and read.
 pub struct Effect {
     pub known: bool,
     pub thread: Thread,
-    pub statement: Statement,
     pub wrote: Written,
     pub read: Read,
 }
@@ -155,7 +190,6 @@ fn executing(i: Statement, x: Thread, addresses: &[u16], values: &[u16]) -> Effe
     requires { ⌜ (i .number < 20 → x .pc < 65535) ⌝ }
     ensures { λ r. ⌜ (r .known ≡ knowsAll (knownIn (now (addresses .entry))) (cellsRead i x (memoryIn (now (addresses .entry)) (now (values .entry)))))
         × (r .thread ≡ executedOf i (memoryIn (now (addresses .entry)) (now (values .entry))) x)
-        × (r .statement ≡ i)
         × (r .wrote ≡ cond (casMatches i x (memoryIn (now (addresses .entry)) (now (values .entry)))) (wroteOf (address i x (memoryIn (now (addresses .entry)) (now (values .entry)))) (x .accu)) noWrite)
         × (cellsOf (r .read) ≡ cellsRead i x (memoryIn (now (addresses .entry)) (now (values .entry)))) ⌝ }
 {
@@ -177,7 +211,6 @@ fn executing(i: Statement, x: Thread, addresses: &[u16], values: &[u16]) -> Effe
     Effect {
         known: o.known,
         thread,
-        statement: i,
         wrote,
         read,
     }
@@ -185,14 +218,9 @@ fn executing(i: Statement, x: Thread, addresses: &[u16], values: &[u16]) -> Effe
 
 // What flushing does.
 fn flushing(x: Thread) -> Effect
-    ensures { λ r. ⌜ (r .known ≡ true) × (r .thread ≡ flushed x) × (r .statement ≡ nothing) × (r .wrote ≡ wroteOf (x .adr) (x .val)) × (r .read ≡ noRead) ⌝ }
+    ensures { λ r. ⌜ (r .known ≡ true) × (r .thread ≡ flushed x) × (r .wrote ≡ wroteOf (x .adr) (x .val)) × (r .read ≡ noRead) ⌝ }
 {
     let thread = Thread { full: false, ..x };
-    let statement = Statement {
-        number: Statement::INSTRUCTIONS,
-        mode: 0,
-        argument: 0,
-    };
     let wrote = Written {
         done: true,
         address: x.adr,
@@ -207,7 +235,6 @@ fn flushing(x: Thread) -> Effect
     Effect {
         known: true,
         thread,
-        statement,
         wrote,
         read,
     }
@@ -218,7 +245,6 @@ fn effect_of(choice: Choice, i: Statement, x: Thread, addresses: &[u16], values:
     requires { ⌜ (i .number < 20 → x .pc < 65535) ⌝ }
     ensures { λ r. ⌜ (r .known ≡ knowsAll (knownIn (now (addresses .entry))) (readsBy choice i x (memoryIn (now (addresses .entry)) (now (values .entry)))))
         × (r .thread ≡ threadBy choice i x (memoryIn (now (addresses .entry)) (now (values .entry))))
-        × (r .statement ≡ statementBy choice i)
         × (r .wrote ≡ writtenBy choice i x (memoryIn (now (addresses .entry)) (now (values .entry))))
         × (cellsOf (r .read) ≡ readsBy choice i x (memoryIn (now (addresses .entry)) (now (values .entry)))) ⌝ }
 {
@@ -228,16 +254,25 @@ fn effect_of(choice: Choice, i: Statement, x: Thread, addresses: &[u16], values:
     }
 }
 
-// A step that is not taken.
-fn not_taken(fit: bool, outcome: Outcome, filled: usize) -> Stepped
-    ensures { λ r. ⌜ r ≡ notTaken fit outcome filled ⌝ }
+// The statement that a choice executes, none for a flush; x are the acting thread's registers.
+fn statement_of(set: &[u8], layout: Layout, x: Thread, choice: Choice) -> Statement
+    ensures { λ r. ⌜ r ≡ statementBy (setBy (now (set .entry)) layout) choice x ⌝ }
 {
-    let none = Mark {
-        on: false,
-        checkpoint: 0,
-    };
+    match choice {
+        Choice::Execute(t) => records::fetch(set, layout, t, x.pc),
+        Choice::Flush(_) => Statement {
+            number: Statement::INSTRUCTIONS,
+            mode: 0,
+            argument: 0,
+        },
+    }
+}
+
+// A step that is not taken.
+fn not_taken(outcome: Outcome, statement: Statement, filled: usize) -> Stepped
+    ensures { λ r. ⌜ r ≡ notTaken outcome statement filled ⌝ }
+{
     let thread = Thread::fresh();
-    let marks = [none, none, none, none];
     let wrote = Written {
         done: false,
         address: 0,
@@ -250,113 +285,58 @@ fn not_taken(fit: bool, outcome: Outcome, filled: usize) -> Stepped
         second: 0,
     };
     Stepped {
-        fit,
         outcome,
+        statement,
         thread,
-        marks,
-        exits: false,
-        code: 0,
         filled,
         wrote,
         read,
     }
 }
 
-// The threads with y as thread t.
-fn with_thread(threads: [Thread; 4], t: u8, y: Thread) -> [Thread; 4]
-    requires { ⌜ t < 4 ⌝ }
-    ensures { λ r. ⌜ (λ u. getD r u fresh) ≡ threadsSettled (λ u. getD threads u fresh) t y ⌝ }
-{
-    let mut after = threads;
-    after[t as usize] = y;
-    after
-}
-
-// The machine with what a step of thread t gave put into it.
-fn settle(layout: Layout, m: Machine, t: u8, s: Stepped) -> Machine
-    requires { ⌜ (layout .threads ≤ 4) × (t < layout .threads) ⌝ }
-    ensures { λ r. ⌜ ((memory : ℕ → ℕ) → stateOf r memory ≡ stateAfter layout m t s memory) ⌝ }
-{
-    let old = m.threads;
-    let threads = with_thread(old, t, s.thread);
-    let marks = s.marks;
-    let halted = all_halted(layout, threads);
-    let ended = m.ended | s.exits | halted;
-    if s.exits {
-        return Machine {
-            threads,
-            marks,
-            ended,
-            code: s.code,
-        };
-    }
-    Machine {
-        threads,
-        marks,
-        ended,
-        code: m.code,
-    }
-}
-
-// The machine with what a step gave put into it, where its thread is one of at most four.
-pub fn apply(layout: Layout, m: Machine, choice: Choice, s: Stepped) -> Machine
-    ensures { λ r. ⌜ ((memory : ℕ → ℕ) → stateOf r memory ≡ cond (leb (layout .threads) 4 && ltb (actorOf choice) (layout .threads)) (stateAfter layout m (actorOf choice) s memory) (stateOf m memory)) ⌝ }
-{
-    let t = choices::actor(choice);
-    let there = (layout.threads <= 4) & (t < layout.threads);
-    if there {
-        return settle(layout, m, t, s);
-    }
-    m
-}
-
-// One step over a sparse memory. Where it is not taken the memory is as it was.
+// One step of the acting thread over a sparse memory: x are its registers, mark its mark. Where it is not taken the memory is as it was.
+// The caller puts what it gives into its machine, so that a step copies no machine.
 pub fn advance(
     set: &[u8],
     layout: Layout,
-    m: Machine,
+    marks: [Mark; 4],
+    mark: Mark,
+    ended: bool,
+    x: Thread,
     addresses: &mut [u16],
     values: &mut [u16],
     filled: usize,
     choice: Choice,
 ) -> Stepped
-    ensures { λ r. ⌜ Advances (hasRoom layout (length (now (addresses .entry))) (length (now (values .entry))) filled)
-        (setBy (now (set .entry)) layout) (heldOf m (now (addresses .entry)) (now (values .entry)) filled) choice filled
-        r (heldAfter layout m choice r (now (addresses .exit)) (now (values .exit))) ⌝ }
+    ensures { λ r. ⌜ Advances (canStep layout ended (length (now (addresses .entry))) (length (now (values .entry))) filled choice)
+        choice (statementBy (setBy (now (set .entry)) layout) choice x) x (waits (setBy (now (set .entry)) layout) (λ u. getD marks u unmarked) mark)
+        (memoryOf (now (addresses .entry)) (now (values .entry)) filled) (knownOf (now (addresses .entry)) filled) filled
+        r (memoryOf (now (addresses .exit)) (now (values .exit)) (r .filled)) (knownOf (now (addresses .exit)) (r .filled)) ⌝ }
 {
     let t = choices::actor(choice);
-    let fit = (layout.threads <= 4) & (filled < addresses.len()) & (filled < values.len());
-    let there = fit & (t < layout.threads) & !m.ended;
+    let i = statement_of(set, layout, x, choice);
+    let room = (filled < addresses.len()) & (filled < values.len());
+    let there = room & (t < layout.threads) & !ended;
     if there {
-        let at = t as usize;
-        let x = m.threads[at];
-        let marks = m.marks;
-        let mark = marks[at];
-        let i = records::fetch(set, layout, t, x.pc);
         if choices::may(set, layout, marks, mark, i, x, choice) {
             let e = effect_of(choice, i, x, &addresses[..filled], &values[..filled]);
             if e.known {
-                let done = e.statement;
                 let thread = e.thread;
                 let wrote = e.wrote;
                 let read = e.read;
-                let after = marks_after(set, layout, marks, t, done);
                 let count = write(addresses, values, filled, wrote);
                 return Stepped {
-                    fit: true,
                     outcome: Outcome::Taken,
+                    statement: i,
                     thread,
-                    marks: after,
-                    exits: done.number == EXIT,
-                    code: done.argument,
                     filled: count,
                     wrote,
                     read,
                 };
             }
-            return not_taken(true, Outcome::Lacking, filled);
+            return not_taken(Outcome::Lacking, i, filled);
         }
-        return not_taken(true, Outcome::NotPermitted, filled);
+        return not_taken(Outcome::NotPermitted, i, filled);
     }
-    not_taken(fit, Outcome::NotPermitted, filled)
+    not_taken(Outcome::NotPermitted, i, filled)
 }

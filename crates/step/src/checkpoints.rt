@@ -22,6 +22,17 @@ fn count(layout: Layout, t: u8) -> u16
     0
 }
 
+// The record of thread t's first statement.
+fn start(layout: Layout, t: u8) -> u16
+    ensures { λ r. ⌜ r ≡ getD (layout .starts) t 0 ⌝ }
+{
+    let thread = t as usize;
+    if thread < 4 {
+        return layout.starts[thread];
+    }
+    0
+}
+
 // Whether a statement is CHECK c.
 fn checks(i: Statement, c: u16) -> bool
     ensures { λ r. ⌜ r ≡ (eqb (i .number) check && eqb (i .argument) c) ⌝ }
@@ -37,9 +48,10 @@ fn contains(set: &[u8], layout: Layout, t: u8, c: u16) -> bool
     ensures { λ r. ⌜ r ≡ containsOf (setBy (now (set .entry)) layout) t c ⌝ }
 {
     let n = count(layout, t);
+    let first = start(layout, t) as u32;
     let mut p: u16 = 0;
     while p < n {
-        let i = records::fetch(set, layout, t, p);
+        let i = records::statement_at(set, first + (p as u32));
         if checks(i, c) {
             return true;
         }
@@ -96,17 +108,46 @@ pub fn opened(set: &[u8], layout: Layout, marks: [Mark; 4], c: u16) -> bool
     true
 }
 
-// A thread's mark once the marks of open checkpoints are cleared.
-fn kept(set: &[u8], layout: Layout, marks: [Mark; 4], m: Mark) -> Mark
-    ensures { λ r. ⌜ r ≡ cond (m .on && openedOf (setBy (now (set .entry)) layout) (λ t. getD marks t unmarked) (m .checkpoint)) unmarked m ⌝ }
+// Whether a mark is at an open checkpoint.
+fn clears(set: &[u8], layout: Layout, marks: [Mark; 4], m: Mark) -> bool
+    ensures { λ r. ⌜ r ≡ (m .on && openedOf (setBy (now (set .entry)) layout) (λ t. getD marks t unmarked) (m .checkpoint)) ⌝ }
 {
     if m.on {
-        if opened(set, layout, marks, m.checkpoint) {
-            return Mark {
-                on: false,
-                checkpoint: 0,
-            };
+        return opened(set, layout, marks, m.checkpoint);
+    }
+    false
+}
+
+// The same where it is known of another mark, which is often the same one.
+fn clears_too(
+    set: &[u8],
+    layout: Layout,
+    marks: [Mark; 4],
+    m: Mark,
+    other: Mark,
+    known: bool,
+) -> bool
+    requires { ⌜ known ≡ (other .on && openedOf (setBy (now set) layout) (λ t. getD marks t unmarked) (other .checkpoint)) ⌝ }
+    ensures { λ r. ⌜ r ≡ (m .on && openedOf (setBy (now (set .entry)) layout) (λ t. getD marks t unmarked) (m .checkpoint)) ⌝ }
+{
+    if m.on {
+        if marked_at(other, m.checkpoint) {
+            return known;
         }
+        return opened(set, layout, marks, m.checkpoint);
+    }
+    false
+}
+
+// A mark, or none once it is cleared.
+fn kept(cleared: bool, m: Mark) -> Mark
+    ensures { λ r. ⌜ r ≡ cond cleared unmarked m ⌝ }
+{
+    if cleared {
+        return Mark {
+            on: false,
+            checkpoint: 0,
+        };
     }
     m
 }
@@ -115,9 +156,14 @@ fn kept(set: &[u8], layout: Layout, marks: [Mark; 4], m: Mark) -> Mark
 pub fn clear(set: &[u8], layout: Layout, marks: [Mark; 4]) -> [Mark; 4]
     ensures { λ r. ⌜ (λ t. getD r t unmarked) ≡ clearedOf (setBy (now (set .entry)) layout) (λ t. getD marks t unmarked) ⌝ }
 {
-    let a = kept(set, layout, marks, marks[0]);
-    let b = kept(set, layout, marks, marks[1]);
-    let c = kept(set, layout, marks, marks[2]);
-    let d = kept(set, layout, marks, marks[3]);
-    [a, b, c, d]
+    let a = clears(set, layout, marks, marks[0]);
+    let b = clears_too(set, layout, marks, marks[1], marks[0], a);
+    let c = clears_too(set, layout, marks, marks[2], marks[1], b);
+    let d = clears_too(set, layout, marks, marks[3], marks[2], c);
+    [
+        kept(a, marks[0]),
+        kept(b, marks[1]),
+        kept(c, marks[2]),
+        kept(d, marks[3]),
+    ]
 }

@@ -8,6 +8,7 @@ mod registers;
 
 ghost use mathlib.Core.Path.{_≡_};
 ghost use Rattle.step.specs.Machine.{fresh};
+use records::Statement;
 
 // A thread's registers.
 pub struct Thread {
@@ -62,16 +63,12 @@ pub struct Read {
     pub second: u16,
 }
 
-// What a step gave: its outcome; the acting thread's registers, the marks and the exit, for the caller's machine;
-// the filled count; what was written and read. fit is false where the layout has more than four threads
-// or the lent arrays have no room for a cell more.
+// What a step gave: its outcome; the statement executed, none in a flush; the acting thread's registers afterwards;
+// the filled count; what was written and read.
 pub struct Stepped {
-    pub fit: bool,
     pub outcome: Outcome,
+    pub statement: Statement,
     pub thread: Thread,
-    pub marks: [Mark; 4],
-    pub exits: bool,
-    pub code: u16,
     pub filled: usize,
     pub wrote: Written,
     pub read: Read,

@@ -2,7 +2,10 @@
 // They are lent, so that a step copies no cell.
 ghost use mathlib.Core.Path.{_≡_};
 ghost use mathlib.Core.Bool.{true};
+ghost use Prim.Native.Nat.{_≤_};
+ghost use lib.Dec.{eqb};
 ghost use lib.ListN.{length, getD};
+ghost use Rattle.base.specs.Below.{some};
 ghost use Rattle.records.specs.Maps.{cellAt};
 ghost use Rattle.step.specs.Held.{memoryIn, knownIn};
 
@@ -13,11 +16,25 @@ pub struct Cell {
     pub read: bool,
 }
 
-// The index of the first cell at address a, or how many cells there are.
-pub fn cell_at(addresses: &[u16], a: u16) -> usize
+// Whether one of the addresses is a. All are compared, which is faster for few than to leave at the first.
+fn among(addresses: &[u16], a: u16) -> bool
+    ensures { λ r. ⌜ r ≡ some (length (now (addresses .entry))) (λ k. eqb (getD (now (addresses .entry)) k 0) a) ⌝ }
+{
+    let mut found = false;
+    let mut k: usize = 0;
+    while k < addresses.len() {
+        found = found | (addresses[k] == a);
+        k += 1;
+    }
+    found
+}
+
+// The index of the first cell at address a, none of which is before index `from`, or how many cells there are.
+fn cell_from(addresses: &[u16], from: usize, a: u16) -> usize
+    requires { ⌜ (from ≤ length (now addresses)) × (cellAt (λ k. getD (now addresses) k 0) from a ≡ from) ⌝ }
     ensures { λ r. ⌜ r ≡ cellAt (λ k. getD (now (addresses .entry)) k 0) (length (now (addresses .entry))) a ⌝ }
 {
-    let mut i: usize = 0;
+    let mut i = from;
     while i < addresses.len() {
         if addresses[i] == a {
             return i;
@@ -25,6 +42,23 @@ pub fn cell_at(addresses: &[u16], a: u16) -> usize
         i += 1;
     }
     i
+}
+
+// The index of the first cell at address a, or how many cells there are. Sixteen at a time are passed over.
+pub fn cell_at(addresses: &[u16], a: u16) -> usize
+    ensures { λ r. ⌜ r ≡ cellAt (λ k. getD (now (addresses .entry)) k 0) (length (now (addresses .entry))) a ⌝ }
+{
+    let mut i: usize = 0;
+    let mut groups = addresses.len() / 16;
+    while 0 < groups {
+        let end = i + 16;
+        if among(&addresses[i..end], a) {
+            return cell_from(addresses, i, a);
+        }
+        i = end;
+        groups -= 1;
+    }
+    cell_from(addresses, i, a)
 }
 
 // What is known of the cell at address a.

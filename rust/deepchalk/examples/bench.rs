@@ -1,4 +1,4 @@
-//! Time of the library's calls beside the second simulator's, in one run:
+//! Time of the library's calls beside the second simulator's and the second reader's, in one run:
 //! cargo run --release --example bench
 
 use reference::records::{map_bytes, set_bytes};
@@ -148,6 +148,52 @@ fn refused_late() -> Workload {
     workload
 }
 
+/// Document 01's example for the listing.
+const SMALL_TEXT: &str = "ADDI 1\nSTORE 0\n.\nLOAD 0\nJZ 3\nEXIT 0\nEXIT 7\n.\n0 0\n";
+
+/// Four threads of 32 statements, every fourth with a label and every eighth a jump to one, and a
+/// map of 128 cells by falling address.
+fn dense_text() -> String {
+    let mut text = String::new();
+    for thread in 0..4 {
+        for pc in 0..32 {
+            let number = thread * 16_000 + pc * 37;
+            text += &match pc % 8 {
+                0 => format!("label_{pc}: LOAD [{number}]\n"),
+                1 => format!("ADDI {number}\n"),
+                2 => format!("STORE {number}\n"),
+                3 => "FENCE\n".to_string(),
+                4 => format!("label_{pc}: MEM {number}\n"),
+                5 => format!("CAS [{number}]\n"),
+                6 => format!("CHECK {thread}\n"),
+                _ => format!("JNZ label_{}\n", pc / 8 * 8),
+            };
+        }
+        // The last statement is a jump that gains nothing.
+        text.truncate(text.len() - "JNZ label_24\n".len());
+        text += "JMP label_24\n.\n";
+    }
+    let cells = (0..128).rev().map(|at| format!("{} {at}\n", at * 509));
+    text + &cells.collect::<String>()
+}
+
+/// The same with blanks and comments, filled up to 16,384 bytes.
+fn full_text() -> String {
+    let dense = dense_text();
+    let lines = dense.lines().count();
+    let extra = (deepchalk::MAX_TEXT - dense.len()) / lines;
+    let comment = "what this line is for, in as many words as fit here ".repeat(2);
+    let mut text = String::new();
+    for line in dense.lines() {
+        text += &match line {
+            "." => "  . \n".to_string(),
+            _ => format!("    {line}  # {}\n", &comment[..extra - 8]),
+        };
+    }
+    let rest = deepchalk::MAX_TEXT - text.len();
+    text + &"\n".repeat(rest)
+}
+
 /// Nanoseconds of one call of the library and of the second simulator, and the ratio. The timings
 /// alternate and the ratio is the median over neighbours, since the processor's speed changes.
 struct Times {
@@ -202,6 +248,23 @@ fn print_row(name: &str, call: &str, times: Times) {
     );
 }
 
+fn reads(text: &[u8]) -> Times {
+    let read = reference::read(text, usize::MAX, usize::MAX).expect("an accepted text");
+    let mut set = vec![0; read.set.len()];
+    let mut map = vec![0; read.map.len()];
+    deepchalk::read(text, &mut set, &mut map).expect("an accepted text");
+    assert_eq!((&set, &map), (&read.set, &read.map));
+    let (set_room, map_room) = (set.len(), map.len());
+    side_by_side(
+        || {
+            let _ = black_box(deepchalk::read(black_box(text), &mut set, &mut map));
+        },
+        || {
+            let _ = black_box(reference::read(black_box(text), set_room, map_room));
+        },
+    )
+}
+
 fn simulations(work: &Workload) -> Times {
     let (set, map, schedule) = (&work.set, &work.map, &work.schedule);
     let mut trace = vec![0; schedule.len() * STEP_BYTES];
@@ -249,6 +312,13 @@ fn main() {
         "{:<42} {:<9} {:>10} {:>10} {:>7}",
         "", "call", "library ns", "second ns", "ratio"
     );
+    for (name, text) in [
+        ("text of 16,384 bytes, full set and map", full_text()),
+        ("dense text, full set and map", dense_text()),
+        ("small text of 9 lines", SMALL_TEXT.to_string()),
+    ] {
+        print_row(name, "read", reads(text.as_bytes()));
+    }
     for work in [
         store_loop(),
         memory_heavy(),

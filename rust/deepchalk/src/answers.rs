@@ -19,6 +19,13 @@ pub struct Ran {
     pub end: End,
 }
 
+/// A set text that was accepted: how many statement records and map records were written.
+#[derive(Clone, Copy, Debug, PartialEq, Eq)]
+pub struct Read {
+    pub statements: u16,
+    pub cells: u16,
+}
+
 /// A refusal by its number in document 01's table. `place` is a line from 1, a step from 0 or a
 /// record from 0, as the number has it, else 0.
 #[derive(Clone, Copy, Debug, PartialEq, Eq)]
@@ -67,17 +74,30 @@ impl fmt::Display for Refusal {
 
 impl Error for Refusal {}
 
-/// The answer of simulation or replay. Bits 0 to 7 are the refusal's number, 0 on success. On
-/// success bits 8 to 15 are the end, 16 to 31 the code, 32 to 47 the steps; on a refusal bits 32 to
-/// 63 are the place.
-pub(crate) fn run_answer(packed: u64) -> Result<Ran, Refusal> {
-    let number = packed as u8;
-    if number != 0 {
-        return Err(Refusal {
+/// Bits 0 to 7 are the refusal's number, 0 on success; on a refusal bits 32 to 63 are the place.
+fn accepted(packed: u64) -> Result<(), Refusal> {
+    match packed as u8 {
+        0 => Ok(()),
+        number => Err(Refusal {
             number,
             place: (packed >> 32) as u32,
-        });
+        }),
     }
+}
+
+/// The answer of reading. On success bits 16 to 31 are the statements, 32 to 47 the cells.
+pub(crate) fn read_answer(packed: u64) -> Result<Read, Refusal> {
+    accepted(packed)?;
+    Ok(Read {
+        statements: (packed >> 16) as u16,
+        cells: (packed >> 32) as u16,
+    })
+}
+
+/// The answer of simulation or replay. On success bits 8 to 15 are the end, 16 to 31 the code, 32 to
+/// 47 the steps.
+pub(crate) fn run_answer(packed: u64) -> Result<Ran, Refusal> {
+    accepted(packed)?;
     let end = match (packed >> 8) as u8 {
         0 => End::Code((packed >> 16) as u16),
         1 => End::Stuck,
@@ -107,6 +127,20 @@ mod tests {
                 number: 16,
                 place: 0x8000_0001
             })
+        );
+    }
+
+    #[test]
+    fn packed_answers_of_reading() {
+        let (statements, cells) = (128, 127);
+        assert_eq!(
+            read_answer(0x007f_0080_0000),
+            Ok(Read { statements, cells })
+        );
+        let (number, place) = (2, 16_385);
+        assert_eq!(
+            read_answer(0x4001_0000_0002),
+            Err(Refusal { number, place })
         );
     }
 

@@ -2,6 +2,15 @@
 //! Each buffer is a pointer and a length; the pointer of an empty buffer is not null either.
 
 extern "C" {
+    pub fn deepchalk_read(
+        text: *const u8,
+        text_len: usize,
+        set: *mut u8,
+        set_len: usize,
+        map: *mut u8,
+        map_len: usize,
+    ) -> u64;
+
     pub fn deepchalk_simulate(
         set: *const u8,
         set_len: usize,

@@ -27,6 +27,10 @@ fn a_c_program_gets_the_answers() {
     let ran = Command::new(&program).output().expect("the program runs");
     assert!(ran.status.success());
     let lines = [
+        "0 0 3 2",
+        "9 17 3 9",
+        "11 0 0 0",
+        "2 3 0 0",
         "0 0 0 3 3",
         "0 0 0 3 3",
         "0 0 2 0 2",

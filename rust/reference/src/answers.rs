@@ -23,6 +23,18 @@ pub struct Refusal {
 }
 
 impl Refusal {
+    /// Text above 16,384 bytes.
+    pub const TEXT: Refusal = Refusal::plain(1);
+    /// Threads not 1 to 4.
+    pub const THREADS: Refusal = Refusal::plain(4);
+    /// A thread's statements not 1 to 32.
+    pub const STATEMENTS: Refusal = Refusal::plain(5);
+    /// Label doubled in a thread, unknown, or target beyond the last statement.
+    pub const LABELS: Refusal = Refusal::plain(6);
+    /// More than 8 different checkpoints.
+    pub const CHECKPOINTS: Refusal = Refusal::plain(7);
+    /// Map address doubled, or above 128 cells in a text.
+    pub const MAP: Refusal = Refusal::plain(8);
     /// Statement or map records not as document 01 has them.
     pub const RECORDS: Refusal = Refusal::plain(9);
     /// Lent output too short.
@@ -40,6 +52,22 @@ impl Refusal {
             number,
             // Runs have at most 64 steps.
             place: step as u32,
+        }
+    }
+
+    /// Line malformed or forbidden byte. Lines count from 1.
+    pub fn malformed(line: u32) -> Refusal {
+        Refusal {
+            number: 2,
+            place: line,
+        }
+    }
+
+    /// Number above 65,535.
+    pub fn number_above(line: u32) -> Refusal {
+        Refusal {
+            number: 3,
+            place: line,
         }
     }
 

@@ -67,6 +67,33 @@ impl Instruction {
         }
     }
 
+    /// "An instruction word matches letter for letter, in capitals."
+    pub fn from_word(word: &[u8]) -> Option<Instruction> {
+        Some(match word {
+            b"LOAD" => Load,
+            b"STORE" => Store,
+            b"FENCE" => Fence,
+            b"ADD" => Add,
+            b"ADDI" => Addi,
+            b"SUB" => Sub,
+            b"SUBI" => Subi,
+            b"MUL" => Mul,
+            b"MULI" => Muli,
+            b"JMP" => Jmp,
+            b"JZ" => Jz,
+            b"JNZ" => Jnz,
+            b"JS" => Js,
+            b"JNS" => Jns,
+            b"JNZNS" => Jnzns,
+            b"MEM" => Mem,
+            b"CAS" => Cas,
+            b"HALT" => Halt,
+            b"EXIT" => Exit,
+            b"CHECK" => Check,
+            _ => return None,
+        })
+    }
+
     /// Memory words: their argument is an address and may be indirect.
     pub fn is_memory(self) -> bool {
         matches!(self, Load | Store | Add | Sub | Mul | Mem | Cas)
@@ -117,6 +144,19 @@ mod tests {
                 Some(instruction) => assert_eq!(instruction.number(), number),
                 None => assert!(number >= 20),
             }
+        }
+    }
+
+    #[test]
+    fn words_are_whole_and_in_capitals() {
+        for instruction in Instruction::ALL {
+            let word = instruction.word().as_bytes();
+            assert_eq!(Instruction::from_word(word), Some(instruction));
+            assert_eq!(Instruction::from_word(&word.to_ascii_lowercase()), None);
+            assert_eq!(Instruction::from_word(&[word, b"S"].concat()), None);
+        }
+        for word in ["", "CMP", "FLUSH", "Halt", "LOA", "JN"] {
+            assert_eq!(Instruction::from_word(word.as_bytes()), None);
         }
     }
 

@@ -142,7 +142,8 @@ fn is_thread(statements: &[Statement]) -> bool {
         })
 }
 
-fn checkpoints_of(threads: &[Vec<Statement>]) -> Vec<Checkpoint> {
+/// The set's checkpoints, each once.
+pub fn checkpoints_of(threads: &[Vec<Statement>]) -> Vec<Checkpoint> {
     let mut checkpoints: Vec<Checkpoint> = Vec::new();
     for (thread, statements) in threads.iter().enumerate() {
         for statement in statements {
@@ -183,7 +184,8 @@ fn read_map(bytes: &[u8], limit: usize) -> Option<Vec<Cell>> {
 
 /// The records of these threads, accepted or not.
 pub fn set_bytes(threads: &[Vec<Statement>]) -> Vec<u8> {
-    let mut bytes = Vec::new();
+    let statements: usize = threads.iter().map(Vec::len).sum();
+    let mut bytes = Vec::with_capacity(statements * STATEMENT_BYTES);
     for (thread, statements) in threads.iter().enumerate() {
         for (pc, statement) in statements.iter().enumerate() {
             bytes.extend_from_slice(&[
@@ -201,7 +203,7 @@ pub fn set_bytes(threads: &[Vec<Statement>]) -> Vec<u8> {
 
 /// The records of these cells, in the given order.
 pub fn map_bytes(cells: &[Cell]) -> Vec<u8> {
-    let mut bytes = Vec::new();
+    let mut bytes = Vec::with_capacity(cells.len() * CELL_BYTES);
     for cell in cells {
         bytes.extend_from_slice(&cell.address.to_le_bytes());
         bytes.extend_from_slice(&cell.value.to_le_bytes());

@@ -10,9 +10,11 @@ pub mod packed;
 pub mod random;
 pub mod schedules;
 pub mod sets;
+pub mod texts;
 
 pub use counts::Counts;
 pub use inputs::Input;
 pub use lent::Lent;
-pub use packed::packed;
+pub use packed::{packed, packed_read};
 pub use random::Random;
+pub use texts::counts::TextCounts;

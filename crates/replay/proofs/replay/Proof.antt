@@ -1,4 +1,4 @@
-use Rattle.replay.specs.Replay.{limited, replayed}
+use Rattle.replay.specs.Replay.{limitedTrace, replayed}
 use denote.Ref.{now}
 use mathlib.Core.Path.{_≡_, refl, sym, ap, _∙_}
 use mathlib.Core.Bool.{true}
@@ -55,7 +55,7 @@ returns-2 c =
     let m = c .before .before in
     let a = m .before .before .before .before .before .before .before .args in
     c .accepted .ensures
-    ∙ ap (λ (S : Set). limited S (now (a .map)) (now (a .trace))) (set-read (now (a .set)) (m .before .before .before .layout .result) (m .before .before .before .layout .ensures) (good m))
+    ∙ ap (λ (S : Set). limitedTrace S (now (a .map)) (now (a .trace))) (set-read (now (a .set)) (m .before .before .before .layout .result) (m .before .before .before .layout .ensures) (good m))
     ∙ sym (chosen _ _ (and-true (good m) (sym (m .map-accepted .ensures) ∙ c .before .if2 .taken)))
 
 -- src/lib.rt:125:5

@@ -16,14 +16,17 @@ fresh-requires c κs = search needs
 -- src/lib.rt:25:1
 returns : tie.Need-returns
 returns c =
-    let e = c .fresh .ensures in
-    λ memory k. record {
-      threads = four _ _ _ _ fresh (λ t. fresh) e e e e (λ t h. refl) k;
-      marks = four unmarked unmarked unmarked unmarked unmarked (λ t. unmarked) refl refl refl refl (λ t h. refl) k;
-      memory = memory;
-      ended = false;
-      code = 0;
-    }
+    let e = c .fresh .ensures in (
+      λ memory k. record {
+        threads = four _ _ _ _ fresh (λ t. fresh) e e e e (λ t h. refl) k;
+        marks = four unmarked unmarked unmarked unmarked unmarked (λ t. unmarked) refl refl refl refl (λ t h. refl) k;
+        memory = memory;
+        ended = false;
+        code = 0;
+      },
+      refl,
+      refl,
+    )
 
 pub fresh-machine-spec : {M : Type 1} → statement M
 fresh-machine-spec = tie.close (tie.spec fresh-requires returns)

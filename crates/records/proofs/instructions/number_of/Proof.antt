@@ -1,55 +1,114 @@
--- `records::instructions::number_of` meets its contract. No instruction below n has the word. Assumes nothing.
-use Prim.Native.Nat.{_≤_, _-_}
-use mathlib.Core.Path.{_≡_, refl, sym, _∙_}
+-- `records::instructions::number_of` meets its contract: an arm for each first letter of a word. Assumes nothing.
+use mathlib.Core.Path.{refl, sym, _∙_}
 use native.Mathlib.Omega.{arith}
 use borrow.Author.Needs.{needs}
-use Rattle.base.proofs.Below.{least-more, least-hit}
-use Rattle.base.specs.Bytes.{same}
-use Rattle.base.specs.Below.{least}
-use Rattle.records.specs.Instructions.{wordOf}
+use Rattle.base.specs.Below.{every}
+use Rattle.records.specs.Instructions.{words, wordOf, EXIT, FENCE, HALT, LOAD}
+use Rattle.records.proofs.Words.{among, one-starting, other-letter}
 use Rattle.records.proofs.instructions.number_of.Statement.{statement}
 use Rattle.records.proofs.instructions.number_of.Tie as tie
 
-abbrev Inv-loop : tie.InvT-loop
-Inv-loop w n₀ n = (n ≤ 20) × (least n (λ k. same w (wordOf k)) ≡ n)
+byte-at-requires : tie.Need-byte-at-requires
+byte-at-requires c κs = search needs
 
-abbrev μ-loop : tie.MeasureT-loop
-μ-loop w n₀ n = 20 - n
+number-with-a-requires : tie.Need-number-with-a-requires
+number-with-a-requires c κs = search needs
 
-loop-holds : tie.Need-loop-holds Inv-loop μ-loop
-unfolding least
-loop-holds c = (search needs, refl)
+number-with-c-requires : tie.Need-number-with-c-requires
+number-with-c-requires c κs = search needs
 
-is-word-requires : tie.Need-is-word-requires Inv-loop μ-loop
-is-word-requires c κs = search needs
+slice-aggregate-number-if : tie.Need-slice-aggregate-number-if
+slice-aggregate-number-if c = search needs
 
-returns : tie.Need-returns Inv-loop μ-loop
-returns c = sym (least-hit _ 20 _ (c .before .before .before .loop .inv .1) (sym (c .before .is-word .ensures) ∙ c .if1 .taken) (c .before .before .loop-test .taken))
+number-if-requires : tie.Need-number-if-requires
+number-if-requires c κs = search needs
 
-add-n : tie.Need-add-n Inv-loop μ-loop
-add-n c = search needs
+slice-aggregate-number-if-2 : tie.Need-slice-aggregate-number-if-2
+slice-aggregate-number-if-2 c = search needs
 
-loop-less : tie.Need-loop-less Inv-loop μ-loop
-loop-less c = search needs
+number-if-requires-2 : tie.Need-number-if-requires-2
+number-if-requires-2 c κs = search needs
 
-loop-again : tie.Need-loop-again Inv-loop μ-loop
-loop-again c = (search needs, least-more _ _ (c .before .before .before .loop .inv .1) (sym (c .before .is-word .ensures) ∙ c .if1 .left))
+slice-aggregate-number-if-3 : tie.Need-slice-aggregate-number-if-3
+slice-aggregate-number-if-3 c = search needs
 
-returns-2 : tie.Need-returns-2 Inv-loop μ-loop
-returns-2 c =
-    let e : c .before .loop .n ≡ 20 = omega arith in
-    rw e (sym (rw e at (c .before .loop .inv .1)))
+number-if-requires-3 : tie.Need-number-if-requires-3
+number-if-requires-3 c κs = search needs
+
+number-with-j-requires : tie.Need-number-with-j-requires
+number-with-j-requires c κs = search needs
+
+slice-aggregate-number-if-4 : tie.Need-slice-aggregate-number-if-4
+slice-aggregate-number-if-4 c = search needs
+
+number-if-requires-4 : tie.Need-number-if-requires-4
+number-if-requires-4 c κs = search needs
+
+number-with-m-requires : tie.Need-number-with-m-requires
+number-with-m-requires c κs = search needs
+
+number-with-s-requires : tie.Need-number-with-s-requires
+number-with-s-requires c κs = search needs
+
+returns : tie.Need-returns
+returns c = search needs
+
+returns-2 : tie.Need-returns-2
+returns-2 c = search needs
+
+returns-3 : tie.Need-returns-3
+unfolding every among words wordOf
+returns-3 c = c .number-if .ensures ∙ one-starting _ _ EXIT (omega arith) (sym (c .before .before .before .byte-at .ensures) ∙ c .before .before .match .keys3) refl
+
+returns-4 : tie.Need-returns-4
+unfolding every among words wordOf
+returns-4 c = c .number-if2 .ensures ∙ one-starting _ _ FENCE (omega arith) (sym (c .before .before .before .byte-at .ensures) ∙ c .before .before .match .keys4) refl
+
+returns-5 : tie.Need-returns-5
+unfolding every among words wordOf
+returns-5 c = c .number-if3 .ensures ∙ one-starting _ _ HALT (omega arith) (sym (c .before .before .before .byte-at .ensures) ∙ c .before .before .match .keys5) refl
+
+returns-6 : tie.Need-returns-6
+returns-6 c = search needs
+
+returns-7 : tie.Need-returns-7
+unfolding every among words wordOf
+returns-7 c = c .number-if4 .ensures ∙ one-starting _ _ LOAD (omega arith) (sym (c .before .before .before .byte-at .ensures) ∙ c .before .before .match .keys7) refl
+
+returns-8 : tie.Need-returns-8
+returns-8 c = search needs
+
+returns-9 : tie.Need-returns-9
+returns-9 c = search needs
+
+returns-10 : tie.Need-returns-10
+returns-10 c = other-letter _ _ (c .before .byte-at .ensures) (c .match .rest)
 
 pub number-of-spec : {M : Type 1} → statement M
 number-of-spec =
     tie.close
     (tie.spec
-    Inv-loop
-    μ-loop
-    loop-holds
-    is-word-requires
+    byte-at-requires
+    number-with-a-requires
+    number-with-c-requires
+    slice-aggregate-number-if
+    number-if-requires
+    slice-aggregate-number-if-2
+    number-if-requires-2
+    slice-aggregate-number-if-3
+    number-if-requires-3
+    number-with-j-requires
+    slice-aggregate-number-if-4
+    number-if-requires-4
+    number-with-m-requires
+    number-with-s-requires
     returns
-    add-n
-    loop-less
-    loop-again
-    returns-2)
+    returns-2
+    returns-3
+    returns-4
+    returns-5
+    returns-6
+    returns-7
+    returns-8
+    returns-9
+    returns-10)

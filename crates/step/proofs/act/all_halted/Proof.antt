@@ -1,73 +1,44 @@
-use Prim.Native.Nat.{ℕ, _≤_, _-_}
+use Rattle.base.proofs.Below.{every-not}
+use Rattle.base.specs.Below.{every}
 use lib.ListN.{getD}
 use native.Mathlib.Omega.{arith}
-use mathlib.Core.Bool.{true}
-use mathlib.Core.Path.{_≡_, sym, ap, _∙_, refl}
-use Rattle.step.specs.Machine.{fresh}
-use Rattle.base.proofs.Below.{every-more, every-not}
-use Rattle.base.specs.Below.{every}
-use borrow.Author.Needs.{needs}
+use mathlib.Core.List.{[], _∷_}
+use mathlib.Core.Bool.{false}
+use mathlib.Core.Path.{refl, ap, sym}
+use Prim.Native.Nat.{ℕ}
 use Rattle.step.proofs.act.all_halted.Statement.{statement}
 use Rattle.step.proofs.act.all_halted.Tie as tie
 use Rattle.step.proofs.act.all_halted.Reads as reads
 use Rattle.step.proofs.act.all_halted.Lts as lts
 
-abbrev Inv-loop : tie.InvT-loop
-Inv-loop layout threads t₀ t = (t ≤ layout .threads) × (layout .threads ≤ 4) × (every t (λ u. getD threads u fresh .halted) ≡ true)
-
-abbrev μ-loop : tie.MeasureT-loop
-μ-loop layout threads t₀ t = layout .threads - t
-
-loop-holds : tie.Need-loop-holds Inv-loop μ-loop
+-- src/act.rt:65:1
+returns : tie.Need-returns
 unfolding every
-loop-holds c = (search needs, search needs, refl)
+returns c = let a = c .before .args in sym (ap (λ (n : ℕ). every n (λ t. getD (a .first ∷ a .second ∷ a .third ∷ a .fourth ∷ []) t false)) (c .match .keys1))
 
-cast-x : tie.Need-cast-x Inv-loop μ-loop
-cast-x c = search needs
+-- src/act.rt:65:1
+returns-2 : tie.Need-returns-2
+unfolding every
+returns-2 c = let a = c .before .args in sym (ap (λ (n : ℕ). every n (λ t. getD (a .first ∷ a .second ∷ a .third ∷ a .fourth ∷ []) t false)) (c .match .keys2))
 
-mul-x : tie.Need-mul-x Inv-loop μ-loop
-mul-x c = search needs
+-- src/act.rt:65:1
+returns-3 : tie.Need-returns-3
+unfolding every
+returns-3 c = let a = c .before .args in sym (ap (λ (n : ℕ). every n (λ t. getD (a .first ∷ a .second ∷ a .third ∷ a .fourth ∷ []) t false)) (c .match .keys3))
 
-array-copy-out-x : tie.Need-array-copy-out-x Inv-loop μ-loop
-array-copy-out-x c = search needs
+-- src/act.rt:65:1
+returns-4 : tie.Need-returns-4
+unfolding every
+returns-4 c = let a = c .before .args in sym (ap (λ (n : ℕ). every n (λ t. getD (a .first ∷ a .second ∷ a .third ∷ a .fourth ∷ []) t false)) (c .match .keys4))
 
-add-t : tie.Need-add-t Inv-loop μ-loop
-add-t c = search needs
+-- src/act.rt:65:1
+returns-5 : tie.Need-returns-5
+unfolding every
+returns-5 c = let a = c .before .args in sym (ap (λ (n : ℕ). every n (λ t. getD (a .first ∷ a .second ∷ a .third ∷ a .fourth ∷ []) t false)) (c .match .keys5))
 
-loop-less : tie.Need-loop-less Inv-loop μ-loop
-loop-less c = search needs
-
-loop-again : tie.Need-loop-again Inv-loop μ-loop
-loop-again c =
-    let l = c .before .before .before .before .loop in
-    let a = c .before .before .before .before .before .args in
-    (search needs, search needs, every-more (λ u. getD (a .t2) u fresh .halted) (l .t) (l .inv .2) (c .if2 .taken))
-
-returns : tie.Need-returns Inv-loop μ-loop
-returns c =
-    let l = c .before .before .before .before .loop in
-    let a = c .before .before .before .before .before .args in
-    sym (every-not (λ u. getD (a .t2) u fresh .halted) _ (l .t) (search needs) (c .if2 .left))
-
-returns-2 : tie.Need-returns-2 Inv-loop μ-loop
-returns-2 c =
-    let l = c .before .before .loop in
-    let a = c .before .before .before .args in
-    let e : l .t ≡ a .layout .threads = omega arith in
-    sym (ap (λ (n : ℕ). every n (λ u. getD (a .t2) u fresh .halted)) (sym e) ∙ l .inv .2)
+-- src/act.rt:65:1
+returns-6 : tie.Need-returns-6
+returns-6 c = let a = c .before .args in sym (every-not (λ t. getD (a .first ∷ a .second ∷ a .third ∷ a .fourth ∷ []) t false) (a .n) 4 (omega arith) refl)
 
 pub all-halted-spec : {M : Type 1} → statement M
-all-halted-spec =
-    tie.close
-    (tie.spec
-    Inv-loop
-    μ-loop
-    loop-holds
-    cast-x
-    mul-x
-    array-copy-out-x
-    add-t
-    loop-less
-    loop-again
-    returns
-    returns-2)
+all-halted-spec = tie.close (tie.spec returns returns-2 returns-3 returns-4 returns-5 returns-6)

@@ -1,6 +1,6 @@
 use denote.Ref.{now}
 use mathlib.Core.Path.{_≡_, sym, ap, _∙_}
-use Rattle.step.specs.Held.{memoryIn, knownIn, cellsOf, readsBy, threadBy, statementBy, writtenBy}
+use Rattle.step.specs.Held.{memoryIn, knownIn, cellsOf, readsBy, threadBy, writtenBy}
 use Rattle.step.specs.Maps.{knowsAll}
 use Rattle.step.specs.declared.Choice.{Choice}
 use borrow.Author.Needs.{needs}
@@ -36,9 +36,8 @@ returns c =
     let e = c .executing .ensures in (
       e .0 ∙ ap (λ (k : Choice). knowsAll (knownIn (now (a .addresses))) (readsBy k (a .i) (a .x) memory)) q,
       e .1 ∙ ap (λ (k : Choice). threadBy k (a .i) (a .x) memory) q,
-      e .2 ∙ ap (λ (k : Choice). statementBy k (a .i)) q,
-      e .3 ∙ ap (λ (k : Choice). writtenBy k (a .i) (a .x) memory) q,
-      e .4 ∙ ap (λ (k : Choice). readsBy k (a .i) (a .x) memory) q,
+      e .2 ∙ ap (λ (k : Choice). writtenBy k (a .i) (a .x) memory) q,
+      e .3 ∙ ap (λ (k : Choice). readsBy k (a .i) (a .x) memory) q,
     )
 
 -- src/act.rt:196:1
@@ -50,9 +49,8 @@ returns-2 c =
     let e = c .flushing .ensures in (
       e .0 ∙ ap (λ (k : Choice). knowsAll (knownIn (now (a .addresses))) (readsBy k (a .i) (a .x) memory)) q,
       e .1 ∙ ap (λ (k : Choice). threadBy k (a .i) (a .x) memory) q,
-      e .2 ∙ ap (λ (k : Choice). statementBy k (a .i)) q,
-      e .3 ∙ ap (λ (k : Choice). writtenBy k (a .i) (a .x) memory) q,
-      ap cellsOf (e .4) ∙ ap (λ (k : Choice). readsBy k (a .i) (a .x) memory) q,
+      e .2 ∙ ap (λ (k : Choice). writtenBy k (a .i) (a .x) memory) q,
+      ap cellsOf (e .3) ∙ ap (λ (k : Choice). readsBy k (a .i) (a .x) memory) q,
     )
 
 pub effect-of-spec : {M : Type 1} → statement M

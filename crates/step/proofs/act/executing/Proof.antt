@@ -1,7 +1,7 @@
 use denote.Ref.{now}
 use Prim.Native.Nat.{ℕ}
 use lib.Dec.{eqb}
-use mathlib.Core.Path.{_≡_, sym, ap, ap₂, _∙_, refl}
+use mathlib.Core.Path.{_≡_, sym, ap, ap₂, _∙_}
 use mathlib.Core.Bool.{Bool, true, cond, _&&_}
 use Rattle.base.proofs.Choice.{chosen, passed}
 use Rattle.records.specs.Instructions.{CAS}
@@ -71,14 +71,14 @@ returns : tie.Need-returns
 returns c =
     let m = c .before in
     let o = m .before .before .before .operands in
-    (o .ensures .0, registers (m .before .before), refl, wrote-cas m (c .if1 .taken), o .ensures .3)
+    (o .ensures .0, registers (m .before .before), wrote-cas m (c .if1 .taken), o .ensures .3)
 
 -- src/act.rt:133:1
 returns-2 : tie.Need-returns-2
 returns-2 c =
     let m = c .before in
     let o = m .before .before .before .operands in
-    (o .ensures .0, registers (m .before .before), refl, sym (passed _ _ (cas m ∙ c .if1 .left)), o .ensures .3)
+    (o .ensures .0, registers (m .before .before), sym (passed _ _ (cas m ∙ c .if1 .left)), o .ensures .3)
 
 pub executing-spec : {M : Type 1} → statement M
 executing-spec =

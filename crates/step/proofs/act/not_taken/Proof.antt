@@ -1,9 +1,7 @@
-use mathlib.Core.Path.{ap}
-use mathlib.Core.Bool.{false}
-use mathlib.Core.List.{[], _∷_}
-use Rattle.step.specs.declared.Thread.{Thread}
+use Rattle.step.specs.Machine.{noWrite}
 use Rattle.step.specs.Held.{noRead}
-use Rattle.step.specs.Machine.{unmarked, noWrite}
+use Rattle.step.specs.declared.Thread.{Thread}
+use mathlib.Core.Path.{ap}
 use borrow.Author.Needs.{needs}
 use Rattle.step.proofs.act.not_taken.Statement.{statement}
 use Rattle.step.proofs.act.not_taken.Tie as tie
@@ -11,13 +9,13 @@ use Rattle.step.proofs.act.not_taken.Reads as reads
 use Rattle.step.proofs.act.not_taken.Lts as lts
 use Rattle.step.proofs.Thread.fresh.Reads as fresh-reads
 
--- src/act.rt:218:9
+-- src/act.rt:268:9
 fresh-requires : tie.Need-fresh-requires
 fresh-requires c κs = search needs
 
--- src/act.rt:211:1
+-- src/act.rt:265:1
 returns : tie.Need-returns
-returns c = ap (λ (x : Thread). record { fit = c .before .args .fit; outcome = c .before .args .outcome; thread = x; marks = unmarked ∷ unmarked ∷ unmarked ∷ unmarked ∷ []; exits = false; code = 0; filled = c .before .args .filled; wrote = noWrite; read = noRead }) (c .fresh .ensures)
+returns c = ap (λ (x : Thread). record { outcome = c .before .args .outcome; statement = c .before .args .statement; thread = x; filled = c .before .args .filled; wrote = noWrite; read = noRead }) (c .fresh .ensures)
 
 pub not-taken-spec : {M : Type 1} → statement M
 not-taken-spec = tie.close (tie.spec fresh-requires returns)

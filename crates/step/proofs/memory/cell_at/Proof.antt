@@ -1,58 +1,98 @@
-use denote.Ref.{now}
-use borrow.Author.Needs.{needs}
+use Rattle.step.proofs.Groups.{least-group}
 use Rattle.records.specs.Maps.{cellAt}
-use Rattle.base.proofs.Below.{least-more, least-hit}
 use Rattle.base.specs.Below.{least}
-use borrow.Author.Tests.{eq-eqb, ne-eqb}
+use lib.Seq.{getD-take, getD-drop, length-take-le}
+use lib.ListN.{length, length-drop, getD, take, drop}
+use lib.Dec.{eqb}
+use denote.Ref.{now}
 use native.Mathlib.Omega.{arith}
-use lib.ListN.{length, getD}
-use mathlib.Core.Path.{_≡_, sym, _∙_, refl}
-use Prim.Native.Nat.{_≤_, _-_}
+use mathlib.Core.Path.{_≡_, refl, ap, sym, _∙_}
+use Prim.Native.Nat.{ℕ, _+_, _*_, _-_, _≤_}
+use borrow.Author.Needs.{needs}
 use Rattle.step.proofs.memory.cell_at.Statement.{statement}
 use Rattle.step.proofs.memory.cell_at.Tie as tie
 use Rattle.step.proofs.memory.cell_at.Reads as reads
 use Rattle.step.proofs.memory.cell_at.Lts as lts
+use Rattle.step.proofs.memory.among.Reads as among-reads
+use Rattle.step.proofs.memory.cell_from.Reads as cell-from-reads
 
 abbrev Inv-loop : tie.InvT-loop
-Inv-loop addresses a i₀ i = (i ≤ length addresses) × (cellAt (λ k. getD addresses k 0) i a ≡ i)
+Inv-loop addresses a i₀ groups₀ i groups = (i + 16 * groups ≤ length addresses) × (cellAt (λ k. getD addresses k 0) i a ≡ i)
 
 abbrev μ-loop : tie.MeasureT-loop
-μ-loop addresses a i₀ i = length addresses - i
+μ-loop addresses a i₀ groups₀ i groups = groups
 
--- src/memory.rt:19:5
+-- src/memory.rt:53:5
 loop-holds : tie.Need-loop-holds Inv-loop μ-loop
 unfolding least
 loop-holds c = (search needs, refl)
 
--- src/memory.rt:20:12
-mul-if1 : tie.Need-mul-if1 Inv-loop μ-loop
-mul-if1 c = search needs
+-- src/memory.rt:54:19
+add-end : tie.Need-add-end Inv-loop μ-loop
+add-end c = search needs
 
--- src/memory.rt:20:12
-shared-slice-read-if1 : tie.Need-shared-slice-read-if1 Inv-loop μ-loop
-shared-slice-read-if1 c = search needs
+-- src/memory.rt:55:18
+mul-among : tie.Need-mul-among Inv-loop μ-loop
+mul-among c = search needs
 
--- src/memory.rt:21:13
+-- src/memory.rt:55:18
+sub-among : tie.Need-sub-among Inv-loop μ-loop
+sub-among c = search needs
+
+-- src/memory.rt:55:18
+part-among-start : tie.Need-part-among-start Inv-loop μ-loop
+part-among-start c = search needs
+
+-- src/memory.rt:55:18
+part-among-end : tie.Need-part-among-end Inv-loop μ-loop
+part-among-end c = search needs
+
+-- src/memory.rt:55:12
+among-requires : tie.Need-among-requires Inv-loop μ-loop
+among-requires c κs = search needs
+
+-- src/memory.rt:56:13
+cell-from-requires : tie.Need-cell-from-requires Inv-loop μ-loop
+cell-from-requires c κs = let l = c .before .before .before .before .loop in (omega (arith, l .inv .0), l .inv .1)
+
+-- src/memory.rt:56:13
 returns : tie.Need-returns Inv-loop μ-loop
-returns c = sym (least-hit _ _ _ (c .before .before .before .loop .inv .1) (eq-eqb _ _ (c .if1 .taken)) (c .before .before .loop-test .taken))
+returns c = c .cell-from .ensures
 
--- src/memory.rt:23:9
-add-i : tie.Need-add-i Inv-loop μ-loop
-add-i c = search needs
+-- src/memory.rt:59:9
+sub-groups : tie.Need-sub-groups Inv-loop μ-loop
+sub-groups c = search needs
 
--- src/memory.rt:19:5
+-- src/memory.rt:53:5
 loop-less : tie.Need-loop-less Inv-loop μ-loop
 loop-less c = search needs
 
--- src/memory.rt:19:5
+-- src/memory.rt:53:5
 loop-again : tie.Need-loop-again Inv-loop μ-loop
-loop-again c = (search needs, least-more _ _ (c .before .before .before .loop .inv .1) (ne-eqb _ _ (c .if1 .left)))
+loop-again c =
+    let l = c .before .before .before .before .loop in
+    let a = c .before .before .before .before .before .before .args in
+    let xs = now (a .addresses) in
+    let n = l .i + 16 - l .i in
+    let p : n ≡ 16 = omega arith in
+    let group = take n (drop (l .i) xs) in
+    let t = c .before .before .before .loop-test .taken in
+    let size : length group ≡ n = length-take-le n (drop (l .i) xs) (omega (arith, l .inv .0, t, length-drop (l .i) xs)) in
+    let e : l .i + length group ≡ l .i + 16 = ap (λ (k : ℕ). l .i + k) (size ∙ p) in (
+      omega (arith, l .inv .0, t),
+      ap (λ (k : ℕ). cellAt (λ j. getD xs j 0) k (a .a)) (sym e)
+          ∙ least-group (λ j. eqb (getD xs j 0) (a .a)) (λ j. eqb (getD group j 0) (a .a)) (l .i) (length group) (l .inv .1) (sym (c .before .among .ensures) ∙ c .if1 .left)
+          (λ k s. ap (λ (v : ℕ). eqb v (a .a)) (sym (getD-take n (drop (l .i) xs) k 0 (omega (arith, s, size)) ∙ getD-drop (l .i) xs k 0)))
+          ∙ e,
+    )
 
--- src/memory.rt:15:1
+-- src/memory.rt:61:5
+cell-from-requires-2 : tie.Need-cell-from-requires-2 Inv-loop μ-loop
+cell-from-requires-2 c κs = let l = c .before .loop in (omega (arith, l .inv .0), l .inv .1)
+
+-- src/memory.rt:48:1
 returns-2 : tie.Need-returns-2 Inv-loop μ-loop
-returns-2 c =
-    let e : c .before .loop .i ≡ length (now (c .before .before .args .addresses)) = omega arith in
-    rw (← e) (sym (c .before .loop .inv .1))
+returns-2 c = c .cell-from2 .ensures
 
 pub cell-at-spec : {M : Type 1} → statement M
 cell-at-spec =
@@ -61,10 +101,16 @@ cell-at-spec =
     Inv-loop
     μ-loop
     loop-holds
-    mul-if1
-    shared-slice-read-if1
+    add-end
+    mul-among
+    sub-among
+    part-among-start
+    part-among-end
+    among-requires
+    cell-from-requires
     returns
-    add-i
+    sub-groups
     loop-less
     loop-again
+    cell-from-requires-2
     returns-2)

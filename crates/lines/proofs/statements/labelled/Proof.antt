@@ -1,0 +1,98 @@
+-- `lines::statements::labelled` meets its contract. Assumes nothing.
+use Prim.Native.Nat.{ℕ}
+use mathlib.Core.Path.{_≡_, ap, ap₂, sym, _∙_}
+use denote.Ref.{now}
+use borrow.Author.Needs.{needs}
+use borrow.Author.Tests.{eq-eqb, ne-eqb}
+use lib.Dec.{eqb}
+use lib.ListN.{drop}
+use Rattle.base.proofs.Choice.{chosen, passed}
+use Rattle.lines.specs.Bytes.{skip, pastName, first}
+use Rattle.lines.specs.Lines.{padded, isLabel, worded, labelled}
+use Rattle.lines.proofs.Runs.{label-short}
+use Rattle.lines.proofs.statements.labelled.Statement.{statement}
+use Rattle.lines.proofs.statements.labelled.Tie as tie
+
+-- what follows the name, and the byte there
+rest : (c : tie.After-skip) → now (c .skip .result) ≡ skip (pastName (now (c .before .before .before .before .args .s)))
+rest c = c .skip .ensures ∙ ap skip (c .before .past-name .ensures)
+
+next : (c : tie.After-byte-at) → c .byte-at .result ≡ first (skip (pastName (now (c .before .before .before .before .before .args .s))))
+next c = c .byte-at .ensures ∙ ap first (rest (c .before))
+
+name-requires : tie.Need-name-requires
+name-requires c κs = search needs
+
+past-name-requires : tie.Need-past-name-requires
+past-name-requires c κs = search needs
+
+skip-requires : tie.Need-skip-requires
+skip-requires c κs = search needs
+
+byte-at-requires : tie.Need-byte-at-requires
+byte-at-requires c κs = search needs
+
+is-label-requires : tie.Need-is-label-requires
+is-label-requires c κs = search needs
+
+padded-requires : tie.Need-padded-requires
+padded-requires c κs = label-short _ (sym (c .before .is-label .ensures) ∙ c .if2 .taken)
+
+past-requires : tie.Need-past-requires
+past-requires c κs = search needs
+
+skip-requires-2 : tie.Need-skip-requires-2
+skip-requires-2 c κs = search needs
+
+worded-requires : tie.Need-worded-requires
+worded-requires c κs = search needs
+
+returns : tie.Need-returns
+unfolding labelled
+returns c =
+    let named = c .before .before .before .before .before .before .before .before .before .before .name .ensures in
+    c .worded .ensures
+    ∙ ap₂ worded (c .before .before .before .padded .ensures ∙ ap padded named)
+    (c .before .skip2 .ensures ∙ ap skip (c .before .before .past .ensures ∙ ap (drop 1) (rest (c .before .before .before .before .before .before .before .before))))
+    ∙ sym
+    (chosen _ _ (sym (ap (λ (b : ℕ). eqb b 58) (next (c .before .before .before .before .before .before .before))) ∙ eq-eqb _ _ (c .before .before .before .before .before .before .if1 .taken))
+    ∙ chosen _ _ (sym (c .before .before .before .before .before .is-label .ensures ∙ ap isLabel named) ∙ c .before .before .before .before .if2 .taken))
+
+none-requires : tie.Need-none-requires
+none-requires c κs = search needs
+
+returns-2 : tie.Need-returns-2
+unfolding labelled
+returns-2 c =
+    let named = c .before .before .before .before .before .before .before .name .ensures in
+    c .none .ensures
+    ∙ sym
+    (chosen _ _ (sym (ap (λ (b : ℕ). eqb b 58) (next (c .before .before .before .before))) ∙ eq-eqb _ _ (c .before .before .before .if1 .taken))
+    ∙ passed _ _ (sym (c .before .before .is-label .ensures ∙ ap isLabel named) ∙ c .before .if2 .left))
+
+worded-requires-2 : tie.Need-worded-requires-2
+worded-requires-2 c κs = search needs
+
+returns-3 : tie.Need-returns-3
+unfolding labelled
+returns-3 c =
+    c .worded2 .ensures ∙ sym (passed _ _ (sym (ap (λ (b : ℕ). eqb b 58) (next (c .before .before))) ∙ ne-eqb _ _ (c .before .if1 .left)))
+
+pub labelled-spec : {M : Type 1} → statement M
+labelled-spec =
+    tie.close
+    (tie.spec
+    name-requires
+    past-name-requires
+    skip-requires
+    byte-at-requires
+    is-label-requires
+    padded-requires
+    past-requires
+    skip-requires-2
+    worded-requires
+    returns
+    none-requires
+    returns-2
+    worded-requires-2
+    returns-3)

@@ -1,0 +1,68 @@
+-- `lines::statements::targeted` meets its contract. Assumes nothing.
+use Prim.Native.Nat.{ℕ}
+use mathlib.Core.Bool.{Bool, _&&_}
+use mathlib.Core.List.{List}
+use mathlib.Core.Path.{_≡_, ap, ap₂, sym, _∙_}
+use denote.Ref.{now}
+use borrow.Author.Needs.{needs}
+use Rattle.base.proofs.Choice.{chosen, passed, and-left}
+use Rattle.lines.specs.Bytes.{onlyBlanks, name, pastName}
+use Rattle.lines.specs.Lines.{padded, isLabel, targeted}
+use Rattle.lines.specs.declared.Form.the-variants.{Good}
+use Rattle.lines.specs.declared.Stated.{Stated}
+use Rattle.lines.proofs.Runs.{label-short}
+use Rattle.lines.proofs.statements.targeted.Statement.{statement}
+use Rattle.lines.proofs.statements.targeted.Tie as tie
+
+-- what the code tests is the definition's test
+whole : (c : tie.After-only-blanks) →
+    let s = now (c .before .before .before .before .before .args .s) in
+    (c .before .before .is-label .result && c .only-blanks .result) ≡ (isLabel (name s) && onlyBlanks (pastName s))
+whole c =
+    ap₂ (λ (t u : Bool). t && u) (c .before .before .is-label .ensures ∙ ap isLabel (c .before .before .before .name .ensures))
+    (c .only-blanks .ensures ∙ ap onlyBlanks (c .before .past-name .ensures))
+
+name-requires : tie.Need-name-requires
+name-requires c κs = search needs
+
+is-label-requires : tie.Need-is-label-requires
+is-label-requires c κs = search needs
+
+past-name-requires : tie.Need-past-name-requires
+past-name-requires c κs = search needs
+
+only-blanks-requires : tie.Need-only-blanks-requires
+only-blanks-requires c κs = search needs
+
+padded-requires : tie.Need-padded-requires
+padded-requires c κs =
+    let is-label = c .before .before .before .is-label in
+    label-short _ (sym (is-label .ensures) ∙ and-left (is-label .result) (c .before .only-blanks .result) (c .if1 .taken))
+
+returns : tie.Need-returns
+unfolding targeted
+returns c =
+    let a = c .before .before .before .before .before .before .before .args in
+    let to : List ℕ → Stated = λ (t : List ℕ). record { form = Good; label = a .label; number = a .number; mode = 0; argument = 0; target = t } in
+    ap to (c .padded .ensures ∙ ap padded (c .before .before .before .before .before .name .ensures))
+    ∙ sym (chosen _ _ (sym (whole (c .before .before)) ∙ c .before .if1 .taken))
+
+none-requires : tie.Need-none-requires
+none-requires c κs = search needs
+
+returns-2 : tie.Need-returns-2
+unfolding targeted
+returns-2 c = c .none .ensures ∙ sym (passed _ _ (sym (whole (c .before .before)) ∙ c .before .if1 .left))
+
+pub targeted-spec : {M : Type 1} → statement M
+targeted-spec =
+    tie.close
+    (tie.spec
+    name-requires
+    is-label-requires
+    past-name-requires
+    only-blanks-requires
+    padded-requires
+    returns
+    none-requires
+    returns-2)

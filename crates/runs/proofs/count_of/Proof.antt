@@ -1,0 +1,18 @@
+use Rattle.base.proofs.Choice.{chosen}
+use mathlib.Core.Path.{sym}
+use borrow.Author.Needs.{needs}
+use Rattle.runs.proofs.count_of.Statement.{statement}
+use Rattle.runs.proofs.count_of.Tie as tie
+use Rattle.runs.proofs.count_of.Reads as reads
+use Rattle.runs.proofs.count_of.Lts as lts
+
+-- src/lib.rt:148:9
+returns : tie.Need-returns
+returns c = sym (chosen _ _ (c .if1 .taken))
+
+-- src/lib.rt:144:1
+returns-2 : tie.Need-returns-2
+returns-2 c = search needs
+
+pub count-of-spec : {M : Type 1} → statement M
+count-of-spec = tie.close (tie.spec returns returns-2)

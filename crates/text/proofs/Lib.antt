@@ -1,0 +1,22 @@
+-- Laws of reading a text, of its records and of the code that reads it, and samples.
+pub mod Accepted
+pub mod Below
+mod Blocks
+mod Carried
+mod Final
+mod Fitting
+mod Following
+pub mod Inserted
+pub mod Joined
+mod Kept
+mod Labels
+mod Loop
+pub mod Maps
+mod Parts
+mod Pieces
+mod Samples
+pub mod Sets
+pub mod Statements
+mod Taken
+mod Turns
+mod Whole

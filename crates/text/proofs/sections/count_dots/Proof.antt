@@ -1,0 +1,105 @@
+use Rattle.text.proofs.Pieces.{test-counts, dots-next}
+use mir.Val.{boolByte}
+use Rattle.text.specs.Sections.{dots}
+use Rattle.text.specs.Drafts.{linesFrom}
+use Rattle.text.proofs.Pieces.{lines-next, lines-start, lines-end}
+use Rattle.lines.specs.Lines.{lines, isDot}
+use Rattle.base.proofs.Choice.{cast-test}
+use lib.ListN.{length, take, drop}
+use denote.Ref.{now}
+use borrow.Author.Needs.{needs}
+use native.Mathlib.Nat.{add-zero, add-assoc}
+use native.Mathlib.Omega.{arith}
+use mathlib.Core.Bool.{Bool, cond}
+use mathlib.Core.List.{List, [], _∷_}
+use mathlib.Core.Path.{_≡_, refl, sym, ap, ap₂, _∙_}
+use Prim.Native.Nat.{ℕ, _+_, _-_, _≤_}
+use Rattle.text.proofs.sections.count_dots.Statement.{statement}
+use Rattle.text.proofs.sections.count_dots.Tie as tie
+use Rattle.text.proofs.sections.count_dots.Reads as reads
+use Rattle.text.proofs.sections.count_dots.Lts as lts
+use Rattle.lines.proofs.is_dot.Reads as is-dot-reads
+use Rattle.text.proofs.sections.line_end.Reads as line-end-reads
+
+abbrev Inv-loop : tie.InvT-loop
+Inv-loop text found₀ i₀ found i = (found ≤ i) × (i ≤ length text + 1) × (dots (lines text) ≡ found + dots (linesFrom text i))
+
+abbrev μ-loop : tie.MeasureT-loop
+μ-loop text found₀ i₀ found i = length text + 1 - i
+
+-- src/sections.rt:137:5
+loop-holds : tie.Need-loop-holds Inv-loop μ-loop
+loop-holds c = let e = ap dots (sym (lines-start (c .before .args .text .now))) in (search needs, search needs, omega (arith, e))
+
+-- src/sections.rt:138:13
+line-end-requires : tie.Need-line-end-requires Inv-loop μ-loop
+line-end-requires c κs = search needs
+
+-- src/sections.rt:139:32
+sub-is-dot : tie.Need-sub-is-dot Inv-loop μ-loop
+sub-is-dot c = search needs
+
+-- src/sections.rt:139:32
+part-is-dot-start : tie.Need-part-is-dot-start Inv-loop μ-loop
+part-is-dot-start c = search needs
+
+-- src/sections.rt:139:32
+part-is-dot-end : tie.Need-part-is-dot-end Inv-loop μ-loop
+part-is-dot-end c = search needs
+
+-- src/sections.rt:139:18
+is-dot-requires : tie.Need-is-dot-requires Inv-loop μ-loop
+is-dot-requires c κs = search needs
+
+-- src/sections.rt:139:18
+cast-found : tie.Need-cast-found Inv-loop μ-loop
+cast-found c = search needs
+
+-- src/sections.rt:139:9
+add-found : tie.Need-add-found Inv-loop μ-loop
+add-found c = let l = c .before .before .before .before .loop in omega (arith, test-counts (c .is-dot .result), l .inv .0, c .before .before .before .loop-test .taken, c .before .before .before .before .before .before .pre)
+
+-- src/sections.rt:140:13
+add-i : tie.Need-add-i Inv-loop μ-loop
+add-i c = search needs
+
+-- src/sections.rt:137:5
+loop-less : tie.Need-loop-less Inv-loop μ-loop
+loop-less c = search needs
+
+-- src/sections.rt:137:5
+loop-again : tie.Need-loop-again Inv-loop μ-loop
+unfolding dots
+loop-again c = let l = c .before .before .before .before .loop in
+  let s = c .before .before .before .before .before .before .args .text .now in
+  let e = c .before .before .line-end .ensures in
+  let next = lines-next s (l .i) _ (c .before .before .before .loop-test .taken) (e .0) in
+  let dot = cast-test (c .is-dot .result) ∙ ap (λ (b : Bool). cond b 1 0) (c .is-dot .ensures) in
+  let all = l .inv .2 ∙ ap (λ (ls : List (List ℕ)). l .found + dots ls) next in
+  (omega (arith, test-counts (c .is-dot .result), l .inv .0, e .1), omega (arith, e .2), omega (arith, all, dot))
+
+-- src/sections.rt:131:1
+returns : tie.Need-returns Inv-loop μ-loop
+unfolding dots
+returns c = let s = now (c .before .before .before .args .text) in
+  let e = ap dots (lines-end s (c .before .loop .i) (c .loop-test .left)) in
+  (omega (arith, e, c .before .loop .inv .2), omega (arith, c .before .loop .inv .0, c .before .loop .inv .1, c .before .before .before .pre))
+
+pub count-dots-spec : {M : Type 1} → statement M
+count-dots-spec =
+    tie.close
+    (tie.spec
+    Inv-loop
+    μ-loop
+    loop-holds
+    line-end-requires
+    sub-is-dot
+    part-is-dot-start
+    part-is-dot-end
+    is-dot-requires
+    cast-found
+    add-found
+    add-i
+    loop-less
+    loop-again
+    returns)

@@ -1,0 +1,51 @@
+-- What reading keeps of a text before its records are written: statements and cells read so far. Assumes nothing.
+use Prim.Native.Nat.{ℕ, _+_, _*_, _/_, _%_}
+use mathlib.Core.Bool.{Bool, cond, _&&_}
+use mathlib.Core.List.{List, [], _∷_}
+use lib.Dec.{ltb, leb}
+use lib.ListN.{length, getD, take, drop}
+use Rattle.base.specs.Bytes.{wordAt}
+use Rattle.lines.specs.Lines.{lines}
+use Rattle.lines.specs.declared.Form.the-variants.{Good}
+use Rattle.lines.specs.declared.Stated.{Stated}
+use Rattle.lines.specs.declared.Cell.{Cell}
+use Rattle.text.specs.Sections.{Threads, halt}
+
+-- the statement in block k, 36 bytes: instruction number, mode, argument (2), label (16), target (16)
+abbrev pub blockAt : List ℕ → ℕ → Stated
+blockAt draft k = record {
+  form = Good;
+  label = take 16 (drop (36 * k + 4) draft);
+  number = getD draft (36 * k) 0;
+  mode = getD draft (36 * k + 1) 0;
+  argument = wordAt draft (36 * k + 2);
+  target = take 16 (drop (36 * k + 20) draft);
+}
+
+-- the statements of thread t, which has n; its blocks start at 32 * t
+unfoldable pub drafted : List ℕ → ℕ → ℕ → ℕ → Stated
+drafted draft t n p = cond (ltb p n) (blockAt draft (32 * t + p)) halt
+
+-- the threads read so far
+abbrev pub threadsIn : List ℕ → ℕ → List ℕ → Threads
+threadsIn draft ended counts = record {
+  ended = ended;
+  count = λ t. getD counts t 0;
+  statement = λ t p. drafted draft t (getD counts t 0) p;
+}
+
+-- no thread has more than 32 statements
+abbrev pub fourFit : List ℕ → Bool
+fourFit counts = leb (getD counts 0 0) 32 && leb (getD counts 1 0) 32 && leb (getD counts 2 0) 32 && leb (getD counts 3 0) 32
+
+-- a cell as one number, the address above the value
+abbrev pub cellOfKey : ℕ → Cell
+cellOfKey key = record { form = Good; address = key / 65536; value = key % 65536 }
+
+unfoldable pub cellsOf : List ℕ → List Cell
+cellsOf [] = []
+cellsOf (key ∷ keys) = cellOfKey key ∷ cellsOf keys
+
+-- the lines that start at index i or after it; none past the end
+unfoldable pub linesFrom : List ℕ → ℕ → List (List ℕ)
+linesFrom text i = cond (leb i (length text)) (lines (drop i text)) []
