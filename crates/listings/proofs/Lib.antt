@@ -1,0 +1,8 @@
+-- Laws of runs and of what is printed, how long a listing is, and listings computed by the definition.
+pub mod Listed
+pub mod Lowest
+pub mod Runs
+mod Samples
+pub mod Sizes
+pub mod StepLines
+pub mod Texts
