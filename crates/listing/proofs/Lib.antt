@@ -1,0 +1,2 @@
+-- Laws of the records that reading wrote.
+mod Records
