@@ -35,9 +35,9 @@ same-block c d j e =
 
 -- a statement's parts written into block k: numbers, label, target
 module _ (x : Stated) (k : ℕ) (d d₁ d₂ d₃ : List ℕ)
-  (e₁ : d₁ ≡ placed d (36 * k) (x .number ∷ x .mode ∷ x .argument % 256 ∷ x .argument / 256 ∷ []))
-  (e₂ : d₂ ≡ placed d₁ (36 * k + 4) (x .label))
-  (e₃ : d₃ ≡ placed d₂ (36 * k + 20) (x .target)) where
+    (e₁ : d₁ ≡ placed d (36 * k) (x .number ∷ x .mode ∷ x .argument % 256 ∷ x .argument / 256 ∷ []))
+    (e₂ : d₂ ≡ placed d₁ (36 * k + 4) (x .label))
+    (e₃ : d₃ ≡ placed d₂ (36 * k + 20) (x .target)) where
   length₁ : length d₁ ≡ length d
   length₁ = ap length e₁ ∙ length-placed d (36 * k) (x .number ∷ x .mode ∷ x .argument % 256 ∷ x .argument / 256 ∷ [])
 
@@ -105,13 +105,13 @@ module _ (x : Stated) (k : ℕ) (d d₁ d₂ d₃ : List ℕ)
     pub put-block : x .form ≡ Good → (j : ℕ) → blockAt d₃ j ≡ cond (eqb j k) x (blockAt d j)
     put-block good j = elim (ℕ-discrete j k) [
       | yes e ↦ rw e (λ i. record {
-          form = sym good i;
-          label = label-is i;
-          number = (ap (λ (a : ℕ). getD d₃ a 0) (sym (add-zero (36 * k))) ∙ number-is 0 (omega arith)) i;
-          mode = number-is 1 (omega arith) i;
-          argument = word-is i;
-          target = target-is i;
-        }) ∙ sym (chosen _ _ (eq-eqb j k e))
+        form = sym good i;
+        label = label-is i;
+        number = (ap (λ (a : ℕ). getD d₃ a 0) (sym (add-zero (36 * k))) ∙ number-is 0 (omega arith)) i;
+        mode = number-is 1 (omega arith) i;
+        argument = word-is i;
+        target = target-is i;
+      }) ∙ sym (chosen _ _ (eq-eqb j k e))
       | no f ↦ elim (decLt j k) [
         | yes l ↦ same-block d₃ d j (λ a n p q. before a n (omega arith)) ∙ sym (passed _ _ (ne-eqb j k f))
         | no l ↦ same-block d₃ d j (λ a n p q. after a n (omega arith)) ∙ sym (passed _ _ (ne-eqb j k f))

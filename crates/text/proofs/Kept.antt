@@ -18,9 +18,9 @@ use Rattle.text.proofs.Labels.{drafted-at}
 
 -- a statement put into the block after the open section's last
 module _ (d d′ counts : List ℕ) (ended n : ℕ) (x : Stated)
-  (four : ended < length counts) (n-is : n ≡ getD counts ended 0) (room : n < 32)
-  (bounded : (t : ℕ) → getD counts t 0 ≤ 32)
-  (put : (j : ℕ) → blockAt d′ j ≡ cond (eqb j (32 * ended + n)) x (blockAt d j)) where
+    (four : ended < length counts) (n-is : n ≡ getD counts ended 0) (room : n < 32)
+    (bounded : (t : ℕ) → getD counts t 0 ≤ 32)
+    (put : (j : ℕ) → blockAt d′ j ≡ cond (eqb j (32 * ended + n)) x (blockAt d j)) where
   count-is : (t : ℕ) → getD (set counts ended (n + 1)) t 0 ≡ cond (eqb t ended) (getD counts t 0 + 1) (getD counts t 0)
   count-is t = elim (ℕ-discrete t ended) [
     | yes e ↦ rw e (getD-set-same counts ended (n + 1) 0 four) ∙ ap (λ (k : ℕ). k + 1) (n-is ∙ ap (λ (i : ℕ). getD counts i 0) (sym e)) ∙ sym (chosen _ _ (eq-eqb t ended e))
@@ -61,7 +61,7 @@ module _ (d d′ counts : List ℕ) (ended n : ℕ) (x : Stated)
         ∙ open-is p
         ∙ ap (λ (m : ℕ). cond (eqb p m) x (drafted d ended m p)) n-is
         ∙ sym (ap (λ (i : ℕ). cond (eqb i ended && eqb p (getD counts i 0)) x (drafted d i (getD counts i 0) p)) e
-          ∙ ap (λ (b : Bool). cond (b && eqb p (getD counts ended 0)) x (drafted d ended (getD counts ended 0) p)) (eq-eqb ended ended refl))
+        ∙ ap (λ (b : Bool). cond (b && eqb p (getD counts ended 0)) x (drafted d ended (getD counts ended 0) p)) (eq-eqb ended ended refl))
     | no f ↦
         ap (λ (m : ℕ). drafted d′ t m p) (getD-set-other counts ended t (n + 1) 0 f)
         ∙ other-is t p f

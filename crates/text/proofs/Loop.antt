@@ -80,9 +80,10 @@ module _ (l : List ℕ) (ls : List (List ℕ)) where
 unfit : (dot : Bool) (n : ℕ) → misfits dot n ≡ true → (dot ≡ false → 32 < n) × ((ltb 0 n && leb n 32) ≡ false)
 unfit dot n e = elim (decLt 32 n) [
   | yes h ↦ ((λ d. h), and-right-false (ltb 0 n) (lt-leb n 32 h))
-  | no h ↦ (let f : (dot && eqb n 0) ≡ true = sym (ap (λ (b : Bool). b || dot && eqb n 0) (le-ltb 32 n (omega arith))) ∙ e in
-      ((λ d. clash (and-left dot (eqb n 0) f) d),
-      and-false _ (le-ltb 0 n (let z = eqb-true n 0 (and-right dot (eqb n 0) f) in omega arith))))
+  | no h ↦ (let f : (dot && eqb n 0) ≡ true = sym (ap (λ (b : Bool). b || dot && eqb n 0) (le-ltb 32 n (omega arith))) ∙ e in (
+    (λ d. clash (and-left dot (eqb n 0) f) d),
+    and-false _ (le-ltb 0 n (let z = eqb-true n 0 (and-right dot (eqb n 0) f) in omega arith)),
+  ))
 ]
 
 -- threads that cease to fit in line l
@@ -110,7 +111,7 @@ ceases l ls T some bad up = go (isDot l) refl
         (and-right-false (ltb 0 (threadsFrom (turned l ls T) ls .count (T .ended))) (lt-leb (threadsFrom (turned l ls T) ls .count (T .ended)) 32 (omega (arith, big, more))))
 
 module _ (text : List ℕ) (r : Reading) (draft keys : List ℕ) (l : List ℕ) (ls : List (List ℕ)) (at : At text r draft keys (l ∷ ls))
-  (r′ : Reading) (draft′ keys′ : List ℕ) (took : Takes l (dots (l ∷ ls)) r draft keys r′ draft′ keys′) where
+    (r′ : Reading) (draft′ keys′ : List ℕ) (took : Takes l (dots (l ∷ ls)) r draft keys r′ draft′ keys′) where
   refusal-here : r′ .refusal ≡ refusalIn l ls
   refusal-here = took .refusal ∙ refusal-is l ls
 
@@ -161,14 +162,14 @@ module _ (text : List ℕ) (r : Reading) (draft keys : List ℕ) (l : List ℕ) 
         go false e = at .lost e
         go true e = λ t.
             let some : isDot l ≡ false → 0 < dots ls = λ plain. elim (ℕ-discrete (dots ls) 0) [
-                | yes z ↦ clash (took .same plain (eq-eqb (dots (l ∷ ls)) 0 (left-is l ls plain ∙ z)) ∙ e) f
-                | no n ↦ omega arith
-              ] in
+              | yes z ↦ clash (took .same plain (eq-eqb (dots (l ∷ ls)) 0 (left-is l ls plain ∙ z)) ∙ e) f
+              | no n ↦ omega arith
+            ] in
             let four : r .ended < 4 = below-four some e in
             ap statementsFit (at .kept e ∙ one-more (threadsKept r draft))
             ∙ ceases l ls (threadsKept r draft) some
-              (ap (λ (U : Threads). misfits (isDot l) (U .count (r .ended))) (sym (threads-is l ls (threadsKept r draft))) ∙ took .lost (at .sound) e four f)
-              (grows-turned l ls (threadsKept r draft) .more)
+            (ap (λ (U : Threads). misfits (isDot l) (U .count (r .ended))) (sym (threads-is l ls (threadsKept r draft))) ∙ took .lost (at .sound) e four f)
+            (grows-turned l ls (threadsKept r draft) .more)
 
     next-some : r′ .fits ≡ true → (t : ℕ) → t < r′ .ended → 0 < getD (r′ .counts) t 0
     next-some f t h =
@@ -232,7 +233,7 @@ module _ (text : List ℕ) (r : Reading) (draft keys : List ℕ) (l : List ℕ) 
           let ds = cellsKept r keys in
           let here : length ds ≡ 128 = cells-length (take (r .cells) keys) ∙ length-take-le (r .cells) keys (omega (arith, at .room)) ∙ full .0 in
           let e = at .few few ∙ cells-turned ds
-            ∙ ap (λ (es : List Cell). cellsFrom es ls) (chosen _ _ (and-right (not (isDot l)) (eqb (dots (l ∷ ls)) 0) two) ∙ chosen _ _ (and-right (not (isDot l) && eqb (dots (l ∷ ls)) 0) (isGood (mapLine l .form)) (full .1))) in
+          ∙ ap (λ (es : List Cell). cellsFrom es ls) (chosen _ _ (and-right (not (isDot l)) (eqb (dots (l ∷ ls)) 0) two) ∙ chosen _ _ (and-right (not (isDot l) && eqb (dots (l ∷ ls)) 0) (isGood (mapLine l .form)) (full .1))) in
           let n : length (cells (lines text)) ≡ length (cellsFrom (inserted (mapLine l) ds) ls) = ap length e in
           omega (arith, n, length-from (inserted (mapLine l) ds) ls, length-inserted (mapLine l) ds, here)
     ]
@@ -302,7 +303,7 @@ ends text r draft keys at good = record {
   sound = at .sound;
   kept = λ e f. at .kept f;
   fit = λ e f. ap statementsFit (at .kept f) ∙ every-all (λ t. ltb 0 (getD (r .counts) t 0) && leb (getD (r .counts) t 0) 32) (r .ended)
-    (λ t h. and-true (lt-ltb 0 (getD (r .counts) t 0) (at .some f t h)) (le-leb (getD (r .counts) t 0) 32 (at .sound .0 t)));
+      (λ t h. and-true (lt-ltb 0 (getD (r .counts) t 0) (at .some f t h)) (le-leb (getD (r .counts) t 0) 32 (at .sound .0 t)));
   lost = λ e. at .lost;
   few = λ e h. (at .few h, ap length (at .few h) ∙ cells-length (take (r .cells) keys) ∙ length-take-le (r .cells) keys (omega (arith, h, at .room)));
   many = λ e. at .many;
@@ -330,6 +331,7 @@ pub turn : (text : List ℕ) (r : Reading) (draft keys : List ℕ) (i e left : �
     × Takes (take (e - i) (drop i text)) (dots (take (e - i) (drop i text) ∷ linesFrom text (e + 1))) r draft keys r′ draft′ keys′
 turn text r draft keys i e left h end at count r′ draft′ keys′ took =
     let next = lines-next text i e h end in
-    let k : left ≡ dots (take (e - i) (drop i text) ∷ linesFrom text (e + 1)) = (let m = ap dots next in omega (arith, count, at .ended, m)) in
-    ( subst (At text r draft keys) next at
-    , subst (λ (n : ℕ). Takes (take (e - i) (drop i text)) n r draft keys r′ draft′ keys′) k took)
+    let k : left ≡ dots (take (e - i) (drop i text) ∷ linesFrom text (e + 1)) = (let m = ap dots next in omega (arith, count, at .ended, m)) in (
+      subst (At text r draft keys) next at,
+      subst (λ (n : ℕ). Takes (take (e - i) (drop i text)) n r draft keys r′ draft′ keys′) k took,
+    )

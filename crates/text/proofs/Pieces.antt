@@ -42,7 +42,7 @@ lines-first (b ∷ s) = go (isInLine b) refl (lines-first s)
     go : (t : Bool) → isInLine b ≡ t → lines s ≡ take (run isInLine s) s ∷ cond (leb (run isInLine s + 1) (length s)) (lines (drop (run isInLine s + 1) s)) [] →
         cond (isInLine b) (extended b (lines s)) ([] ∷ lines s)
         ≡ take (cond (isInLine b) (suc (run isInLine s)) 0) (b ∷ s)
-          ∷ cond (leb (cond (isInLine b) (suc (run isInLine s)) 0 + 1) (suc (length s))) (lines (drop (cond (isInLine b) (suc (run isInLine s)) 0 + 1) (b ∷ s))) []
+        ∷ cond (leb (cond (isInLine b) (suc (run isInLine s)) 0 + 1) (suc (length s))) (lines (drop (cond (isInLine b) (suc (run isInLine s)) 0 + 1) (b ∷ s))) []
     go true e ih =
         let n = run isInLine s in
         chosen _ _ e ∙ ap (extended b) ih
@@ -52,7 +52,7 @@ lines-first (b ∷ s) = go (isInLine b) refl (lines-first s)
     go false e ih =
         passed _ _ e
         ∙ sym (ap (λ (k : ℕ). take k (b ∷ s) ∷ cond (leb (k + 1) (suc (length s))) (lines (drop (k + 1) (b ∷ s))) []) (passed (suc (run isInLine s)) 0 e)
-          ∙ ap (λ (ls : List (List ℕ)). [] ∷ ls) (chosen _ _ (le-leb (0 + 1) (suc (length s)) (omega arith))))
+        ∙ ap (λ (ls : List (List ℕ)). [] ∷ ls) (chosen _ _ (le-leb (0 + 1) (suc (length s)) (omega arith))))
 
 from-rest : (s : List ℕ) (i k : ℕ) → i ≤ length s → linesFrom (drop i s) k ≡ linesFrom s (i + k)
 unfolding linesFrom

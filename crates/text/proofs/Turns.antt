@@ -76,8 +76,8 @@ module _ (l : List ℕ) (left : ℕ) (r : Reading) (draft keys : List ℕ) where
     same = λ plain none. clash dot plain;
     some = λ fits e. ltb-true 0 (openCount r) (and-right (r .fits && ltb (r .ended) 4) (ltb 0 (openCount r)) (and-left _ _ (sym (c .fits) ∙ fits)));
     lost = λ sound fit four unfit.
-      let e = sym (ap₂ (λ (a b : Bool). a && b && ltb 0 (openCount r) && (isLast (blockAt draft (32 * r .ended + (openCount r - 1)) .number) || ltb (openCount r) 32)) fit (lt-ltb (r .ended) 4 four)) ∙ sym (c .fits) ∙ unfit in
-      ap₂ (λ (b : Bool) (T : Threads). misfits b (T .count (r .ended))) dot (chosen _ _ dot) ∙ closed-misfits r draft e;
+        let e = sym (ap₂ (λ (a b : Bool). a && b && ltb 0 (openCount r) && (isLast (blockAt draft (32 * r .ended + (openCount r - 1)) .number) || ltb (openCount r) 32)) fit (lt-ltb (r .ended) 4 four)) ∙ sym (c .fits) ∙ unfit in
+        ap₂ (λ (b : Bool) (T : Threads). misfits b (T .count (r .ended))) dot (chosen _ _ dot) ∙ closed-misfits r draft e;
     room = refl;
     number = λ few full. c .cells ∙ sym (passed _ _ (ap (λ (b : Bool). not b && eqb left 0 && isGood (mapLine l .form)) dot));
     cells = λ full few. ap (λ (n : ℕ). cellsKept (record { fits = true; ended = 0; counts = []; cells = n; refusal = 0; line = 0 }) keys) (c .cells) ∙ sym (chosen _ _ dot);
@@ -114,8 +114,8 @@ module _ (l : List ℕ) (left : ℕ) (r : Reading) (draft keys : List ℕ) where
     same = λ plain none. clash none more;
     some = λ fits dot. clash dot plain;
     lost = λ sound fit four unfit.
-      ap₂ (λ (b : Bool) (T : Threads). misfits b (T .count (r .ended))) plain (passed _ _ plain ∙ passed _ _ more)
-      ∙ full (isGood (statementLine l .form)) refl fit four (sym (s .fits) ∙ unfit);
+        ap₂ (λ (b : Bool) (T : Threads). misfits b (T .count (r .ended))) plain (passed _ _ plain ∙ passed _ _ more)
+        ∙ full (isGood (statementLine l .form)) refl fit four (sym (s .fits) ∙ unfit);
     room = refl;
     number = λ few all. s .cells ∙ sym (passed _ _ (ap₂ (λ (a b : Bool). not a && b && isGood (mapLine l .form)) plain more));
     cells = λ all few. ap (λ (n : ℕ). cellsKept (record { fits = true; ended = 0; counts = []; cells = n; refusal = 0; line = 0 }) keys) (s .cells) ∙ sym (passed _ _ plain ∙ passed _ _ more);

@@ -115,7 +115,10 @@ fn finish(answer: Answer, records: &[u8], cells: &[u8], set: &mut [u8], map: &mu
         × (now (map .exit) ≡ outputBy r (mapPart answer (now (cells .entry))) (now (map .entry))) ⌝ }
 {
     match answer {
-        Answer::Read { statements, cells: count } => {
+        Answer::Read {
+            statements,
+            cells: count,
+        } => {
             let size = 8 * (statements as usize);
             let length = 4 * (count as usize);
             let room = (size <= set.len()) & (length <= map.len());

@@ -129,7 +129,6 @@ fn bytes_of(draft: &[u8], t: u16, n: u16, p: u16) -> [u8; 8]
     ]
 }
 
-
 // Writes thread t's records after the first k of a set.
 fn write(draft: &[u8], t: u16, n: u16, set: &mut [u8], k: u16)
     requires { ⌜ (t < 4) × (8 * k + 8 * n ≤ length (now set)) ⌝ }

@@ -30,8 +30,8 @@ same-length-2 c = search needs
 -- src/lib.rt:41:1
 returns : tie.Need-returns
 returns c = let s = c .before .before .before .before .before .read .ensures in
-  let a = c .before .before .before .before .before .before .before .before .before .before .before .args in
-  (c .pack-read .ensures ∙ ap packedRead (s .0), s .1 ∙ ap (λ (r : Answer). setOutput r (now (a .text)) (now (a .set))) (s .0), s .2 ∙ ap (λ (r : Answer). mapOutput r (now (a .text)) (now (a .map))) (s .0))
+    let a = c .before .before .before .before .before .before .before .before .before .before .before .args in
+    (c .pack-read .ensures ∙ ap packedRead (s .0), s .1 ∙ ap (λ (r : Answer). setOutput r (now (a .text)) (now (a .set))) (s .0), s .2 ∙ ap (λ (r : Answer). mapOutput r (now (a .text)) (now (a .map))) (s .0))
 
 pub deepchalk-read-spec : {M : Type 1} → statement M
 deepchalk-read-spec =

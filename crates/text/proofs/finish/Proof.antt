@@ -69,15 +69,16 @@ same-length-2 c = search needs
 -- src/lib.rt:125:17
 returns : tie.Need-returns
 returns c = let s = c .before .before .before .before .before .before .before .before .before .before .before .before .before .before .before .before .before .before in let a = s .args in let e = c .before .before .before .before .before .before .before .before .before .before .before .before .answer .given in let few = subst Few (e .1) (s .pre .0) in
-  let n = e .0 .0 in let m = e .0 .1 .0 in
-  let test = c .before .before .before .before .before .before .before .before .before .before .if1 .taken in
-  let x = length-take-le (8 * n) (a .records .now) (omega (arith, few .0, s .pre .1)) in
-  let y = length-take-le (4 * m) (a .cells .now) (omega (arith, few .1, s .pre .2)) in
-  let p = leb-true (8 * n) (length (a .set .now)) (and-left (leb (8 * n) (length (a .set .now))) (leb (4 * m) (length (a .map .now))) test) in
-  let q = leb-true (4 * m) (length (a .map .now)) (and-right (leb (8 * n) (length (a .set .now))) (leb (4 * m) (length (a .map .now))) test) in
-  (sym (ap (roomed (length (a .set .now)) (length (a .map .now))) (e .1) ∙ chosen _ _ test),
-  c .before .before .before .before .before .before .before .place .ensures ∙ placed-over (a .set .now) (take (8 * n) (a .records .now)) (omega (arith, x, p)) ∙ ap (λ (r : Answer). over (setPart r (a .records .now)) (a .set .now)) (sym (e .1)),
-  c .before .before .place2 .ensures ∙ placed-over (a .map .now) (take (4 * m) (a .cells .now)) (omega (arith, y, q)) ∙ ap (λ (r : Answer). over (mapPart r (a .cells .now)) (a .map .now)) (sym (e .1)))
+    let n = e .0 .0 in let m = e .0 .1 .0 in
+    let test = c .before .before .before .before .before .before .before .before .before .before .if1 .taken in
+    let x = length-take-le (8 * n) (a .records .now) (omega (arith, few .0, s .pre .1)) in
+    let y = length-take-le (4 * m) (a .cells .now) (omega (arith, few .1, s .pre .2)) in
+    let p = leb-true (8 * n) (length (a .set .now)) (and-left (leb (8 * n) (length (a .set .now))) (leb (4 * m) (length (a .map .now))) test) in
+    let q = leb-true (4 * m) (length (a .map .now)) (and-right (leb (8 * n) (length (a .set .now))) (leb (4 * m) (length (a .map .now))) test) in (
+      sym (ap (roomed (length (a .set .now)) (length (a .map .now))) (e .1) ∙ chosen _ _ test),
+      c .before .before .before .before .before .before .before .place .ensures ∙ placed-over (a .set .now) (take (8 * n) (a .records .now)) (omega (arith, x, p)) ∙ ap (λ (r : Answer). over (setPart r (a .records .now)) (a .set .now)) (sym (e .1)),
+      c .before .before .place2 .ensures ∙ placed-over (a .map .now) (take (4 * m) (a .cells .now)) (omega (arith, y, q)) ∙ ap (λ (r : Answer). over (mapPart r (a .cells .now)) (a .map .now)) (sym (e .1)),
+    )
 
 -- src/lib.rt:130:13
 refused-requires : tie.Need-refused-requires
@@ -89,15 +90,16 @@ enum-known-answer-2 c = search needs
 
 -- src/lib.rt:111:1
 returns-2 : tie.Need-returns-2
-returns-2 c = let s = c .before .before .before .before .before .before .before .before .before in let a = s .args in let e = c .before .before .before .answer .given in
-  (c .refused .ensures ∙ sym (ap (roomed (length (a .set .now)) (length (a .map .now))) (e .1) ∙ passed _ _ (c .before .if1 .left)),
+returns-2 c = let s = c .before .before .before .before .before .before .before .before .before in let a = s .args in let e = c .before .before .before .answer .given in (
+  c .refused .ensures ∙ sym (ap (roomed (length (a .set .now)) (length (a .map .now))) (e .1) ∙ passed _ _ (c .before .if1 .left)),
   sym (ap (λ (r : Answer). outputBy r (setPart (a .answer) (a .records .now)) (a .set .now)) (c .refused .ensures)),
-  sym (ap (λ (r : Answer). outputBy r (mapPart (a .answer) (a .cells .now)) (a .map .now)) (c .refused .ensures)))
+  sym (ap (λ (r : Answer). outputBy r (mapPart (a .answer) (a .cells .now)) (a .map .now)) (c .refused .ensures)),
+)
 
 -- src/lib.rt:111:1
 returns-3 : tie.Need-returns-3
 returns-3 c = let a = c .before .before .before .before .before .before .before .args in let e = c .before .answer2 .given in
-  (sym (ap (roomed (length (a .set .now)) (length (a .map .now))) (e .1)), refl, refl)
+    (sym (ap (roomed (length (a .set .now)) (length (a .map .now))) (e .1)), refl, refl)
 
 pub finish-spec : {M : Type 1} → statement M
 finish-spec =

@@ -35,10 +35,10 @@ refused-requires c κs = search needs
 -- src/lib.rt:93:9
 returns : tie.Need-returns
 returns c = let tr = c .before .before .threads-refusal .ensures in
-  record {
-    answer = λ T cs ts st. c .refused .ensures ∙ ap (λ (n : ℕ). Refused n 0) (tr .0 T ts) ∙ checked-early T cs (λ z. c .before .if1 .taken (tr .0 T ts ∙ z));
-    written = λ T cs ts st. none-written _ _ _ T cs _ _ (c .refused .ensures);
-  }
+    record {
+      answer = λ T cs ts st. c .refused .ensures ∙ ap (λ (n : ℕ). Refused n 0) (tr .0 T ts) ∙ checked-early T cs (λ z. c .before .if1 .taken (tr .0 T ts ∙ z));
+      written = λ T cs ts st. none-written _ _ _ T cs _ _ (c .refused .ensures);
+    }
 
 -- src/lib.rt:96:9
 assemble-requires : tie.Need-assemble-requires
@@ -59,16 +59,16 @@ same-length c = search needs
 -- src/lib.rt:98:9
 returns-2 : tie.Need-returns-2
 returns-2 c = let s = c .before .before .before .before .before .before .before .before .before .before .before .before .before .before .before in
-  let tr = c .before .before .before .before .before .before .before .before .before .before .threads-refusal .ensures in
-  let zero = c .before .before .before .before .before .before .before .before .before .if1 .left in
-  let fit = tr .1 zero in
-  let put = c .before .before .before .before .before .before .assemble .ensures in
-  let one : (T : Threads) → ThreadsStand (s .args .r) (now (s .args .draft)) T → (checkpointsFit (setBytes T) ≡ c .before .before .checkpoints-fit .result) × (take (8 * c .before .before .before .before .before .before .assemble .result) (c .before .before .before .before .before .before .assemble .last .1 .1 .1 .0) ≡ setBytes T) × (c .before .before .before .before .before .before .assemble .result ≡ statements T)
+    let tr = c .before .before .before .before .before .before .before .before .before .before .threads-refusal .ensures in
+    let zero = c .before .before .before .before .before .before .before .before .before .if1 .left in
+    let fit = tr .1 zero in
+    let put = c .before .before .before .before .before .before .assemble .ensures in
+    let one : (T : Threads) → ThreadsStand (s .args .r) (now (s .args .draft)) T → (checkpointsFit (setBytes T) ≡ c .before .before .checkpoints-fit .result) × (take (8 * c .before .before .before .before .before .before .assemble .result) (c .before .before .before .before .before .before .assemble .last .1 .1 .1 .0) ≡ setBytes T) × (c .before .before .before .before .before .before .assemble .result ≡ statements T)
     = λ T ts. assembled (s .args .r) (now (s .args .draft)) T (c .before .before .before .before .before .before .assemble .last .1 .1 .1 .0) (c .before .before .before .before .before .before .assemble .result) (c .before .before .checkpoints-fit .result) ts (fit .0) (put .0 (fit .1) (s .pre .0 .0) (omega (arith, s .pre .2))) (put .1 ∙ s .pre .2) (c .before .before .checkpoints-fit .ensures) in
-  record {
-    answer = λ T cs ts st. c .refused2 .ensures ∙ checked-seven T cs (sym (tr .0 T ts) ∙ zero) (one T ts .0 ∙ not-true _ (c .before .if2 .taken));
-    written = λ T cs ts st. none-written _ _ _ T cs _ _ (c .refused2 .ensures);
-  }
+    record {
+      answer = λ T cs ts st. c .refused2 .ensures ∙ checked-seven T cs (sym (tr .0 T ts) ∙ zero) (one T ts .0 ∙ not-true _ (c .before .if2 .taken));
+      written = λ T cs ts st. none-written _ _ _ T cs _ _ (c .refused2 .ensures);
+    }
 
 -- src/lib.rt:100:9
 map-refusal-requires : tie.Need-map-refusal-requires
@@ -89,17 +89,17 @@ same-length-3 c = search needs
 -- src/lib.rt:102:9
 returns-3 : tie.Need-returns-3
 returns-3 c = let s = c .before .before .before .before .before .before .before .before .before .before .before .before .before .before .before .before .before .before .before .before in
-  let tr = c .before .before .before .before .before .before .before .before .before .before .before .before .before .before .before .threads-refusal .ensures in
-  let zero = c .before .before .before .before .before .before .before .before .before .before .before .before .before .before .if1 .left in
-  let fit = tr .1 zero in
-  let put = c .before .before .before .before .before .before .before .before .before .before .before .assemble .ensures in
-  let one : (T : Threads) → ThreadsStand (s .args .r) (now (s .args .draft)) T → (checkpointsFit (setBytes T) ≡ c .before .before .before .before .before .before .before .checkpoints-fit .result) × (take (8 * c .before .before .before .before .before .before .before .before .before .before .before .assemble .result) (c .before .before .before .before .before .before .before .before .before .before .before .assemble .last .1 .1 .1 .0) ≡ setBytes T) × (c .before .before .before .before .before .before .before .before .before .before .before .assemble .result ≡ statements T)
+    let tr = c .before .before .before .before .before .before .before .before .before .before .before .before .before .before .before .threads-refusal .ensures in
+    let zero = c .before .before .before .before .before .before .before .before .before .before .before .before .before .before .if1 .left in
+    let fit = tr .1 zero in
+    let put = c .before .before .before .before .before .before .before .before .before .before .before .assemble .ensures in
+    let one : (T : Threads) → ThreadsStand (s .args .r) (now (s .args .draft)) T → (checkpointsFit (setBytes T) ≡ c .before .before .before .before .before .before .before .checkpoints-fit .result) × (take (8 * c .before .before .before .before .before .before .before .before .before .before .before .assemble .result) (c .before .before .before .before .before .before .before .before .before .before .before .assemble .last .1 .1 .1 .0) ≡ setBytes T) × (c .before .before .before .before .before .before .before .before .before .before .before .assemble .result ≡ statements T)
     = λ T ts. assembled (s .args .r) (now (s .args .draft)) T (c .before .before .before .before .before .before .before .before .before .before .before .assemble .last .1 .1 .1 .0) (c .before .before .before .before .before .before .before .before .before .before .before .assemble .result) (c .before .before .before .before .before .before .before .checkpoints-fit .result) ts (fit .0) (put .0 (fit .1) (s .pre .0 .0) (omega (arith, s .pre .2))) (put .1 ∙ s .pre .2) (c .before .before .before .before .before .before .before .checkpoints-fit .ensures) in
-  let mr = c .before .before .before .before .map-refusal .ensures in
-  record {
-    answer = λ T cs ts st. let e = mr .0 cs st .0 in c .refused3 .ensures ∙ ap (λ (n : ℕ). Refused n 0) (fits-eight (mapFits cs) _ e (c .before .if3 .taken) .0) ∙ checked-eight T cs (sym (tr .0 T ts) ∙ zero) (one T ts .0 ∙ not-false _ (c .before .before .before .before .before .before .if2 .left)) (fits-eight (mapFits cs) _ e (c .before .if3 .taken) .1);
-    written = λ T cs ts st. none-written _ _ _ T cs _ _ (c .refused3 .ensures);
-  }
+    let mr = c .before .before .before .before .map-refusal .ensures in
+    record {
+      answer = λ T cs ts st. let e = mr .0 cs st .0 in c .refused3 .ensures ∙ ap (λ (n : ℕ). Refused n 0) (fits-eight (mapFits cs) _ e (c .before .if3 .taken) .0) ∙ checked-eight T cs (sym (tr .0 T ts) ∙ zero) (one T ts .0 ∙ not-false _ (c .before .before .before .before .before .before .if2 .left)) (fits-eight (mapFits cs) _ e (c .before .if3 .taken) .1);
+      written = λ T cs ts st. none-written _ _ _ T cs _ _ (c .refused3 .ensures);
+    }
 
 -- src/lib.rt:87:1
 same-length-4 : tie.Need-same-length-4
@@ -112,17 +112,17 @@ same-length-5 c = search needs
 -- src/lib.rt:87:1
 returns-4 : tie.Need-returns-4
 returns-4 c = let s = c .before .before .before .before .before .before .before .before .before .before .before .before .before .before .before .before .before .before .before in
-  let tr = c .before .before .before .before .before .before .before .before .before .before .before .before .before .before .threads-refusal .ensures in
-  let zero = c .before .before .before .before .before .before .before .before .before .before .before .before .before .if1 .left in
-  let fit = tr .1 zero in
-  let put = c .before .before .before .before .before .before .before .before .before .before .assemble .ensures in
-  let one : (T : Threads) → ThreadsStand (s .args .r) (now (s .args .draft)) T → (checkpointsFit (setBytes T) ≡ c .before .before .before .before .before .before .checkpoints-fit .result) × (take (8 * c .before .before .before .before .before .before .before .before .before .before .assemble .result) (c .before .before .before .before .before .before .before .before .before .before .assemble .last .1 .1 .1 .0) ≡ setBytes T) × (c .before .before .before .before .before .before .before .before .before .before .assemble .result ≡ statements T)
+    let tr = c .before .before .before .before .before .before .before .before .before .before .before .before .before .before .threads-refusal .ensures in
+    let zero = c .before .before .before .before .before .before .before .before .before .before .before .before .before .if1 .left in
+    let fit = tr .1 zero in
+    let put = c .before .before .before .before .before .before .before .before .before .before .assemble .ensures in
+    let one : (T : Threads) → ThreadsStand (s .args .r) (now (s .args .draft)) T → (checkpointsFit (setBytes T) ≡ c .before .before .before .before .before .before .checkpoints-fit .result) × (take (8 * c .before .before .before .before .before .before .before .before .before .before .assemble .result) (c .before .before .before .before .before .before .before .before .before .before .assemble .last .1 .1 .1 .0) ≡ setBytes T) × (c .before .before .before .before .before .before .before .before .before .before .assemble .result ≡ statements T)
     = λ T ts. assembled (s .args .r) (now (s .args .draft)) T (c .before .before .before .before .before .before .before .before .before .before .assemble .last .1 .1 .1 .0) (c .before .before .before .before .before .before .before .before .before .before .assemble .result) (c .before .before .before .before .before .before .checkpoints-fit .result) ts (fit .0) (put .0 (fit .1) (s .pre .0 .0) (omega (arith, s .pre .2))) (put .1 ∙ s .pre .2) (c .before .before .before .before .before .before .checkpoints-fit .ensures) in
-  let mr = c .before .before .before .map-refusal .ensures in
-  record {
-    answer = λ T cs ts st. let e = mr .0 cs st in ap₂ Read (one T ts .2) (sym (e .1 (c .if3 .left) .2)) ∙ checked-read T cs (sym (tr .0 T ts) ∙ zero) (one T ts .0 ∙ not-false _ (c .before .before .before .before .before .if2 .left)) (fits-read (mapFits cs) _ (e .0) (c .if3 .left));
-    written = λ T cs ts st. let e = mr .0 cs st .1 (c .if3 .left) in (one T ts .1, e .0, put .0 (fit .1) (s .pre .0 .0) (omega (arith, s .pre .2)) .1, e .1);
-  }
+    let mr = c .before .before .before .map-refusal .ensures in
+    record {
+      answer = λ T cs ts st. let e = mr .0 cs st in ap₂ Read (one T ts .2) (sym (e .1 (c .if3 .left) .2)) ∙ checked-read T cs (sym (tr .0 T ts) ∙ zero) (one T ts .0 ∙ not-false _ (c .before .before .before .before .before .if2 .left)) (fits-read (mapFits cs) _ (e .0) (c .if3 .left));
+      written = λ T cs ts st. let e = mr .0 cs st .1 (c .if3 .left) in (one T ts .1, e .0, put .0 (fit .1) (s .pre .0 .0) (omega (arith, s .pre .2)) .1, e .1);
+    }
 
 pub judge-spec : {M : Type 1} → statement M
 judge-spec =

@@ -42,10 +42,12 @@ same-length c = search needs
 -- src/lib.rt:81:9
 returns-2 : tie.Need-returns-2
 returns-2 c = let s = c .before .before .before .before .before .before .before .before .before .before .before .before in let w = c .before .before .before .before .before .write .ensures in
-  let few : s .args .r .cells ≤ 128 = c .before .before .before .before .before .before .before .if1 .left in
-  let bytes = w .0 (omega (arith, few, s .pre .0)) (omega (arith, s .pre .0, s .pre .1)) in
-  ((λ cs st. let m = bytes ∙ ap mapBytes (sym (st .few few .0)) in
-    (sym (chosen {A = ℕ} 0 8 (st .accepted ∙ ap (mapAccepted 128) (sym m) ∙ sym (c .before .fits2 .ensures (omega (arith, few, w .1, s .pre .1))) ∙ c .if2 .taken)), λ e. (m, few, st .few few .1))), w .1)
+    let few : s .args .r .cells ≤ 128 = c .before .before .before .before .before .before .before .if1 .left in
+    let bytes = w .0 (omega (arith, few, s .pre .0)) (omega (arith, s .pre .0, s .pre .1)) in (
+      (λ cs st. let m = bytes ∙ ap mapBytes (sym (st .few few .0)) in
+          (sym (chosen {A = ℕ} 0 8 (st .accepted ∙ ap (mapAccepted 128) (sym m) ∙ sym (c .before .fits2 .ensures (omega (arith, few, w .1, s .pre .1))) ∙ c .if2 .taken)), λ e. (m, few, st .few few .1))),
+      w .1,
+    )
 
 -- src/lib.rt:70:1
 same-length-2 : tie.Need-same-length-2
@@ -54,10 +56,12 @@ same-length-2 c = search needs
 -- src/lib.rt:70:1
 returns-3 : tie.Need-returns-3
 returns-3 c = let s = c .before .before .before .before .before .before .before .before .before .before .before .before in let w = c .before .before .before .before .before .write .ensures in
-  let few : s .args .r .cells ≤ 128 = c .before .before .before .before .before .before .before .if1 .left in
-  let bytes = w .0 (omega (arith, few, s .pre .0)) (omega (arith, s .pre .0, s .pre .1)) in
-  ((λ cs st. let m = bytes ∙ ap mapBytes (sym (st .few few .0)) in
-    (sym (passed {A = ℕ} 0 8 (st .accepted ∙ ap (mapAccepted 128) (sym m) ∙ sym (c .before .fits2 .ensures (omega (arith, few, w .1, s .pre .1))) ∙ c .if2 .left)), λ e. absurd (omega (arith, e)))), w .1)
+    let few : s .args .r .cells ≤ 128 = c .before .before .before .before .before .before .before .if1 .left in
+    let bytes = w .0 (omega (arith, few, s .pre .0)) (omega (arith, s .pre .0, s .pre .1)) in (
+      (λ cs st. let m = bytes ∙ ap mapBytes (sym (st .few few .0)) in
+          (sym (passed {A = ℕ} 0 8 (st .accepted ∙ ap (mapAccepted 128) (sym m) ∙ sym (c .before .fits2 .ensures (omega (arith, few, w .1, s .pre .1))) ∙ c .if2 .left)), λ e. absurd (omega (arith, e)))),
+      w .1,
+    )
 
 pub map-refusal-spec : {M : Type 1} → statement M
 map-refusal-spec =

@@ -34,11 +34,14 @@ read-requires c κs = search needs
 -- src/lib.rt:146:9
 returns : tie.Need-returns
 unfolding setOutput mapOutput
-returns c = let s = c .before .before .before .before .before .before .before .before .before .before in let r = c .before .before .before .before .read in let text = s .args .text .now in
-  (elim (decLt 16384 (length text)) [
+returns c = let s = c .before .before .before .before .before .before .before .before .before .before in let r = c .before .before .before .before .read in let text = s .args .text .now in (
+  elim (decLt 16384 (length text)) [
     | yes h ↦ ap₂ Refused (r .ensures .0 h .0) (r .ensures .0 h .1) ∙ answer-long text (length (s .args .set .now)) (length (s .args .map .now)) h
     | no h ↦ answer-line text (length (s .args .set .now)) (length (s .args .map .now)) _ _ (omega arith) (r .ensures .1 (omega arith) (search needs) (search needs) .refused (c .if1 .taken))
-  ], refl, refl)
+  ],
+  refl,
+  refl,
+)
 
 -- src/lib.rt:153:24
 slice-aggregate-judge : tie.Need-slice-aggregate-judge
@@ -59,8 +62,8 @@ slice-aggregate-judge-4 c = search needs
 -- src/lib.rt:153:9
 judge-requires : tie.Need-judge-requires
 judge-requires c κs = let s = c .before .before .before .before .before .before .before .before .before .before .before .before .before .before in let r = c .before .before .before .before .before .before .before .before .read .ensures in
-  let short : length (s .args .text .now) ≤ 16384 = elim (decLt 16384 (length (s .args .text .now))) [ | yes h ↦ absurd (let z = r .0 h .0 in omega (arith, z, c .before .before .before .before .if1 .left)) | no h ↦ omega arith ] in
-  (r .1 short (search needs) (search needs) .sound, search needs, refl, refl)
+    let short : length (s .args .text .now) ≤ 16384 = elim (decLt 16384 (length (s .args .text .now))) [ yes h ↦ absurd (let z = r .0 h .0 in omega (arith, z, c .before .before .before .before .if1 .left)) | no h ↦ omega arith ] in
+    (r .1 short (search needs) (search needs) .sound, search needs, refl, refl)
 
 -- src/lib.rt:154:20
 slice-aggregate-finish : tie.Need-slice-aggregate-finish
@@ -73,14 +76,14 @@ slice-aggregate-finish-2 c = search needs
 -- src/lib.rt:154:5
 finish-requires : tie.Need-finish-requires
 finish-requires c κs = let s = c .before .before .before .before .before .before .before .before .before .before .before .before .before .before .before .before .before .before .before .before .before in let r = c .before .before .before .before .before .before .before .before .before .before .before .before .before .before .before .read .ensures in let zero = c .before .before .before .before .before .before .before .before .before .before .before .if1 .left in
-  let text = s .args .text .now in
-  let short : length text ≤ 16384 = elim (decLt 16384 (length text)) [ | yes h ↦ absurd (let z = r .0 h .0 in omega (arith, z, zero)) | no h ↦ omega arith ] in
-  let kept = r .1 short (search needs) (search needs) in
-  let ts = threads-stand text _ _ _ kept zero in
-  let st = cells-stand text _ _ _ kept zero in
-  let j = c .before .before .before .before .before .before .judge .ensures in
-  let w = j .written (threads (lines text)) (cells (lines text)) ts st in
-  (written-few (c .before .before .before .before .before .before .judge .result) (threads (lines text)) (cells (lines text)) (c .before .before .before .before .before .before .judge .last .1 .1 .1 .0) (c .before .before .before .before .before .before .judge .last .1 .1 .1 .1 .0) w, search needs, search needs)
+    let text = s .args .text .now in
+    let short : length text ≤ 16384 = elim (decLt 16384 (length text)) [ yes h ↦ absurd (let z = r .0 h .0 in omega (arith, z, zero)) | no h ↦ omega arith ] in
+    let kept = r .1 short (search needs) (search needs) in
+    let ts = threads-stand text _ _ _ kept zero in
+    let st = cells-stand text _ _ _ kept zero in
+    let j = c .before .before .before .before .before .before .judge .ensures in
+    let w = j .written (threads (lines text)) (cells (lines text)) ts st in
+    (written-few (c .before .before .before .before .before .before .judge .result) (threads (lines text)) (cells (lines text)) (c .before .before .before .before .before .before .judge .last .1 .1 .1 .0) (c .before .before .before .before .before .before .judge .last .1 .1 .1 .1 .0) w, search needs, search needs)
 
 -- src/lib.rt:137:1
 same-length : tie.Need-same-length
@@ -93,18 +96,19 @@ same-length-2 c = search needs
 -- src/lib.rt:137:1
 returns-2 : tie.Need-returns-2
 returns-2 c = let s = c .before .before .before .before .before .before .before .before .before .before .before .before .before .before .before .before .before .before .before .before .before .before .before .before .before .before in let r = c .before .before .before .before .before .before .before .before .before .before .before .before .before .before .before .before .before .before .before .before .read .ensures in let zero = c .before .before .before .before .before .before .before .before .before .before .before .before .before .before .before .before .if1 .left in
-  let text = s .args .text .now in
-  let short : length text ≤ 16384 = elim (decLt 16384 (length text)) [ | yes h ↦ absurd (let z = r .0 h .0 in omega (arith, z, zero)) | no h ↦ omega arith ] in
-  let kept = r .1 short (search needs) (search needs) in
-  let ts = threads-stand text _ _ _ kept zero in
-  let st = cells-stand text _ _ _ kept zero in
-  let j = c .before .before .before .before .before .before .before .before .before .before .before .judge .ensures in
-  let w = j .written (threads (lines text)) (cells (lines text)) ts st in
-  let f = c .before .before .before .before .finish .ensures in
-  let a = c .before .before .before .before .before .before .before .before .before .before .before .judge .result in
-  (f .0 ∙ answer-is text (length (s .args .set .now)) (length (s .args .map .now)) a short (kept .passed zero) (j .answer (threads (lines text)) (cells (lines text)) ts st),
-  f .1 ∙ set-output a (c .before .before .before .before .finish .result) text _ _ (s .args .set .now) (length (s .args .set .now)) (length (s .args .map .now)) (f .0) w,
-  f .2 ∙ map-output a (c .before .before .before .before .finish .result) text _ _ (s .args .map .now) (length (s .args .set .now)) (length (s .args .map .now)) (f .0) w)
+    let text = s .args .text .now in
+    let short : length text ≤ 16384 = elim (decLt 16384 (length text)) [ yes h ↦ absurd (let z = r .0 h .0 in omega (arith, z, zero)) | no h ↦ omega arith ] in
+    let kept = r .1 short (search needs) (search needs) in
+    let ts = threads-stand text _ _ _ kept zero in
+    let st = cells-stand text _ _ _ kept zero in
+    let j = c .before .before .before .before .before .before .before .before .before .before .before .judge .ensures in
+    let w = j .written (threads (lines text)) (cells (lines text)) ts st in
+    let f = c .before .before .before .before .finish .ensures in
+    let a = c .before .before .before .before .before .before .before .before .before .before .before .judge .result in (
+      f .0 ∙ answer-is text (length (s .args .set .now)) (length (s .args .map .now)) a short (kept .passed zero) (j .answer (threads (lines text)) (cells (lines text)) ts st),
+      f .1 ∙ set-output a (c .before .before .before .before .finish .result) text _ _ (s .args .set .now) (length (s .args .set .now)) (length (s .args .map .now)) (f .0) w,
+      f .2 ∙ map-output a (c .before .before .before .before .finish .result) text _ _ (s .args .map .now) (length (s .args .set .now)) (length (s .args .map .now)) (f .0) w,
+    )
 
 pub read-spec : {M : Type 1} → statement M
 read-spec =

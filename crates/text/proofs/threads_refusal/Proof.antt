@@ -19,14 +19,17 @@ labels-fit-requires c κs = search needs
 
 -- src/lib.rt:60:17
 returns : tie.Need-returns
-returns c = let r = c .before .before .before .before .before .before .before .before .args .r in
-  ((λ T st. sym (chosen {A = ℕ} _ 4 (ap (λ (n : ℕ). ltb 0 n && leb n 4) (st .ended) ∙ c .before .before .before .if1 .taken) ∙ chosen {A = ℕ} _ 5 (st .fits (c .before .before .if2 .taken)) ∙ chosen {A = ℕ} 0 6 (ap labelsFit (st .kept (c .before .before .if2 .taken)) ∙ sym (c .before .labels-fit .ensures) ∙ c .if3 .taken))),
-  λ e. (c .before .before .if2 .taken, leb-true (r .ended) 4 (and-right (ltb 0 (r .ended)) (leb (r .ended) 4) (c .before .before .before .if1 .taken))))
+returns c = let r = c .before .before .before .before .before .before .before .before .args .r in (
+  (λ T st. sym (chosen {A = ℕ} _ 4 (ap (λ (n : ℕ). ltb 0 n && leb n 4) (st .ended) ∙ c .before .before .before .if1 .taken) ∙ chosen {A = ℕ} _ 5 (st .fits (c .before .before .if2 .taken)) ∙ chosen {A = ℕ} 0 6 (ap labelsFit (st .kept (c .before .before .if2 .taken)) ∙ sym (c .before .labels-fit .ensures) ∙ c .if3 .taken))),
+  λ e. (c .before .before .if2 .taken, leb-true (r .ended) 4 (and-right (ltb 0 (r .ended)) (leb (r .ended) 4) (c .before .before .before .if1 .taken))),
+)
 
 -- src/lib.rt:62:13
 returns-2 : tie.Need-returns-2
-returns-2 c = ((λ T st. sym (chosen {A = ℕ} _ 4 (ap (λ (n : ℕ). ltb 0 n && leb n 4) (st .ended) ∙ c .before .before .before .if1 .taken) ∙ chosen {A = ℕ} _ 5 (st .fits (c .before .before .if2 .taken)) ∙ passed {A = ℕ} 0 6 (ap labelsFit (st .kept (c .before .before .if2 .taken)) ∙ sym (c .before .labels-fit .ensures) ∙ c .if3 .left))),
-  λ e. absurd (omega (arith, e)))
+returns-2 c = (
+  (λ T st. sym (chosen {A = ℕ} _ 4 (ap (λ (n : ℕ). ltb 0 n && leb n 4) (st .ended) ∙ c .before .before .before .if1 .taken) ∙ chosen {A = ℕ} _ 5 (st .fits (c .before .before .if2 .taken)) ∙ passed {A = ℕ} 0 6 (ap labelsFit (st .kept (c .before .before .if2 .taken)) ∙ sym (c .before .labels-fit .ensures) ∙ c .if3 .left))),
+  λ e. absurd (omega (arith, e)),
+)
 
 -- src/lib.rt:64:9
 returns-3 : tie.Need-returns-3

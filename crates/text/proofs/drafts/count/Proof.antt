@@ -23,8 +23,8 @@ returns c = search needs
 -- src/threads.rt:120:1
 returns-2 : tie.Need-returns-2
 returns-2 c = let n : length (c .before .args .t1) ≡ 4 = search needs in
-  let h : length (c .before .args .t1) ≤ c .before .args .t = omega arith in
-  sym (List·getD-eq-default (c .before .args .t1) 0 h)
+    let h : length (c .before .args .t1) ≤ c .before .args .t = omega arith in
+    sym (List·getD-eq-default (c .before .args .t1) 0 h)
 
 pub count-spec : {M : Type 1} → statement M
 count-spec = tie.close (tie.spec mul-result array-read-result returns returns-2)

@@ -47,7 +47,7 @@ part-result-end-2 c = search needs
 -- src/drafts.rt:21:9
 returns-2 : tie.Need-returns-2
 returns-2 c = let s = c .before .before .before .args .s .now in let i = c .before .before .before .args .i in let n = c .before .before .before .args .n in
-  take-all (length s - i) (drop i s) (rw length-drop (omega arith)) ∙ sym (take-all n (drop i s) (rw length-drop (search needs)))
+    take-all (length s - i) (drop i s) (rw length-drop (omega arith)) ∙ sym (take-all n (drop i s) (rw length-drop (search needs)))
 
 -- src/drafts.rt:23:15
 add-end : tie.Need-add-end

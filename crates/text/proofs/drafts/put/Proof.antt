@@ -61,12 +61,12 @@ same-length c = search needs
 -- src/drafts.rt:63:1
 returns : tie.Need-returns
 returns c = let d = c .before .before .before .before .before .before .before .before .before .before .before .before .before .before .before .before .before .before .before .before in
-  let e₁ = c .before .before .before .before .before .before .before .before .before .before .before .before .place .ensures in
-  let e₂ = c .before .before .before .before .before .before .before .place2 .ensures in
-  let e₃ = c .before .before .place3 .ensures in
-  let l16 : length (d .args .x .label) ≡ 16 = search needs in
-  let t16 : length (d .args .x .target) ≡ 16 = search needs in
-  (put-length (d .args .x) (d .args .k) _ _ _ _ e₁ e₂ e₃, λ j room good. put-block (d .args .x) (d .args .k) _ _ _ _ e₁ e₂ e₃ room l16 t16 good j)
+    let e₁ = c .before .before .before .before .before .before .before .before .before .before .before .before .place .ensures in
+    let e₂ = c .before .before .before .before .before .before .before .place2 .ensures in
+    let e₃ = c .before .before .place3 .ensures in
+    let l16 : length (d .args .x .label) ≡ 16 = search needs in
+    let t16 : length (d .args .x .target) ≡ 16 = search needs in
+    (put-length (d .args .x) (d .args .k) _ _ _ _ e₁ e₂ e₃, λ j room good. put-block (d .args .x) (d .args .k) _ _ _ _ e₁ e₂ e₃ room l16 t16 good j)
 
 pub put-spec : {M : Type 1} → statement M
 put-spec =

@@ -46,14 +46,14 @@ put-requires c κs = search needs
 -- src/sections.rt:37:43
 add-with-count : tie.Need-add-with-count
 add-with-count c = let r = c .before .before .before .before .before .before .before .before .before .args .r in
-  let n = c .before .before .before .before .before .before .count .result in
-  let h = ltb-true n 32 (and-right (r .fits && ltb (r .ended) 4) (ltb n 32) (c .before .before .before .before .if1 .taken)) in omega (arith, h)
+    let n = c .before .before .before .before .before .before .count .result in
+    let h = ltb-true n 32 (and-right (r .fits && ltb (r .ended) 4) (ltb n 32) (c .before .before .before .before .if1 .taken)) in omega (arith, h)
 
 -- src/sections.rt:37:21
 with-count-requires : tie.Need-with-count-requires
 with-count-requires c κs = let r = c .before .before .before .before .before .before .before .before .before .args .r in
-  let n = c .before .before .before .before .before .before .count .result in
-  ltb-true (r .ended) 4 (and-right (r .fits) (ltb (r .ended) 4) (and-left (r .fits && ltb (r .ended) 4) (ltb n 32) (c .before .before .before .before .if1 .taken)))
+    let n = c .before .before .before .before .before .before .count .result in
+    ltb-true (r .ended) 4 (and-right (r .fits) (ltb (r .ended) 4) (and-left (r .fits && ltb (r .ended) 4) (ltb n 32) (c .before .before .before .before .if1 .taken)))
 
 -- src/sections.rt:36:9
 same-length : tie.Need-same-length
@@ -62,36 +62,36 @@ same-length c = search needs
 -- src/sections.rt:36:9
 returns : tie.Need-returns
 returns c = let s = c .before .before .before .before .before .before .before .before .before .before in
-  let r = s .args .r in
-  let n = c .before .before .before .before .before .before .before .count in
-  let test = c .before .before .before .before .before .if1 .taken in
-  let yes₁ = and-left (r .fits && ltb (r .ended) 4) (ltb (n .result) 32) test in
-  let few = ltb-true _ _ (and-right (r .fits && ltb (r .ended) 4) (ltb (n .result) 32) test) in
-  let four = ltb-true _ _ (and-right (r .fits) (ltb (r .ended) 4) yes₁) in
-  let put = c .before .before .before .put .ensures in
-  let counts = c .with-count .ensures in
-  record {
-    fits = and-left (r .fits) (ltb (r .ended) 4) yes₁ ∙ sym (ap (λ (m : ℕ). r .fits && ltb (r .ended) 4 && ltb m 32) (sym (n .ensures)) ∙ test);
-    ended = refl;
-    cells = refl;
-    line = refl;
-    sound = λ sound. ((λ t. rw (counts .0) (bounded-more (now (s .args .draft)) (c .before .before .before .put .last .0) (r .counts) (r .ended) (n .result) (s .args .x) (rw (counts .1) four) (n .ensures) few (sound .0) (λ j. put .1 j (omega (arith, four, few, sound .1)) (s .pre)) t)), put .0 ∙ sound .1);
-    threads = λ sound fits. ap (threadsIn (c .before .before .before .put .last .0) (r .ended)) (counts .0) ∙ added-kept (now (s .args .draft)) (c .before .before .before .put .last .0) (r .counts) (r .ended) (n .result) (s .args .x) (rw (counts .1) four) (n .ensures) few (sound .0) (λ j. put .1 j (omega (arith, four, few, sound .1)) (s .pre));
-  }
+    let r = s .args .r in
+    let n = c .before .before .before .before .before .before .before .count in
+    let test = c .before .before .before .before .before .if1 .taken in
+    let yes₁ = and-left (r .fits && ltb (r .ended) 4) (ltb (n .result) 32) test in
+    let few = ltb-true _ _ (and-right (r .fits && ltb (r .ended) 4) (ltb (n .result) 32) test) in
+    let four = ltb-true _ _ (and-right (r .fits) (ltb (r .ended) 4) yes₁) in
+    let put = c .before .before .before .put .ensures in
+    let counts = c .with-count .ensures in
+    record {
+      fits = and-left (r .fits) (ltb (r .ended) 4) yes₁ ∙ sym (ap (λ (m : ℕ). r .fits && ltb (r .ended) 4 && ltb m 32) (sym (n .ensures)) ∙ test);
+      ended = refl;
+      cells = refl;
+      line = refl;
+      sound = λ sound. ((λ t. rw (counts .0) (bounded-more (now (s .args .draft)) (c .before .before .before .put .last .0) (r .counts) (r .ended) (n .result) (s .args .x) (rw (counts .1) four) (n .ensures) few (sound .0) (λ j. put .1 j (omega (arith, four, few, sound .1)) (s .pre)) t)), put .0 ∙ sound .1);
+      threads = λ sound fits. ap (threadsIn (c .before .before .before .put .last .0) (r .ended)) (counts .0) ∙ added-kept (now (s .args .draft)) (c .before .before .before .put .last .0) (r .counts) (r .ended) (n .result) (s .args .x) (rw (counts .1) four) (n .ensures) few (sound .0) (λ j. put .1 j (omega (arith, four, few, sound .1)) (s .pre));
+    }
 
 -- src/sections.rt:26:1
 returns-2 : tie.Need-returns-2
 returns-2 c = let s = c .before .before .before .before .before .before in
-  let r = s .args .r in
-  let n = c .before .before .before .count in
-  record {
-    fits = sym (ap (λ (m : ℕ). r .fits && ltb (r .ended) 4 && ltb m 32) (sym (n .ensures)) ∙ c .before .if1 .left);
-    ended = refl;
-    cells = refl;
-    line = refl;
-    sound = λ sound. sound;
-    threads = λ sound fits. clash fits refl;
-  }
+    let r = s .args .r in
+    let n = c .before .before .before .count in
+    record {
+      fits = sym (ap (λ (m : ℕ). r .fits && ltb (r .ended) 4 && ltb m 32) (sym (n .ensures)) ∙ c .before .if1 .left);
+      ended = refl;
+      cells = refl;
+      line = refl;
+      sound = λ sound. sound;
+      threads = λ sound fits. clash fits refl;
+    }
 
 pub add-spec : {M : Type 1} → statement M
 add-spec =

@@ -40,8 +40,8 @@ mul-number c = search needs
 -- src/sections.rt:68:62
 sub-number : tie.Need-sub-number
 sub-number c = let r = c .before .before .before .before .before .before .args .r in
-  let n = c .before .before .before .count .result in
-  ltb-true 0 n (and-right (r .fits && ltb (r .ended) 4) (ltb 0 n) (c .before .if1 .taken))
+    let n = c .before .before .before .count .result in
+    ltb-true 0 n (and-right (r .fits && ltb (r .ended) 4) (ltb 0 n) (c .before .if1 .taken))
 
 -- src/sections.rt:68:61
 cast-number-2 : tie.Need-cast-number-2
@@ -70,19 +70,19 @@ same-length c = search needs
 -- src/sections.rt:69:13
 returns : tie.Need-returns
 returns c = let s = c .before .before .before .before .before .before .before .before .before .before in
-  let r = s .args .r in
-  let n = c .before .before .before .before .before .before .before .count .ensures in
-  let test = ap (λ (m : ℕ). r .fits && ltb (r .ended) 4 && ltb 0 m) (sym n) ∙ c .before .before .before .before .before .if1 .taken in
-  let last = ap (λ (m : ℕ). isLast (getD (now (s .args .draft)) (36 * (32 * r .ended + (m - 1))) 0)) (sym n) ∙ sym (c .before .before .is-last .ensures ∙ ap isLast (c .before .before .before .number .ensures)) ∙ c .before .if2 .taken in
-  let yes₁ = and-left (r .fits && ltb (r .ended) 4) (ltb 0 (getD (r .counts) (r .ended) 0)) test in
-  record {
-    fits = and-left (r .fits) (ltb (r .ended) 4) yes₁ ∙ sym (and-true test (or-true (ltb (getD (r .counts) (r .ended) 0) 32) last));
-    ended = refl;
-    cells = refl;
-    line = refl;
-    sound = λ sound. sound;
-    threads = λ sound fits. closed-complete (now (s .args .draft)) (r .counts) (r .ended) (ltb-true 0 _ (and-right (r .fits && ltb (r .ended) 4) (ltb 0 (getD (r .counts) (r .ended) 0)) test)) last;
-  }
+    let r = s .args .r in
+    let n = c .before .before .before .before .before .before .before .count .ensures in
+    let test = ap (λ (m : ℕ). r .fits && ltb (r .ended) 4 && ltb 0 m) (sym n) ∙ c .before .before .before .before .before .if1 .taken in
+    let last = ap (λ (m : ℕ). isLast (getD (now (s .args .draft)) (36 * (32 * r .ended + (m - 1))) 0)) (sym n) ∙ sym (c .before .before .is-last .ensures ∙ ap isLast (c .before .before .before .number .ensures)) ∙ c .before .if2 .taken in
+    let yes₁ = and-left (r .fits && ltb (r .ended) 4) (ltb 0 (getD (r .counts) (r .ended) 0)) test in
+    record {
+      fits = and-left (r .fits) (ltb (r .ended) 4) yes₁ ∙ sym (and-true test (or-true (ltb (getD (r .counts) (r .ended) 0) 32) last));
+      ended = refl;
+      cells = refl;
+      line = refl;
+      sound = λ sound. sound;
+      threads = λ sound fits. closed-complete (now (s .args .draft)) (r .counts) (r .ended) (ltb-true 0 _ (and-right (r .fits && ltb (r .ended) 4) (ltb 0 (getD (r .counts) (r .ended) 0)) test)) last;
+    }
 
 -- src/sections.rt:71:31
 halt-requires : tie.Need-halt-requires
@@ -103,21 +103,21 @@ same-length-2 c = search needs
 -- src/sections.rt:72:9
 returns-2 : tie.Need-returns-2
 returns-2 c = let s = c .before .before .before .before .before .before .before .before .before .before .before .before .before .before .before in
-  let r = s .args .r in
-  let n = c .before .before .before .before .before .before .before .before .before .before .before .before .count .ensures in
-  let test = ap (λ (m : ℕ). r .fits && ltb (r .ended) 4 && ltb 0 m) (sym n) ∙ c .before .before .before .before .before .before .before .before .before .before .if1 .taken in
-  let last = ap (λ (m : ℕ). isLast (getD (now (s .args .draft)) (36 * (32 * r .ended + (m - 1))) 0)) (sym n) ∙ sym (c .before .before .before .before .before .before .before .is-last .ensures ∙ ap isLast (c .before .before .before .before .before .before .before .before .number .ensures)) ∙ c .before .before .before .before .before .before .if2 .left in
-  let yes₁ = and-left (r .fits && ltb (r .ended) 4) (ltb 0 (getD (r .counts) (r .ended) 0)) test in
-  let add = c .before .before .before .add .ensures in
-  record {
-    fits = add .fits ∙ ap (λ (b : Bool). b && ltb (getD (r .counts) (r .ended) 0) 32) yes₁ ∙ sym (ap₂ (λ (a b : Bool). a && (b || ltb (getD (r .counts) (r .ended) 0) 32)) test last);
-    ended = refl;
-    cells = add .cells;
-    line = add .line;
-    sound = add .sound;
-    threads = λ sound fits. closed-gains (now (s .args .draft)) (r .counts) (r .ended) (ltb-true 0 _ (and-right (r .fits && ltb (r .ended) 4) (ltb 0 (getD (r .counts) (r .ended) 0)) test)) (c .before .before .before .add .last .1 .0) (c .before .before .before .add .result .counts) last
-      (ap (λ (e : ℕ). threadsIn (c .before .before .before .add .last .1 .0) e (c .before .before .before .add .result .counts)) (sym (add .ended)) ∙ add .threads sound fits ∙ ap (λ (x : Stated). added x (threadsKept r (now (s .args .draft)))) (c .before .before .before .before .halt .ensures));
-  }
+    let r = s .args .r in
+    let n = c .before .before .before .before .before .before .before .before .before .before .before .before .count .ensures in
+    let test = ap (λ (m : ℕ). r .fits && ltb (r .ended) 4 && ltb 0 m) (sym n) ∙ c .before .before .before .before .before .before .before .before .before .before .if1 .taken in
+    let last = ap (λ (m : ℕ). isLast (getD (now (s .args .draft)) (36 * (32 * r .ended + (m - 1))) 0)) (sym n) ∙ sym (c .before .before .before .before .before .before .before .is-last .ensures ∙ ap isLast (c .before .before .before .before .before .before .before .before .number .ensures)) ∙ c .before .before .before .before .before .before .if2 .left in
+    let yes₁ = and-left (r .fits && ltb (r .ended) 4) (ltb 0 (getD (r .counts) (r .ended) 0)) test in
+    let add = c .before .before .before .add .ensures in
+    record {
+      fits = add .fits ∙ ap (λ (b : Bool). b && ltb (getD (r .counts) (r .ended) 0) 32) yes₁ ∙ sym (ap₂ (λ (a b : Bool). a && (b || ltb (getD (r .counts) (r .ended) 0) 32)) test last);
+      ended = refl;
+      cells = add .cells;
+      line = add .line;
+      sound = add .sound;
+      threads = λ sound fits. closed-gains (now (s .args .draft)) (r .counts) (r .ended) (ltb-true 0 _ (and-right (r .fits && ltb (r .ended) 4) (ltb 0 (getD (r .counts) (r .ended) 0)) test)) (c .before .before .before .add .last .1 .0) (c .before .before .before .add .result .counts) last
+          (ap (λ (e : ℕ). threadsIn (c .before .before .before .add .last .1 .0) e (c .before .before .before .add .result .counts)) (sym (add .ended)) ∙ add .threads sound fits ∙ ap (λ (x : Stated). added x (threadsKept r (now (s .args .draft)))) (c .before .before .before .before .halt .ensures));
+    }
 
 -- src/sections.rt:76:16
 add-t34 : tie.Need-add-t34
@@ -126,17 +126,17 @@ add-t34 c = search needs
 -- src/sections.rt:59:1
 returns-3 : tie.Need-returns-3
 returns-3 c = let s = c .before .before .before .before .before .before in
-  let r = s .args .r in
-  let n = c .before .before .before .count .ensures in
-  let test = ap (λ (m : ℕ). r .fits && ltb (r .ended) 4 && ltb 0 m) (sym n) ∙ c .before .if1 .left in
-  record {
-    fits = sym (and-false _ test);
-    ended = refl;
-    cells = refl;
-    line = refl;
-    sound = λ sound. sound;
-    threads = λ sound fits. clash fits refl;
-  }
+    let r = s .args .r in
+    let n = c .before .before .before .count .ensures in
+    let test = ap (λ (m : ℕ). r .fits && ltb (r .ended) 4 && ltb 0 m) (sym n) ∙ c .before .if1 .left in
+    record {
+      fits = sym (and-false _ test);
+      ended = refl;
+      cells = refl;
+      line = refl;
+      sound = λ sound. sound;
+      threads = λ sound fits. clash fits refl;
+    }
 
 pub close-spec : {M : Type 1} → statement M
 close-spec =

@@ -71,19 +71,19 @@ loop-less c = search needs
 loop-again : tie.Need-loop-again Inv-loop μ-loop
 unfolding dots
 loop-again c = let l = c .before .before .before .before .loop in
-  let s = c .before .before .before .before .before .before .args .text .now in
-  let e = c .before .before .line-end .ensures in
-  let next = lines-next s (l .i) _ (c .before .before .before .loop-test .taken) (e .0) in
-  let dot = cast-test (c .is-dot .result) ∙ ap (λ (b : Bool). cond b 1 0) (c .is-dot .ensures) in
-  let all = l .inv .2 ∙ ap (λ (ls : List (List ℕ)). l .found + dots ls) next in
-  (omega (arith, test-counts (c .is-dot .result), l .inv .0, e .1), omega (arith, e .2), omega (arith, all, dot))
+    let s = c .before .before .before .before .before .before .args .text .now in
+    let e = c .before .before .line-end .ensures in
+    let next = lines-next s (l .i) _ (c .before .before .before .loop-test .taken) (e .0) in
+    let dot = cast-test (c .is-dot .result) ∙ ap (λ (b : Bool). cond b 1 0) (c .is-dot .ensures) in
+    let all = l .inv .2 ∙ ap (λ (ls : List (List ℕ)). l .found + dots ls) next in
+    (omega (arith, test-counts (c .is-dot .result), l .inv .0, e .1), omega (arith, e .2), omega (arith, all, dot))
 
 -- src/sections.rt:131:1
 returns : tie.Need-returns Inv-loop μ-loop
 unfolding dots
 returns c = let s = now (c .before .before .before .args .text) in
-  let e = ap dots (lines-end s (c .before .loop .i) (c .loop-test .left)) in
-  (omega (arith, e, c .before .loop .inv .2), omega (arith, c .before .loop .inv .0, c .before .loop .inv .1, c .before .before .before .pre))
+    let e = ap dots (lines-end s (c .before .loop .i) (c .loop-test .left)) in
+    (omega (arith, e, c .before .loop .inv .2), omega (arith, c .before .loop .inv .0, c .before .loop .inv .1, c .before .before .before .pre))
 
 pub count-dots-spec : {M : Type 1} → statement M
 count-dots-spec =

@@ -32,16 +32,16 @@ line-length-requires c κs = search needs
 -- src/sections.rt:127:5
 add-result : tie.Need-add-result
 add-result c = let a = c .before .before .before .args in
-  let e : c .line-length .result ≡ run isInLine (drop (a .i) (now (a .text))) = c .line-length .ensures ∙ ap (run isInLine) (rest (a .i) (now (a .text))) in
-  let h = run-below isInLine (drop (a .i) (now (a .text))) in
-  omega (arith, e, h, length-drop (a .i) (now (a .text)), c .before .before .before .pre .0, c .before .before .before .pre .1)
+    let e : c .line-length .result ≡ run isInLine (drop (a .i) (now (a .text))) = c .line-length .ensures ∙ ap (run isInLine) (rest (a .i) (now (a .text))) in
+    let h = run-below isInLine (drop (a .i) (now (a .text))) in
+    omega (arith, e, h, length-drop (a .i) (now (a .text)), c .before .before .before .pre .0, c .before .before .before .pre .1)
 
 -- src/sections.rt:123:1
 returns : tie.Need-returns
 returns c = let a = c .before .before .before .args in
-  let e : c .line-length .result ≡ run isInLine (drop (a .i) (now (a .text))) = c .line-length .ensures ∙ ap (run isInLine) (rest (a .i) (now (a .text))) in
-  let h = run-below isInLine (drop (a .i) (now (a .text))) in
-  (ap (λ (n : ℕ). a .i + n) e, omega arith, omega (arith, e, h, length-drop (a .i) (now (a .text)), c .before .before .before .pre .0))
+    let e : c .line-length .result ≡ run isInLine (drop (a .i) (now (a .text))) = c .line-length .ensures ∙ ap (run isInLine) (rest (a .i) (now (a .text))) in
+    let h = run-below isInLine (drop (a .i) (now (a .text))) in
+    (ap (λ (n : ℕ). a .i + n) e, omega arith, omega (arith, e, h, length-drop (a .i) (now (a .text)), c .before .before .before .pre .0))
 
 pub line-end-spec : {M : Type 1} → statement M
 line-end-spec =

@@ -35,7 +35,7 @@ count-dots-requires c κs = search needs
 -- src/sections.rt:160:5
 loop-holds : tie.Need-loop-holds Inv-loop μ-loop
 loop-holds c = let s = c .before .before .before .before in let e = c .count-dots .ensures .0 in
-  (search needs, search needs, e, refl, refl, refl, subst (At (s .args .text .now) _ (s .args .draft .now) (s .args .keys .now)) (sym (lines-start (s .args .text .now))) (begins (s .args .text .now) (s .args .draft .now) (s .args .keys .now) _ (ap (λ (n : ℕ). ltb 0 n && leb n 4) e) refl refl refl refl (s .pre .1) (s .pre .2)))
+    (search needs, search needs, e, refl, refl, refl, subst (At (s .args .text .now) _ (s .args .draft .now) (s .args .keys .now)) (sym (lines-start (s .args .text .now))) (begins (s .args .text .now) (s .args .draft .now) (s .args .keys .now) _ (ap (λ (n : ℕ). ltb 0 n && leb n 4) e) refl refl refl refl (s .pre .1) (s .pre .2)))
 
 -- src/sections.rt:161:13
 line-end-requires : tie.Need-line-end-requires Inv-loop μ-loop
@@ -60,7 +60,7 @@ part-take-line-end c = search needs
 -- src/sections.rt:163:9
 take-line-requires : tie.Need-take-line-requires Inv-loop μ-loop
 take-line-requires c κs = let l = c .before .before .before .before .before .before .loop in let s = c .before .before .before .before .before .before .before .before .before .before .before in
-  (omega (arith, l .inv .6 .ended, l .inv .2, c .before .before .before .before .before .before .before .count-dots .ensures .1), omega (arith, l .inv .1, l .inv .0, s .pre .0))
+    (omega (arith, l .inv .6 .ended, l .inv .2, c .before .before .before .before .before .before .before .count-dots .ensures .1), omega (arith, l .inv .1, l .inv .0, s .pre .0))
 
 -- src/sections.rt:165:13
 same-length : tie.Need-same-length Inv-loop μ-loop
@@ -73,12 +73,12 @@ same-length-2 c = search needs
 -- src/sections.rt:165:13
 returns : tie.Need-returns Inv-loop μ-loop
 returns c = let s = c .before .before .before .before .before .before .before .before .before .before .before .before .before .before .before .before .before .before in
-  let l = c .before .before .before .before .before .before .before .before .before .before .before .before .before .loop in
-  let e = c .before .before .before .before .before .before .before .before .before .before .before .line-end .ensures in
-  let t = c .before .before .before .before .before .before .take-line in
-  let two = turn (s .args .text .now) (l .r) (l .draft) (l .keys) (l .i) (c .before .before .before .before .before .before .before .before .before .before .before .line-end .result) _ (c .before .before .before .before .before .before .before .before .before .before .before .before .loop-test .taken) (e .0) (l .inv .6) (ap (λ (n : ℕ). n - l .r .ended) (l .inv .2)) (t .result) (t .last .1 .1 .1 .0) (t .last .1 .1 .1 .1 .0) (t .ensures) in
-  let at = two .0 in let took = two .1 in
-  stops (s .args .text .now) (t .result) (t .last .1 .1 .1 .0) (t .last .1 .1 .1 .1 .0) (c .if1 .taken) (took .sound (at .sound)) (refused-here (s .args .text .now) (l .r) (l .draft) (l .keys) _ _ at (t .result) (t .last .1 .1 .1 .0) (t .last .1 .1 .1 .1 .0) took (c .if1 .taken))
+    let l = c .before .before .before .before .before .before .before .before .before .before .before .before .before .loop in
+    let e = c .before .before .before .before .before .before .before .before .before .before .before .line-end .ensures in
+    let t = c .before .before .before .before .before .before .take-line in
+    let two = turn (s .args .text .now) (l .r) (l .draft) (l .keys) (l .i) (c .before .before .before .before .before .before .before .before .before .before .before .line-end .result) _ (c .before .before .before .before .before .before .before .before .before .before .before .before .loop-test .taken) (e .0) (l .inv .6) (ap (λ (n : ℕ). n - l .r .ended) (l .inv .2)) (t .result) (t .last .1 .1 .1 .0) (t .last .1 .1 .1 .1 .0) (t .ensures) in
+    let at = two .0 in let took = two .1 in
+    stops (s .args .text .now) (t .result) (t .last .1 .1 .1 .0) (t .last .1 .1 .1 .1 .0) (c .if1 .taken) (took .sound (at .sound)) (refused-here (s .args .text .now) (l .r) (l .draft) (l .keys) _ _ at (t .result) (t .last .1 .1 .1 .0) (t .last .1 .1 .1 .1 .0) took (c .if1 .taken))
 
 -- src/sections.rt:167:13
 add-i : tie.Need-add-i Inv-loop μ-loop
@@ -91,14 +91,14 @@ loop-less c = search needs
 -- src/sections.rt:160:5
 loop-again : tie.Need-loop-again Inv-loop μ-loop
 loop-again c = let s = c .before .before .before .before .before .before .before .before .before .before .before .before .before .before .before .before .before .before in
-  let l = c .before .before .before .before .before .before .before .before .before .before .before .before .before .loop in
-  let e = c .before .before .before .before .before .before .before .before .before .before .before .line-end .ensures in
-  let t = c .before .before .before .before .before .before .take-line in
-  let two = turn (s .args .text .now) (l .r) (l .draft) (l .keys) (l .i) (c .before .before .before .before .before .before .before .before .before .before .before .line-end .result) _ (c .before .before .before .before .before .before .before .before .before .before .before .before .loop-test .taken) (e .0) (l .inv .6) (ap (λ (n : ℕ). n - l .r .ended) (l .inv .2)) (t .result) (t .last .1 .1 .1 .0) (t .last .1 .1 .1 .1 .0) (t .ensures) in
-  let at = two .0 in let took = two .1 in
-  let good : t .result .refusal ≡ 0 = c .if1 .left in
-  let next = next-at (s .args .text .now) (l .r) (l .draft) (l .keys) _ _ at (t .result) (t .last .1 .1 .1 .0) (t .last .1 .1 .1 .1 .0) took good in
-  (omega (arith, e .2), omega (arith, took .line, l .inv .1, e .1), l .inv .2, good, next .sound .1 ∙ sym (s .pre .1), next .room ∙ sym (s .pre .2), next)
+    let l = c .before .before .before .before .before .before .before .before .before .before .before .before .before .loop in
+    let e = c .before .before .before .before .before .before .before .before .before .before .before .line-end .ensures in
+    let t = c .before .before .before .before .before .before .take-line in
+    let two = turn (s .args .text .now) (l .r) (l .draft) (l .keys) (l .i) (c .before .before .before .before .before .before .before .before .before .before .before .line-end .result) _ (c .before .before .before .before .before .before .before .before .before .before .before .before .loop-test .taken) (e .0) (l .inv .6) (ap (λ (n : ℕ). n - l .r .ended) (l .inv .2)) (t .result) (t .last .1 .1 .1 .0) (t .last .1 .1 .1 .1 .0) (t .ensures) in
+    let at = two .0 in let took = two .1 in
+    let good : t .result .refusal ≡ 0 = c .if1 .left in
+    let next = next-at (s .args .text .now) (l .r) (l .draft) (l .keys) _ _ at (t .result) (t .last .1 .1 .1 .0) (t .last .1 .1 .1 .1 .0) took good in
+    (omega (arith, e .2), omega (arith, took .line, l .inv .1, e .1), l .inv .2, good, next .sound .1 ∙ sym (s .pre .1), next .room ∙ sym (s .pre .2), next)
 
 -- src/sections.rt:146:1
 same-length-3 : tie.Need-same-length-3 Inv-loop μ-loop
@@ -111,7 +111,7 @@ same-length-4 c = search needs
 -- src/sections.rt:146:1
 returns-2 : tie.Need-returns-2 Inv-loop μ-loop
 returns-2 c = let s = c .before .before .before .before .before .before in let l = c .before .loop in
-  ends (s .args .text .now) (l .r) (l .draft) (l .keys) (subst (At (s .args .text .now) (l .r) (l .draft) (l .keys)) (lines-end (s .args .text .now) (l .i) (c .loop-test .left)) (l .inv .6)) (l .inv .3)
+    ends (s .args .text .now) (l .r) (l .draft) (l .keys) (subst (At (s .args .text .now) (l .r) (l .draft) (l .keys)) (lines-end (s .args .text .now) (l .i) (c .loop-test .left)) (l .inv .6)) (l .inv .3)
 
 pub read-lines-spec : {M : Type 1} → statement M
 read-lines-spec =

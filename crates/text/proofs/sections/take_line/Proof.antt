@@ -39,7 +39,7 @@ same-length c = search needs
 -- src/sections.rt:106:9
 returns : tie.Need-returns
 returns c = let a = c .before .before .before .before .before .before .before .before .before .before .before .args in
-  took-dot (now (a .l)) (a .left) (a .r) (now (a .draft)) (now (a .keys)) (sym (c .before .before .before .before .before .before .is-dot .ensures) ∙ c .before .before .before .before .before .if1 .taken) _ _ (c .before .before .before .close .ensures)
+    took-dot (now (a .l)) (a .left) (a .r) (now (a .draft)) (now (a .keys)) (sym (c .before .before .before .before .before .before .is-dot .ensures) ∙ c .before .before .before .before .before .if1 .taken) _ _ (c .before .before .before .close .ensures)
 
 -- src/sections.rt:113:36
 map-line-requires : tie.Need-map-line-requires
@@ -56,7 +56,7 @@ same-length-2 c = search needs
 -- src/sections.rt:114:9
 returns-2 : tie.Need-returns-2
 returns-2 c = let a = c .before .before .before .before .before .before .before .before .before .before .before .before .before .args in
-  took-cell (now (a .l)) (a .left) (a .r) (now (a .draft)) (now (a .keys)) (sym (c .before .before .before .before .before .before .before .before .is-dot .ensures) ∙ c .before .before .before .before .before .before .before .if1 .left) (eq-eqb (a .left) 0 (c .before .before .before .before .before .before .if2 .taken)) (c .before .before .before .take .result) (c .before .before .before .take .last .1 .0) (subst (λ (x : Cell). Maps x (a .r) (now (a .keys)) (c .before .before .before .take .result) (c .before .before .before .take .last .1 .0)) (c .before .before .before .before .map-line .ensures) (c .before .before .before .take .ensures))
+    took-cell (now (a .l)) (a .left) (a .r) (now (a .draft)) (now (a .keys)) (sym (c .before .before .before .before .before .before .before .before .is-dot .ensures) ∙ c .before .before .before .before .before .before .before .if1 .left) (eq-eqb (a .left) 0 (c .before .before .before .before .before .before .if2 .taken)) (c .before .before .before .take .result) (c .before .before .before .take .last .1 .0) (subst (λ (x : Cell). Maps x (a .r) (now (a .keys)) (c .before .before .before .take .result) (c .before .before .before .take .last .1 .0)) (c .before .before .before .before .map-line .ensures) (c .before .before .before .take .ensures))
 
 -- src/sections.rt:116:28
 statement-line-requires : tie.Need-statement-line-requires
@@ -73,7 +73,7 @@ same-length-3 c = search needs
 -- src/sections.rt:99:1
 returns-3 : tie.Need-returns-3
 returns-3 c = let a = c .before .before .before .before .before .before .before .before .before .before .before .before .before .args in
-  took-statement (now (a .l)) (a .left) (a .r) (now (a .draft)) (now (a .keys)) (sym (c .before .before .before .before .before .before .before .before .is-dot .ensures) ∙ c .before .before .before .before .before .before .before .if1 .left) (ne-eqb (a .left) 0 (c .before .before .before .before .before .before .if2 .left)) (c .before .before .before .take2 .result) (c .before .before .before .take2 .last .1 .0) (subst (λ (x : Stated). States x (a .r) (now (a .draft)) (c .before .before .before .take2 .result) (c .before .before .before .take2 .last .1 .0)) (c .before .before .before .before .statement-line .ensures) (c .before .before .before .take2 .ensures))
+    took-statement (now (a .l)) (a .left) (a .r) (now (a .draft)) (now (a .keys)) (sym (c .before .before .before .before .before .before .before .before .is-dot .ensures) ∙ c .before .before .before .before .before .before .before .if1 .left) (ne-eqb (a .left) 0 (c .before .before .before .before .before .before .if2 .left)) (c .before .before .before .take2 .result) (c .before .before .before .take2 .last .1 .0) (subst (λ (x : Stated). States x (a .r) (now (a .draft)) (c .before .before .before .take2 .result) (c .before .before .before .take2 .last .1 .0)) (c .before .before .before .before .statement-line .ensures) (c .before .before .before .take2 .ensures))
 
 pub take-line-spec : {M : Type 1} → statement M
 take-line-spec =

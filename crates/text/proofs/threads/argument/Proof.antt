@@ -35,8 +35,8 @@ find-requires c κs = search needs
 -- src/threads.rt:52:9
 returns : tie.Need-returns
 returns c = let a = c .before .before .before .before .before .before .args in
-  let e = c .before .before .before .target .ensures ∙ ap (λ (k : ℕ). take 16 (drop (36 * k + 20) (now (a .draft)))) (c .before .before .before .before .block .ensures) in
-  c .find .ensures ∙ argument-named (now (a .draft)) (a .t) (a .n) (a .p) (search needs) _ e (sym (c .before .before .is-named .ensures) ∙ c .before .if1 .taken)
+    let e = c .before .before .before .target .ensures ∙ ap (λ (k : ℕ). take 16 (drop (36 * k + 20) (now (a .draft)))) (c .before .before .before .before .block .ensures) in
+    c .find .ensures ∙ argument-named (now (a .draft)) (a .t) (a .n) (a .p) (search needs) _ e (sym (c .before .before .is-named .ensures) ∙ c .before .if1 .taken)
 
 -- src/threads.rt:54:5
 argument-requires : tie.Need-argument-requires
@@ -45,8 +45,8 @@ argument-requires c κs = search needs
 -- src/threads.rt:45:1
 returns-2 : tie.Need-returns-2
 returns-2 c = let a = c .before .before .before .before .before .before .args in
-  let e = c .before .before .before .target .ensures ∙ ap (λ (k : ℕ). take 16 (drop (36 * k + 20) (now (a .draft)))) (c .before .before .before .before .block .ensures) in
-  c .argument .ensures ∙ ap (λ (k : ℕ). wordAt (now (a .draft)) (36 * k + 2)) (c .before .before .before .before .block .ensures) ∙ argument-plain (now (a .draft)) (a .t) (a .n) (a .p) (search needs) _ e (sym (c .before .before .is-named .ensures) ∙ c .before .if1 .left)
+    let e = c .before .before .before .target .ensures ∙ ap (λ (k : ℕ). take 16 (drop (36 * k + 20) (now (a .draft)))) (c .before .before .before .before .block .ensures) in
+    c .argument .ensures ∙ ap (λ (k : ℕ). wordAt (now (a .draft)) (36 * k + 2)) (c .before .before .before .before .block .ensures) ∙ argument-plain (now (a .draft)) (a .t) (a .n) (a .p) (search needs) _ e (sym (c .before .before .is-named .ensures) ∙ c .before .if1 .left)
 
 pub argument-spec : {M : Type 1} → statement M
 argument-spec =

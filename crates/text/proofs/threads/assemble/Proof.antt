@@ -23,8 +23,8 @@ counts-fit-requires c κs = search needs
 -- src/threads.rt:179:9
 write-threads-requires : tie.Need-write-threads-requires
 write-threads-requires c κs = let a = c .before .before .before .before .before .args in let e = c .before .if1 .taken in let f = c .before .before .counts-fit in
-  let four = leb (a .ended) 4 in let room = leb 1024 (length (now (a .set))) in
-  (leb-true (a .ended) 4 (and-left four (f .result) (and-left (four && f .result) room e)), four-few (a .counts) (f .ensures .1) (sym (f .ensures .0) ∙ and-right four (f .result) (and-left (four && f .result) room e)), leb-true 1024 (length (now (a .set))) (and-right (four && f .result) room e))
+    let four = leb (a .ended) 4 in let room = leb 1024 (length (now (a .set))) in
+    (leb-true (a .ended) 4 (and-left four (f .result) (and-left (four && f .result) room e)), four-few (a .counts) (f .ensures .1) (sym (f .ensures .0) ∙ and-right four (f .result) (and-left (four && f .result) room e)), leb-true 1024 (length (now (a .set))) (and-right (four && f .result) room e))
 
 -- src/threads.rt:179:9
 same-length : tie.Need-same-length
@@ -37,7 +37,7 @@ returns c = search needs
 -- src/threads.rt:172:1
 returns-2 : tie.Need-returns-2
 returns-2 c = let a = c .before .before .before .before .args in let f = c .before .counts-fit in
-  ((λ four few room. clash (and-true (and-true (le-leb (a .ended) 4 four) (f .ensures .0 ∙ few-four (a .counts) few)) (le-leb 1024 (length (now (a .set))) room)) (c .if1 .left)), refl)
+    ((λ four few room. clash (and-true (and-true (le-leb (a .ended) 4 four) (f .ensures .0 ∙ few-four (a .counts) few)) (le-leb 1024 (length (now (a .set))) room)) (c .if1 .left)), refl)
 
 pub assemble-spec : {M : Type 1} → statement M
 assemble-spec =

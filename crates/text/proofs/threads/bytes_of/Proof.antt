@@ -55,13 +55,13 @@ cast-t17 c = search needs
 returns : tie.Need-returns
 unfolding statementBytes
 returns c = let a = c .before .before .before .before .before .args in
-  let d = now (a .draft) in
-  let k = c .before .before .before .block .ensures in
-  let x = drafted-at d (a .t) (a .n) (a .p) (search needs) in
-  let number = c .before .number .ensures ∙ ap (λ (i : ℕ). getD d (36 * i) 0) k ∙ sym (ap (λ y. y .number) x) in
-  let mode = c .mode .ensures ∙ ap (λ (i : ℕ). getD d (36 * i + 1) 0) k ∙ sym (ap (λ y. y .mode) x) in
-  let argument = c .before .before .argument .ensures in
-  λ i. a .t ∷ number i ∷ mode i ∷ 0 ∷ argument i % 256 ∷ argument i / 256 ∷ a .p % 256 ∷ a .p / 256 ∷ []
+    let d = now (a .draft) in
+    let k = c .before .before .before .block .ensures in
+    let x = drafted-at d (a .t) (a .n) (a .p) (search needs) in
+    let number = c .before .number .ensures ∙ ap (λ (i : ℕ). getD d (36 * i) 0) k ∙ sym (ap (λ y. y .number) x) in
+    let mode = c .mode .ensures ∙ ap (λ (i : ℕ). getD d (36 * i + 1) 0) k ∙ sym (ap (λ y. y .mode) x) in
+    let argument = c .before .before .argument .ensures in
+    λ i. a .t ∷ number i ∷ mode i ∷ 0 ∷ argument i % 256 ∷ argument i / 256 ∷ a .p % 256 ∷ a .p / 256 ∷ []
 
 pub bytes-of-spec : {M : Type 1} → statement M
 bytes-of-spec =

@@ -36,7 +36,7 @@ is-doubled-requires c κs = search needs
 returns : tie.Need-returns Inv-loop μ-loop
 unfolding threadFits
 returns c = let a = c .before .before .before .before .before .args in let l = c .before .before .before .loop in
-  sym (every-not (λ q. not (doubledAt (drafted (now (a .draft)) (a .t) (a .n)) q) && targetFits (a .n) (drafted (now (a .draft)) (a .t) (a .n)) q) (a .n) (l .p) (c .before .before .loop-test .taken) (and-false _ (ap not (sym (c .before .is-doubled .ensures) ∙ c .if1 .taken))))
+    sym (every-not (λ q. not (doubledAt (drafted (now (a .draft)) (a .t) (a .n)) q) && targetFits (a .n) (drafted (now (a .draft)) (a .t) (a .n)) q) (a .n) (l .p) (c .before .before .loop-test .taken) (and-false _ (ap not (sym (c .before .is-doubled .ensures) ∙ c .if1 .taken))))
 
 -- src/threads.rt:90:13
 target-fits-requires : tie.Need-target-fits-requires Inv-loop μ-loop
@@ -46,7 +46,7 @@ target-fits-requires c κs = search needs
 returns-2 : tie.Need-returns-2 Inv-loop μ-loop
 unfolding threadFits
 returns-2 c = let a = c .before .before .before .before .before .before .before .args in let l = c .before .before .before .before .before .loop in
-  sym (every-not (λ q. not (doubledAt (drafted (now (a .draft)) (a .t) (a .n)) q) && targetFits (a .n) (drafted (now (a .draft)) (a .t) (a .n)) q) (a .n) (l .p) (c .before .before .before .before .loop-test .taken) (and-right-false (not (doubledAt (drafted (now (a .draft)) (a .t) (a .n)) (l .p))) (sym (c .before .target-fits .ensures) ∙ not-true _ (c .if2 .taken))))
+    sym (every-not (λ q. not (doubledAt (drafted (now (a .draft)) (a .t) (a .n)) q) && targetFits (a .n) (drafted (now (a .draft)) (a .t) (a .n)) q) (a .n) (l .p) (c .before .before .before .before .loop-test .taken) (and-right-false (not (doubledAt (drafted (now (a .draft)) (a .t) (a .n)) (l .p))) (sym (c .before .target-fits .ensures) ∙ not-true _ (c .if2 .taken))))
 
 -- src/threads.rt:93:9
 add-p : tie.Need-add-p Inv-loop μ-loop
@@ -59,13 +59,13 @@ loop-less c = search needs
 -- src/threads.rt:86:5
 loop-again : tie.Need-loop-again Inv-loop μ-loop
 loop-again c = let a = c .before .before .before .before .before .before .before .args in let l = c .before .before .before .before .before .loop in
-  (search needs, every-more (λ q. not (doubledAt (drafted (now (a .draft)) (a .t) (a .n)) q) && targetFits (a .n) (drafted (now (a .draft)) (a .t) (a .n)) q) (l .p) (l .inv .1) (and-true (ap not (sym (c .before .before .before .is-doubled .ensures) ∙ c .before .before .if1 .left)) (sym (c .before .target-fits .ensures) ∙ not-false _ (c .if2 .left))))
+    (search needs, every-more (λ q. not (doubledAt (drafted (now (a .draft)) (a .t) (a .n)) q) && targetFits (a .n) (drafted (now (a .draft)) (a .t) (a .n)) q) (l .p) (l .inv .1) (and-true (ap not (sym (c .before .before .before .is-doubled .ensures) ∙ c .before .before .if1 .left)) (sym (c .before .target-fits .ensures) ∙ not-false _ (c .if2 .left))))
 
 -- src/threads.rt:82:1
 returns-3 : tie.Need-returns-3 Inv-loop μ-loop
 unfolding threadFits
 returns-3 c = let e : c .before .loop .p ≡ c .before .before .before .args .n = omega arith in
-  sym (rw e at (c .before .loop .inv .1))
+    sym (rw e at (c .before .loop .inv .1))
 
 pub fits-spec : {M : Type 1} → statement M
 fits-spec =

@@ -34,14 +34,14 @@ find-requires c κs = search needs
 -- src/threads.rt:64:9
 returns : tie.Need-returns
 returns c = let a = c .before .before .before .before .before .before .args in
-  let e = c .before .before .before .label .ensures ∙ ap (λ (k : ℕ). take 16 (drop (36 * k + 4) (now (a .draft)))) (c .before .before .before .before .block .ensures) in
-  ap (λ (k : ℕ). ltb k (a .p)) (c .find .ensures) ∙ doubled-named (now (a .draft)) (a .t) (a .n) (a .p) (search needs) _ e (sym (c .before .before .is-named .ensures) ∙ c .before .if1 .taken)
+    let e = c .before .before .before .label .ensures ∙ ap (λ (k : ℕ). take 16 (drop (36 * k + 4) (now (a .draft)))) (c .before .before .before .before .block .ensures) in
+    ap (λ (k : ℕ). ltb k (a .p)) (c .find .ensures) ∙ doubled-named (now (a .draft)) (a .t) (a .n) (a .p) (search needs) _ e (sym (c .before .before .is-named .ensures) ∙ c .before .if1 .taken)
 
 -- src/threads.rt:58:1
 returns-2 : tie.Need-returns-2
 returns-2 c = let a = c .before .before .before .before .before .args in
-  let e = c .before .before .label .ensures ∙ ap (λ (k : ℕ). take 16 (drop (36 * k + 4) (now (a .draft)))) (c .before .before .before .block .ensures) in
-  doubled-plain (now (a .draft)) (a .t) (a .n) (a .p) (search needs) _ e (sym (c .before .is-named .ensures) ∙ c .if1 .left)
+    let e = c .before .before .label .ensures ∙ ap (λ (k : ℕ). take 16 (drop (36 * k + 4) (now (a .draft)))) (c .before .before .before .block .ensures) in
+    doubled-plain (now (a .draft)) (a .t) (a .n) (a .p) (search needs) _ e (sym (c .before .is-named .ensures) ∙ c .if1 .left)
 
 pub is-doubled-spec : {M : Type 1} → statement M
 is-doubled-spec =

@@ -40,8 +40,8 @@ fits-requires c κs = search needs
 returns : tie.Need-returns Inv-loop μ-loop
 unfolding labelsFit
 returns c = let a = c .before .before .before .before .before .before .args in let l = c .before .before .before .before .loop in
-  let e = ap (λ (n : ℕ). threadFits n (drafted (now (a .draft)) (l .t) n)) (sym (c .before .before .count .ensures)) ∙ sym (c .before .fits2 .ensures) ∙ not-true _ (c .if1 .taken) in
-  sym (every-not (λ u. threadFits (getD (a .counts) u 0) (drafted (now (a .draft)) u (getD (a .counts) u 0))) (a .ended) (l .t) (c .before .before .before .loop-test .taken) e)
+    let e = ap (λ (n : ℕ). threadFits n (drafted (now (a .draft)) (l .t) n)) (sym (c .before .before .count .ensures)) ∙ sym (c .before .fits2 .ensures) ∙ not-true _ (c .if1 .taken) in
+    sym (every-not (λ u. threadFits (getD (a .counts) u 0) (drafted (now (a .draft)) u (getD (a .counts) u 0))) (a .ended) (l .t) (c .before .before .before .loop-test .taken) e)
 
 -- src/threads.rt:108:9
 add-t : tie.Need-add-t Inv-loop μ-loop
@@ -54,14 +54,14 @@ loop-less c = search needs
 -- src/threads.rt:104:5
 loop-again : tie.Need-loop-again Inv-loop μ-loop
 loop-again c = let a = c .before .before .before .before .before .before .args in let l = c .before .before .before .before .loop in
-  let e = ap (λ (n : ℕ). threadFits n (drafted (now (a .draft)) (l .t) n)) (sym (c .before .before .count .ensures)) ∙ sym (c .before .fits2 .ensures) ∙ not-false _ (c .if1 .left) in
-  (search needs, every-more (λ u. threadFits (getD (a .counts) u 0) (drafted (now (a .draft)) u (getD (a .counts) u 0))) (l .t) (l .inv .1) e)
+    let e = ap (λ (n : ℕ). threadFits n (drafted (now (a .draft)) (l .t) n)) (sym (c .before .before .count .ensures)) ∙ sym (c .before .fits2 .ensures) ∙ not-false _ (c .if1 .left) in
+    (search needs, every-more (λ u. threadFits (getD (a .counts) u 0) (drafted (now (a .draft)) u (getD (a .counts) u 0))) (l .t) (l .inv .1) e)
 
 -- src/threads.rt:100:1
 returns-2 : tie.Need-returns-2 Inv-loop μ-loop
 unfolding labelsFit
 returns-2 c = let e : c .before .loop .t ≡ c .before .before .before .args .ended = omega arith in
-  sym (rw e at (c .before .loop .inv .1))
+    sym (rw e at (c .before .loop .inv .1))
 
 pub labels-fit-spec : {M : Type 1} → statement M
 labels-fit-spec =

@@ -34,14 +34,14 @@ argument-requires c κs = search needs
 -- src/threads.rt:76:9
 returns : tie.Need-returns
 returns c = let a = c .before .before .before .before .before .before .args in
-  let e = c .before .before .before .number .ensures ∙ ap (λ (k : ℕ). getD (now (a .draft)) (36 * k) 0) (c .before .before .before .before .block .ensures) in
-  ap (λ (k : ℕ). ltb k (a .n)) (c .argument .ensures) ∙ target-jump (now (a .draft)) (a .t) (a .n) (a .p) (search needs) _ e (sym (c .before .before .is-jump .ensures) ∙ c .before .if1 .taken)
+    let e = c .before .before .before .number .ensures ∙ ap (λ (k : ℕ). getD (now (a .draft)) (36 * k) 0) (c .before .before .before .before .block .ensures) in
+    ap (λ (k : ℕ). ltb k (a .n)) (c .argument .ensures) ∙ target-jump (now (a .draft)) (a .t) (a .n) (a .p) (search needs) _ e (sym (c .before .before .is-jump .ensures) ∙ c .before .if1 .taken)
 
 -- src/threads.rt:70:1
 returns-2 : tie.Need-returns-2
 returns-2 c = let a = c .before .before .before .before .before .args in
-  let e = c .before .before .number .ensures ∙ ap (λ (k : ℕ). getD (now (a .draft)) (36 * k) 0) (c .before .before .before .block .ensures) in
-  target-plain (now (a .draft)) (a .t) (a .n) (a .p) (search needs) _ e (sym (c .before .is-jump .ensures) ∙ c .if1 .left)
+    let e = c .before .before .number .ensures ∙ ap (λ (k : ℕ). getD (now (a .draft)) (36 * k) 0) (c .before .before .before .block .ensures) in
+    target-plain (now (a .draft)) (a .t) (a .n) (a .p) (search needs) _ e (sym (c .before .is-jump .ensures) ∙ c .if1 .left)
 
 pub target-fits-spec : {M : Type 1} → statement M
 target-fits-spec =

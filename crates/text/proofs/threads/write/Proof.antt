@@ -69,14 +69,16 @@ loop-less c = search needs
 loop-again : tie.Need-loop-again Inv-loop μ-loop
 unfolding statementBytes
 loop-again c = let a = c .before .before .before .before .before .before .before .before .before .before .args in
-  let l = c .before .before .before .before .before .before .before .loop in
-  let item = statementBytes (a .t) (a .n) (drafted (a .draft .now) (a .t) (a .n)) in
-  let e = c .before .before .place .ensures ∙ ap (placed (l .set) (8 * a .k + 8 * l .p)) (c .before .before .before .before .before .bytes-of .ensures) in
-  let room : 8 * a .k + 8 * l .p + 8 ≤ length (l .set) = rw (l .inv .1) (search needs) in
-  (search needs, ap length e ∙ length-placed (l .set) (8 * a .k + 8 * l .p) (item (l .p)) ∙ l .inv .1,
-  (let i : 8 * a .k + 8 * (l .p + 1) ≡ 8 * a .k + 8 * l .p + 8 = omega arith in
-  ap (λ (n : ℕ). take n (c .before .before .place .last .0)) i ∙ ap (take (8 * a .k + 8 * l .p + 8)) e
-  ∙ joined-more item (l .p) (take (8 * a .k) (a .set .now)) (l .set) (8 * a .k + 8 * l .p) 8 (l .inv .2) refl room))
+    let l = c .before .before .before .before .before .before .before .loop in
+    let item = statementBytes (a .t) (a .n) (drafted (a .draft .now) (a .t) (a .n)) in
+    let e = c .before .before .place .ensures ∙ ap (placed (l .set) (8 * a .k + 8 * l .p)) (c .before .before .before .before .before .bytes-of .ensures) in
+    let room : 8 * a .k + 8 * l .p + 8 ≤ length (l .set) = rw (l .inv .1) (search needs) in (
+      search needs,
+      ap length e ∙ length-placed (l .set) (8 * a .k + 8 * l .p) (item (l .p)) ∙ l .inv .1,
+      (let i : 8 * a .k + 8 * (l .p + 1) ≡ 8 * a .k + 8 * l .p + 8 = omega arith in
+          ap (λ (n : ℕ). take n (c .before .before .place .last .0)) i ∙ ap (take (8 * a .k + 8 * l .p + 8)) e
+          ∙ joined-more item (l .p) (take (8 * a .k) (a .set .now)) (l .set) (8 * a .k + 8 * l .p) 8 (l .inv .2) refl room),
+    )
 
 -- src/threads.rt:131:1
 same-length : tie.Need-same-length Inv-loop μ-loop
@@ -85,10 +87,10 @@ same-length c = search needs
 -- src/threads.rt:131:1
 returns : tie.Need-returns Inv-loop μ-loop
 returns c = let a = c .before .before .before .before .args in
-  let l = c .before .loop in
-  let e : l .p ≡ a .n = omega arith in
-  let item = statementBytes (a .t) (a .n) (drafted (a .draft .now) (a .t) (a .n)) in
-  (ap (λ (i : ℕ). take (8 * a .k + 8 * i) (l .set)) (sym e) ∙ l .inv .2 ∙ ap (λ (i : ℕ). take (8 * a .k) (a .set .now) ++ joined i item) e, l .inv .1)
+    let l = c .before .loop in
+    let e : l .p ≡ a .n = omega arith in
+    let item = statementBytes (a .t) (a .n) (drafted (a .draft .now) (a .t) (a .n)) in
+    (ap (λ (i : ℕ). take (8 * a .k + 8 * i) (l .set)) (sym e) ∙ l .inv .2 ∙ ap (λ (i : ℕ). take (8 * a .k) (a .set .now) ++ joined i item) e, l .inv .1)
 
 pub write-spec : {M : Type 1} → statement M
 write-spec =

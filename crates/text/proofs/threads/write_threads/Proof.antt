@@ -33,16 +33,16 @@ count-requires c κs = search needs
 -- src/threads.rt:154:9
 write-requires : tie.Need-write-requires Inv-loop μ-loop
 write-requires c κs = let l = c .before .before .before .loop in
-  let a = c .before .before .before .before .before .before in
-  let few : c .before .count .result ≤ 32 = rw (c .before .count .ensures) (a .pre .1 (l .t)) in
-  (search needs, omega (arith, few, l .inv .1, l .inv .2, a .pre .0, a .pre .2, c .before .before .loop-test .taken))
+    let a = c .before .before .before .before .before .before in
+    let few : c .before .count .result ≤ 32 = rw (c .before .count .ensures) (a .pre .1 (l .t)) in
+    (search needs, omega (arith, few, l .inv .1, l .inv .2, a .pre .0, a .pre .2, c .before .before .loop-test .taken))
 
 -- src/threads.rt:155:9
 add-k : tie.Need-add-k Inv-loop μ-loop
 add-k c = let l = c .before .before .before .before .before .before .loop in
-  let a = c .before .before .before .before .before .before .before .before .before in
-  let few : c .before .before .before .before .count .result ≤ 32 = rw (c .before .before .before .before .count .ensures) (a .pre .1 (l .t)) in
-  omega (arith, few, l .inv .1, a .pre .0, c .before .before .before .before .before .loop-test .taken)
+    let a = c .before .before .before .before .before .before .before .before .before in
+    let few : c .before .before .before .before .count .result ≤ 32 = rw (c .before .before .before .before .count .ensures) (a .pre .1 (l .t)) in
+    omega (arith, few, l .inv .1, a .pre .0, c .before .before .before .before .before .loop-test .taken)
 
 -- src/threads.rt:156:9
 add-t : tie.Need-add-t Inv-loop μ-loop
@@ -56,15 +56,18 @@ loop-less c = search needs
 loop-again : tie.Need-loop-again Inv-loop μ-loop
 unfolding joined statementsBefore threadBytes
 loop-again c = let l = c .before .before .before .before .before .before .loop in
-  let a = c .before .before .before .before .before .before .before .before .before in
-  let n = c .before .before .before .before .count .ensures in
-  let w = c .before .before .write .ensures in
-  let few : c .before .before .before .before .count .result ≤ 32 = rw n (a .pre .1 (l .t)) in
-  let T = threadsIn (a .args .draft .now) (a .args .ended) (a .args .counts) in
-  let i : 8 * (l .k + c .before .before .before .before .count .result) ≡ 8 * l .k + 8 * c .before .before .before .before .count .result = omega arith in
-  (search needs, omega (arith, few, l .inv .1), w .1 ∙ l .inv .2,
-  rw (add-one, n) (ap (λ (k : ℕ). k + getD (a .args .counts) (l .t) 0) (l .inv .3)),
-  rw add-one (ap (λ (k : ℕ). take k (c .before .before .write .last .1 .1 .1 .0)) i ∙ w .0 ∙ ap (λ (s : List ℕ). s ++ joined (c .before .before .before .before .count .result) (statementBytes (l .t) (c .before .before .before .before .count .result) (drafted (a .args .draft .now) (l .t) (c .before .before .before .before .count .result)))) (l .inv .4) ∙ ap (λ (m : ℕ). joined (l .t) (threadBytes T) ++ joined m (statementBytes (l .t) m (drafted (a .args .draft .now) (l .t) m))) n))
+    let a = c .before .before .before .before .before .before .before .before .before in
+    let n = c .before .before .before .before .count .ensures in
+    let w = c .before .before .write .ensures in
+    let few : c .before .before .before .before .count .result ≤ 32 = rw n (a .pre .1 (l .t)) in
+    let T = threadsIn (a .args .draft .now) (a .args .ended) (a .args .counts) in
+    let i : 8 * (l .k + c .before .before .before .before .count .result) ≡ 8 * l .k + 8 * c .before .before .before .before .count .result = omega arith in (
+      search needs,
+      omega (arith, few, l .inv .1),
+      w .1 ∙ l .inv .2,
+      rw (add-one, n) (ap (λ (k : ℕ). k + getD (a .args .counts) (l .t) 0) (l .inv .3)),
+      rw add-one (ap (λ (k : ℕ). take k (c .before .before .write .last .1 .1 .1 .0)) i ∙ w .0 ∙ ap (λ (s : List ℕ). s ++ joined (c .before .before .before .before .count .result) (statementBytes (l .t) (c .before .before .before .before .count .result) (drafted (a .args .draft .now) (l .t) (c .before .before .before .before .count .result)))) (l .inv .4) ∙ ap (λ (m : ℕ). joined (l .t) (threadBytes T) ++ joined m (statementBytes (l .t) m (drafted (a .args .draft .now) (l .t) m))) n),
+    )
 
 -- src/threads.rt:146:1
 same-length : tie.Need-same-length Inv-loop μ-loop
@@ -74,9 +77,9 @@ same-length c = search needs
 returns : tie.Need-returns Inv-loop μ-loop
 unfolding setBytes
 returns c = let l = c .before .loop in let a = c .before .before .before .before in
-  let e : l .t ≡ a .args .ended = omega arith in
-  let T = threadsIn (a .args .draft .now) (a .args .ended) (a .args .counts) in
-  (l .inv .3 ∙ ap (statementsBefore T) e, omega (arith, l .inv .1, l .inv .0, a .pre .0), l .inv .4 ∙ ap (λ (t : ℕ). joined t (threadBytes T)) e)
+    let e : l .t ≡ a .args .ended = omega arith in
+    let T = threadsIn (a .args .draft .now) (a .args .ended) (a .args .counts) in
+    (l .inv .3 ∙ ap (statementsBefore T) e, omega (arith, l .inv .1, l .inv .0, a .pre .0), l .inv .4 ∙ ap (λ (t : ℕ). joined t (threadBytes T)) e)
 
 pub write-threads-spec : {M : Type 1} → statement M
 write-threads-spec =
