@@ -1,0 +1,2 @@
+-- Laws of what reading a text answers.
+pub mod Reading

@@ -1,0 +1,2 @@
+-- What the listing program prints for a set text.
+pub mod Texts
