@@ -4,7 +4,7 @@ use mathlib.Core.Path.{_≡_, refl, ap, sym, _∙_}
 use mathlib.Core.List.{List, [], _∷_, _++_, append-assoc, append-nil}
 use mathlib.Core.Bool.{Bool, true, false, cond, _&&_}
 use native.Mathlib.Omega.{arith}
-use native.Mathlib.Nat.{add-zero}
+use native.Mathlib.Nat.{add-zero, zero-add}
 use native.Mathlib.Numerals.{add-one}
 use lib.Dec.{eqb, leb}
 use lib.ListN.{length, getD, take, drop, length-append, length-take, length-drop, take-append-drop, drop-of-length-le}
@@ -37,6 +37,11 @@ copied xs ys i h = go ∙ sym (placed-fits xs i ys h)
 pub over-more : (ys more xs : List ℕ) → splice (over ys xs) (length ys) more ≡ over (ys ++ more) xs
 unfolding splice over
 over-more ys more xs = rw (take-append-seam, drop-append-add, drop-drop, append-assoc, length-append)
+
+-- bytes written from the start on
+pub placed-over : (xs ys : List ℕ) → length ys ≤ length xs → placed xs 0 ys ≡ over ys xs
+unfolding splice over
+placed-over xs ys h = placed-fits xs 0 ys (omega arith) ∙ ap (λ (n : ℕ). ys ++ drop n xs) (zero-add (length ys))
 
 pub over-none : (xs : List ℕ) → xs ≡ over [] xs
 unfolding over

@@ -1,3 +1,3 @@
--- Laws of what reading a text answers, and texts' listings computed by the definitions.
-pub mod Reading
+-- Laws of the records that reading wrote, and listings of texts computed by the definitions.
+mod Records
 mod Samples

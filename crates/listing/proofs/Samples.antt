@@ -17,20 +17,20 @@ use Rattle.text.specs.Answers.{refusalIn, inLines, statementsFit, doubledAt, ta
 use Rattle.text.specs.Records.{joined, pcOf, argumentOf, statementBytes, threadBytes, setBytes, statementsBefore, cellBytes, mapBytes}
 use Rattle.text.specs.Sections.{dots, added, gained, closed, lineAdded, threadsFrom, inserted, cellAdded, cellsFrom}
 use Rattle.listings.specs.Listings.{text, places, decimal, name, argument, cell, lineOf, line, lastLine, refusedLine, lowest, listingFrom, listing}
-use Rattle.listing.specs.Texts.{textListing}
+use Rattle.listing.specs.Texts.{listingOf}
 
 example :
-    textListing (text "ADDI 1\nSTORE 0\n.\nLOAD 0\nJZ 3\nEXIT 0\nEXIT 7\n.\n0 0\n")
+    listingOf (text "ADDI 1\nSTORE 0\n.\nLOAD 0\nJZ 3\nEXIT 0\nEXIT 7\n.\n0 0\n")
     ≡ text "0 0 ADDI 1 0 0 0 0 0 {}\n"
     ++ text "0 1 STORE 0 1 0 0 0 0 {}\n"
     ++ text "1 0 LOAD 0 0 0 0 0 0 {}\n"
     ++ text "1 1 JZ 3 0 0 0 0 0 {}\n"
     ++ text "1 3 EXIT 7 0 0 0 0 0 {}\n"
     ++ text "end 7\n"
-unfolding textListing lines isDot run valueAfter padded over isLabel stated numbered bracketed targeted argued afterWord worded labelled statement statementLine valued addressed cellLine mapLine least same words wordOf dots added gained closed lineAdded threadsFrom joined pcOf argumentOf statementBytes threadBytes setBytes inserted cellAdded cellsFrom statementsBefore cellBytes mapBytes refusalIn inLines statementsFit doubledAt targetFits threadFits labelsFit checkpointsFit addressDoubled mapFits whole answer every some number opensAt listing listingFrom lowest refusedLine lastLine line lineOf cell argument name decimal places begin outcome advanced endOf somePermitted shown step reads written cleared leavesMark acted permitted waiting opened contains casMatches executed nextPc jumps row cellsRead wordTaken address ascendsAt mapAccepted setAccepted recordFits argumentFits follows startOf countOf threadsOf
+unfolding listingOf lines isDot run valueAfter padded over isLabel stated numbered bracketed targeted argued afterWord worded labelled statement statementLine valued addressed cellLine mapLine least same words wordOf dots added gained closed lineAdded threadsFrom joined pcOf argumentOf statementBytes threadBytes setBytes inserted cellAdded cellsFrom statementsBefore cellBytes mapBytes refusalIn inLines statementsFit doubledAt targetFits threadFits labelsFit checkpointsFit addressDoubled mapFits whole answer every some number opensAt listing listingFrom lowest refusedLine lastLine line lineOf cell argument name decimal places begin outcome advanced endOf somePermitted shown step reads written cleared leavesMark acted permitted waiting opened contains casMatches executed nextPc jumps row cellsRead wordTaken address ascendsAt mapAccepted setAccepted recordFits argumentFits follows startOf countOf threadsOf
 example = refl
 
 -- no dot: all of it is map, and its first line no cell
-refused : textListing (text "EXIT 1\n") ≡ text "refused 2\n"
-unfolding textListing lines isDot run valueAfter valued addressed cellLine mapLine dots refusalIn inLines whole answer refusedLine decimal places
+refused : listingOf (text "EXIT 1\n") ≡ text "refused 2\n"
+unfolding listingOf lines isDot run valueAfter valued addressed cellLine mapLine dots refusalIn inLines whole answer refusedLine decimal places
 refused = refl

@@ -1,35 +1,35 @@
-// The listing program: reads a set text from standard input and prints its listing, or the number that refuses it.
+// The listing program: reads a set text from standard input and prints its run, in which the lowest thread that can execute does so,
+// else the lowest that can flush. What it prints is decided by `list_text`; the rest is input and output.
 ghost use mathlib.Core.Path.{_≡_};
-ghost use Rattle.listings.specs.Outputs.{printed, count};
-ghost use Rattle.listing.specs.Texts.{textListing};
+ghost use Rattle.listings.specs.Outputs.{count, printed};
+ghost use Rattle.listing.specs.Texts.{listingOf};
 use libc::STDIN_FILENO;
 use libc::STDOUT_FILENO;
+use text::Answer;
 
-// The most bytes of a text, and one more to see that a text is longer.
-const TEXT_BYTES: usize = 16385;
-
-// Prints what a set text lists from the start of an output on, and gives how many bytes it printed.
-fn print(text: &[u8], out: &mut [u8]) -> usize
-    ensures { λ r. ⌜ (r ≡ count (textListing (now (text .entry))) (now (out .entry)))
-        × (now (out .exit) ≡ printed (textListing (now (text .entry))) (now (out .entry))) ⌝ }
+// Prints the listing of a set text from the start of an output on, and gives how many bytes it printed.
+fn list_text(text: &[u8], out: &mut [u8]) -> usize
+    ensures { λ r. ⌜ (r ≡ count (listingOf (now (text .entry))) (now (out .entry)))
+        × (now (out .exit) ≡ printed (listingOf (now (text .entry))) (now (out .entry))) ⌝ }
 {
     let mut set = [0u8; 1024];
     let mut map = [0u8; 512];
     let answer = text::read(text, &mut set, &mut map);
     match answer {
-        text::Answer::Read { statements, cells } => {
+        Answer::Read { statements, cells } => {
             let size = 8 * (statements as usize);
             let length = 4 * (cells as usize);
             listings::list(&set[..size], &map[..length], out)
         }
-        text::Answer::Refused { number, place } => listings::refused(number, out),
+        Answer::Refused { number, place } => listings::refused(number, out),
     }
 }
 
+// One byte more than a text may have shows that it is too long. 4,112 bytes are room for every listing.
 fn main() {
-    let mut text = [0u8; TEXT_BYTES];
-    let mut out = [0u8; listings::BYTES];
-    let n = io::read_full(STDIN_FILENO, &mut text);
-    let m = print(&text[..n], &mut out);
-    io::write_all(STDOUT_FILENO, &out[..m]);
+    let mut text = [0u8; 16385];
+    let mut out = [0u8; 4112];
+    let size = io::read_full(STDIN_FILENO, &mut text);
+    let length = list_text(&text[..size], &mut out);
+    io::write_all(STDOUT_FILENO, &out[..length]);
 }

@@ -20,9 +20,6 @@ use lines::line;
 use lines::refusal;
 use step::Answer;
 
-// The most bytes of a listing: 64 lines of 64 bytes, and a last line of 16.
-pub const BYTES: usize = 4112;
-
 // The schedule byte of candidate j: executes by thread, then flushes by thread.
 fn candidate(j: u8) -> u8
     requires { ⌜ j < 8 ⌝ }

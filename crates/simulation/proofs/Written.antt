@@ -5,16 +5,12 @@ use mathlib.Core.List.{List, [], _++_}
 use native.Mathlib.Nat.{zero-add}
 use native.Mathlib.Omega.{arith}
 use lib.ListN.{length, take, drop}
-use Rattle.base.specs.Bytes.{splice, placed, over}
-use Rattle.base.proofs.Bytes.{placed-fits, over-none}
+use Rattle.base.specs.Bytes.{placed, over}
+use Rattle.base.proofs.Bytes.{placed-over, over-none}
 use Rattle.runs.specs.Walks.{Begins}
 use Rattle.simulation.specs.Simulation.{bytesOut, outputOver}
 use Rattle.step.specs.declared.Answer.{Answer}
 use Rattle.step.specs.declared.Answer.the-variants.{Ran, Refused}
-
-pub placed-over : (xs ys : List ℕ) → length ys ≤ length xs → placed xs 0 ys ≡ over ys xs
-unfolding splice over
-placed-over xs ys h = placed-fits xs 0 ys (omega arith) ∙ ap (λ (n : ℕ). ys ++ drop n xs) (zero-add (length ys))
 
 -- more than there is is never written
 pub out-most : (a : Answer) (n : ℕ) → bytesOut a n ≤ n

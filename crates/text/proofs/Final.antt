@@ -12,6 +12,7 @@ use Rattle.base.proofs.Choice.{chosen, passed, cond-both}
 use Rattle.lines.specs.Lines.{isDot, statementLine, mapLine}
 use Rattle.lines.specs.declared.Stated.{Stated}
 use Rattle.lines.specs.declared.Cell.{Cell}
+use Rattle.text.proofs.Inserted.{length-inserted}
 use Rattle.text.specs.Sections.{Threads, dots, isGood, halt, added, isComplete, gained, closed, lineAdded, threadsFrom, lower, higher, inserted, cellAdded, cellsFrom}
 
 -- ---- threads
@@ -85,11 +86,6 @@ grows-from T [] = stays T
 grows-from T (l ∷ ls) = grows-then (cond (isDot l) 1 0) (dots ls) T (turned l ls T) (threadsFrom (turned l ls T) ls) (grows-turned l ls T) (grows-from (turned l ls T) ls)
 
 -- ---- cells
-
-pub length-inserted : (c : Cell) (ds : List Cell) → length (inserted c ds) ≡ suc (length ds)
-unfolding inserted
-length-inserted c [] = refl
-length-inserted c (d ∷ ds) = ap suc (length-inserted (higher c d) ds)
 
 length-added : (l : List ℕ) (ds : List Cell) → length ds ≤ length (cellAdded l ds)
 unfolding cellAdded

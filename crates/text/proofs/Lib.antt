@@ -1,5 +1,6 @@
 -- Laws of reading a text, of its records and of the code that reads it, and samples.
 pub mod Accepted
+pub mod Answered
 pub mod Below
 mod Blocks
 mod Carried

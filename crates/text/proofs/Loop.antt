@@ -25,7 +25,8 @@ use Rattle.text.specs.declared.Answer.{Answer}
 use Rattle.text.specs.declared.Answer.the-variants.{Refused}
 use Rattle.text.specs.declared.Reading.{Reading}
 use Rattle.text.proofs.Carried.{cells-length}
-use Rattle.text.proofs.Final.{turned, Grows, grows-turned, grows-from, length-inserted, length-from}
+use Rattle.text.proofs.Final.{turned, Grows, grows-turned, grows-from, length-from}
+use Rattle.text.proofs.Inserted.{length-inserted}
 use Rattle.text.proofs.Pieces.{lines-next, lines-start, lines-end}
 
 -- the lines `rest` are still to come

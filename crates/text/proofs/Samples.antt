@@ -11,7 +11,7 @@ use Rattle.lines.specs.Lines.{lines, isDot, padded, isLabel, stated, numbered, 
 use Rattle.text.specs.Sections.{dots, added, gained, closed, lineAdded, threadsFrom, threads, inserted, cellAdded, cellsFrom, cells}
 use Rattle.text.specs.Records.{joined, pcOf, argumentOf, statementBytes, threadBytes, setBytes, statementsBefore, cellBytes, mapBytes}
 use Rattle.text.specs.Answers.{refusalIn, inLines, statementsFit, doubledAt, targetFits, threadFits, labelsFit, checkpointsFit, addressDoubled, mapFits, whole, answer}
-use Rattle.text.specs.declared.Answer.the-variants.{Read, Refused}
+use Rattle.text.specs.declared.Answer.the-variants.{Read}
 
 -- the listing program's example
 example : List ℕ

@@ -4,13 +4,10 @@ use mathlib.Core.Path.{_≡_, refl, ap, sym, _∙_}
 use mathlib.Core.List.{List, [], _∷_, _++_}
 use mathlib.Core.Bool.{Bool, true, false, cond, not, _&&_}
 use native.Mathlib.Omega.{arith}
-use native.Mathlib.Nat.{zero-add}
 use native.Mathlib.Decide.{decLt}
 use lib.Dec.{leb, ltb}
 use lib.ListN.{length, take, drop}
 use borrow.Author.Tests.{le-ltb, lt-ltb}
-use Rattle.base.specs.Bytes.{splice, placed, over}
-use Rattle.base.proofs.Bytes.{placed-fits}
 use Rattle.base.proofs.Choice.{chosen, passed, cond-ap}
 use Rattle.lines.specs.Lines.{lines}
 use Rattle.lines.specs.declared.Cell.{Cell}
@@ -22,11 +19,6 @@ use Rattle.text.specs.declared.Answer.{Answer}
 use Rattle.text.specs.declared.Answer.the-variants.{Read, Refused}
 use Rattle.text.specs.declared.Reading.{Reading}
 use Rattle.text.proofs.Maps.{cells-ordered, map-fits}
-
--- bytes written at the start
-pub placed-over : (xs ys : List ℕ) → length ys ≤ length xs → placed xs 0 ys ≡ over ys xs
-unfolding splice over
-placed-over xs ys h = placed-fits xs 0 ys (omega arith) ∙ ap (λ (n : ℕ). ys ++ drop n xs) (zero-add (length ys))
 
 -- what is kept of a text stands for its threads and cells
 module _ (text : List ℕ) (r : Reading) (draft keys : List ℕ) (read : ReadsLines text r draft keys) (good : r .refusal ≡ 0) where

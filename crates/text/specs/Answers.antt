@@ -50,7 +50,7 @@ threadsFit T = ltb 0 (T .ended) && leb (T .ended) 4
 unfoldable pub statementsFit : Threads → Bool
 statementsFit T = every (T .ended) (λ t. ltb 0 (T .count t) && leb (T .count t) 32)
 
--- a label doubled in its thread, whose n statements x gives by pc
+-- a label doubled in its thread, whose statements x gives by pc
 unfoldable pub doubledAt : (ℕ → Stated) → ℕ → Bool
 doubledAt x p = isNamed (x p .label) && some p (λ q. same (x q .label) (x p .label))
 

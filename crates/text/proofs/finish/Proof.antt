@@ -1,7 +1,7 @@
 use Rattle.text.specs.declared.Answer.{Answer}
 use Rattle.text.specs.Readings.{Few, roomed, setPart, mapPart}
 use Rattle.text.specs.Answers.{outputBy}
-use Rattle.text.proofs.Whole.{placed-over}
+use Rattle.base.proofs.Bytes.{placed-over}
 use Rattle.base.proofs.Choice.{chosen, passed, and-left, and-right}
 use Rattle.base.specs.Bytes.{over}
 use lib.Seq.{length-take-le}
