@@ -69,6 +69,14 @@ module _ (S : Set) (h : Held) (c : Choice) where
 
 -- ---- a run of lowest choices
 
+-- what is printed by how the lowest choice comes out
+pub by-lowest : (S : Set) (h : Held) (w : Written) (n : ℕ) (c : Choice) (o : Outcome) → lowest S (h .state) ≡ c → outcome S h c ≡ o →
+    listingFrom S h w (suc n) ≡ onLowest o (line S (h .state) w c ++ listingFrom S (advanced S h c) (written S (h .state) c) n) (lastLine (endOf S (h .state)))
+unfolding listingFrom
+by-lowest S h w n c o e f =
+    ap (λ (d : Choice). onLowest (outcome S h d) (line S (h .state) w d ++ listingFrom S (advanced S h d) (written S (h .state) d) n) (lastLine (endOf S (h .state)))) e
+    ∙ ap (λ (p : Outcome). onLowest p (line S (h .state) w c ++ listingFrom S (advanced S h c) (written S (h .state) c) n) (lastLine (endOf S (h .state)))) f
+
 -- all of a run is taken, and a listing is its lines, then what is printed from its end on with n steps left
 pub record Follows (S : Set) (h : Held) (listing : List ℕ) (run : List Choice) (n : ℕ) : Type 0 where
   pub taken : AllTaken S h run
@@ -82,13 +90,10 @@ module _ (S : Set) (h : Held) where
   -- the lowest choice is taken
   follows-more : (listing : List ℕ) (run : List Choice) (n : ℕ) (c : Choice) → Follows S h listing run (suc n) →
       outcome S (heldAfter S h run) c ≡ Taken → lowest S (heldAfter S h run .state) ≡ c → Follows S h listing (run ++ (c ∷ [])) n
-  unfolding listingFrom
   follows-more listing run n c f o e =
       let H = heldAfter S h run in
       let W = wroteAfter S h noWrite run in
-      let next : listingFrom S H W (suc n) ≡ line S (H .state) W c ++ listingFrom S (advanced S H c) (written S (H .state) c) n
-      = ap (λ (d : Choice). onLowest (outcome S H d) (line S (H .state) W d ++ listingFrom S (advanced S H d) (written S (H .state) d) n) (lastLine (endOf S (H .state)))) e
-      ∙ ap (λ (p : Outcome). onLowest p (line S (H .state) W c ++ listingFrom S (advanced S H c) (written S (H .state) c) n) (lastLine (endOf S (H .state)))) o in
+      let next = by-lowest S H W n c Taken e o in
       record {
         taken = taken-more S c h run (f .taken) o;
         rest =
@@ -154,7 +159,6 @@ module _ (set map : List ℕ) (a : accepts set map ≡ true) where
   refused-next : (bytes : List ℕ) (n number place : ℕ) → length bytes < 64 → AllTaken (setOf set) (begin map) (choices bytes) →
       simulated set map (bytes ++ (nextByte set map bytes ∷ [])) 1536 ≡ Refused number place →
       listingFrom (setOf set) (heldBy bytes) (wroteBy bytes) (suc n) ≡ cond (eqb number 14) (refusedLine 14) (lastOf (simulated set map bytes 1536))
-  unfolding listingFrom
   refused-next bytes n number place l taken p = go (outcome S H (choiceOf b)) refl _ _ _ (sym (decided bytes b l taken) ∙ p)
     where
       S : Set
@@ -169,10 +173,6 @@ module _ (set map : List ℕ) (a : accepts set map ≡ true) where
       c : Choice
       c = lowest S (H .state)
 
-      shows : (o : Outcome) → outcome S H c ≡ o →
-          listingFrom S H (wroteBy bytes) (suc n) ≡ onLowest o (line S (H .state) (wroteBy bytes) c ++ listingFrom S (advanced S H c) (written S (H .state) c) n) (lastLine (endOf S (H .state)))
-      shows o e = ap (λ (p : Outcome). onLowest p (line S (H .state) (wroteBy bytes) c ++ listingFrom S (advanced S H c) (written S (H .state) c) n) (lastLine (endOf S (H .state)))) e
-
       same : choiceOf b ≡ found S four (H .state)
       same = byte-found bytes l taken
 
@@ -186,12 +186,12 @@ module _ (set map : List ℕ) (a : accepts set map ≡ true) where
           let q : Refused 12 i ≡ Refused number place = ap (λ (o : Outcome). onOutcome o i (Ran m d)) (sym e) ∙ r in
           let k : 12 ≡ number = cc in
           let t = subst (λ (c : Choice). takes S (H .state) c ≡ false) same (not-permitted-takes S H (choiceOf b) e) in
-          shows NotPermitted (takes-not S H c (found-none S four (H .state) t)) ∙ sym (finished bytes (omega arith) taken) ∙ ap printed k
+          by-lowest S H (wroteBy bytes) n c NotPermitted refl (takes-not S H c (found-none S four (H .state) t)) ∙ sym (finished bytes (omega arith) taken) ∙ ap printed k
       go Lacking e i m d r =
           let q : Refused 14 i ≡ Refused number place = ap (λ (o : Outcome). onOutcome o i (Ran m d)) (sym e) ∙ r in
           let k : 14 ≡ number = cc in
           let t = subst (λ (c : Choice). takes S (H .state) c ≡ true) same (lacking-takes S H (choiceOf b) e) in
-          shows Lacking (ap (outcome S H) (found-lowest S four (H .state) t ∙ sym same) ∙ e) ∙ ap printed k
+          by-lowest S H (wroteBy bytes) n (choiceOf b) Lacking (found-lowest S four (H .state) t ∙ sym same) e ∙ ap printed k
 
   pub stops : (listing bytes : List ℕ) (n number place : ℕ) → length bytes < 64 → Follows (setOf set) (begin map) listing (choices bytes) (suc n) →
       simulated set map (bytes ++ (nextByte set map bytes ∷ [])) 1536 ≡ Refused number place →
