@@ -1,6 +1,6 @@
 //! The second simulator and the second reader: document 01's machine, simulation, replay, set texts
 //! and listing in plain Rust.
-//! It is written from document 01 alone, so that the proved library can be compared with it.
+//! It is written from document 01 and the readings in docs/DECISIONS.md, so that the proved library can be compared with it.
 
 pub mod answers;
 pub mod cases;
