@@ -5,7 +5,7 @@ ghost use mathlib.Core.Bool.{true, not, _&&_};
 ghost use lib.Dec.{eqb, ltb};
 ghost use lib.ListN.{length, drop, take, getD};
 ghost use Rattle.base.specs.Below.{every};
-ghost use Rattle.lines.specs.Bytes.{allowed as allowedOf, isBlank, isDigit, digits, pastDigits, testOf, run as runOf, skip as skipOf, onlyBlanks, endsWith, name as nameOf, pastName, value as valueOf, valueAfter};
+ghost use Rattle.lines.specs.Bytes.{allowed as allowedOf, isBlank, isDigit, digits, pastDigits, testOf, run as runOf, skip as skipOf, onlyBlanks, endsWith, value as valueOf, valueAfter};
 ghost use Rattle.lines.specs.Lines.{isAllowed, uncommented as uncommentedOf};
 use crate::Class;
 
@@ -150,20 +150,14 @@ pub fn ends_with(b: u8, s: &[u8]) -> bool
     (base::byte_at(s, 0) == b) & only_blanks(past(s, 1))
 }
 
-// The name at the start of s.
-pub fn name(s: &[u8]) -> &[u8]
-    ensures { λ r. ⌜ now r ≡ nameOf (now (s .entry)) ⌝ }
+// The first n bytes of s, or as many as there are.
+pub fn front(s: &[u8], n: usize) -> &[u8]
+    ensures { λ r. ⌜ now r ≡ take n (now (s .entry)) ⌝ }
 {
-    let n = run(s, Class::Name);
-    &s[..n]
-}
-
-// s past the name at its start.
-pub fn past_name(s: &[u8]) -> &[u8]
-    ensures { λ r. ⌜ now r ≡ pastName (now (s .entry)) ⌝ }
-{
-    let n = run(s, Class::Name);
-    &s[n..]
+    if n <= s.len() {
+        return &s[..n];
+    }
+    &s[..s.len()]
 }
 
 // A digit more; 65,536 stands for every number above 65,535.
