@@ -88,8 +88,9 @@ fn bracketed(label: [u8; 16], number: u8, s: &[u8]) -> Stated
 fn targeted(label: [u8; 16], number: u8, s: &[u8]) -> Stated
     ensures { λ r. ⌜ r ≡ targetedOf label number (now (s .entry)) ⌝ }
 {
-    let w = items::name(s);
-    let whole = is_label(w) & items::only_blanks(items::past_name(s));
+    let n = items::run(s, Class::Name);
+    let w = items::front(s, n);
+    let whole = is_label(w) & items::only_blanks(items::past(s, n));
     if whole {
         return Stated {
             form: Form::Good,
@@ -142,16 +143,18 @@ fn after_word(label: [u8; 16], number: u8, s: &[u8]) -> Stated
 fn worded(label: [u8; 16], s: &[u8]) -> Stated
     ensures { λ r. ⌜ r ≡ wordedOf label (now (s .entry)) ⌝ }
 {
-    let number = records::instructions::number_of(items::name(s));
-    after_word(label, number, items::past_name(s))
+    let n = items::run(s, Class::Name);
+    let number = records::instructions::number_of(items::front(s, n));
+    after_word(label, number, items::past(s, n))
 }
 
 // An optional label and ":", and what follows it.
 fn labelled(s: &[u8]) -> Stated
     ensures { λ r. ⌜ r ≡ labelledOf (now (s .entry)) ⌝ }
 {
-    let w = items::name(s);
-    let rest = items::skip(items::past_name(s));
+    let n = items::run(s, Class::Name);
+    let w = items::front(s, n);
+    let rest = items::skip(items::past(s, n));
     if base::byte_at(rest, 0) == b':' {
         if is_label(w) {
             return worded(padded(w), items::skip(items::past(rest, 1)));

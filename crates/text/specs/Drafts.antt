@@ -1,7 +1,7 @@
 -- What reading keeps of a text before its records are written: statements and cells read so far. Assumes nothing.
-use Prim.Native.Nat.{ℕ, _+_, _*_, _/_, _%_}
+use Prim.Native.Nat.{ℕ, _+_, _-_, _*_, _/_, _%_}
 use mathlib.Core.Bool.{Bool, cond, _&&_}
-use mathlib.Core.List.{List, [], _∷_}
+use mathlib.Core.List.{List, [], _∷_, _++_}
 use lib.Dec.{ltb, leb}
 use lib.ListN.{length, getD, take, drop}
 use Rattle.base.specs.Bytes.{wordAt}
@@ -9,7 +9,7 @@ use Rattle.lines.specs.Lines.{lines}
 use Rattle.lines.specs.declared.Form.the-variants.{Good}
 use Rattle.lines.specs.declared.Stated.{Stated}
 use Rattle.lines.specs.declared.Cell.{Cell}
-use Rattle.text.specs.Sections.{Threads, halt}
+use Rattle.text.specs.Sections.{Threads, halt, inserted}
 
 -- the statement in block k, 36 bytes: instruction number, mode, argument (2), label (16), target (16)
 abbrev pub blockAt : List ℕ → ℕ → Stated
@@ -45,6 +45,10 @@ cellOfKey key = record { form = Good; address = key / 65536; value = key % 65536
 unfoldable pub cellsOf : List ℕ → List Cell
 cellsOf [] = []
 cellsOf (key ∷ keys) = cellOfKey key ∷ cellsOf keys
+
+-- the first n cells with one more, which has come to place i: those before it, and it put among the others
+abbrev pub carriedAt : ℕ → List ℕ → ℕ → ℕ → List Cell
+carriedAt n keys i carried = cellsOf (take i keys) ++ inserted (cellOfKey carried) (cellsOf (take (n - i) (drop i keys)))
 
 -- the lines that start at index i or after it; none past the end
 unfoldable pub linesFrom : List ℕ → ℕ → List (List ℕ)

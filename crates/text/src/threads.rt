@@ -12,12 +12,46 @@ use crate::drafts;
 use lines::Stated;
 use records::instructions::is_jump;
 
+// Whether two labels of sixteen bytes are the same. Sixteen tests without a branch are one comparison of the machine.
+fn sixteen(a: &[u8], b: &[u8]) -> bool
+    requires { ⌜ (length (now a) ≡ 16) × (length (now b) ≡ 16) ⌝ }
+    ensures { λ r. ⌜ r ≡ same (now (a .entry)) (now (b .entry)) ⌝ }
+{
+    (a[0] == b[0])
+        & (a[1] == b[1])
+        & (a[2] == b[2])
+        & (a[3] == b[3])
+        & (a[4] == b[4])
+        & (a[5] == b[5])
+        & (a[6] == b[6])
+        & (a[7] == b[7])
+        & (a[8] == b[8])
+        & (a[9] == b[9])
+        & (a[10] == b[10])
+        & (a[11] == b[11])
+        & (a[12] == b[12])
+        & (a[13] == b[13])
+        & (a[14] == b[14])
+        & (a[15] == b[15])
+}
+
+// Whether two labels are the same.
+fn same_label(a: &[u8], b: &[u8]) -> bool
+    ensures { λ r. ⌜ r ≡ same (now (a .entry)) (now (b .entry)) ⌝ }
+{
+    let whole = (a.len() == Stated::LABEL) & (b.len() == Stated::LABEL);
+    if whole {
+        return sixteen(a, b);
+    }
+    base::same(a, b)
+}
+
 // Whether a label is there.
 fn is_named(label: &[u8]) -> bool
     ensures { λ r. ⌜ r ≡ isNamed (now (label .entry)) ⌝ }
 {
     let none = [0u8; Stated::LABEL];
-    !base::same(label, &none)
+    !same_label(label, &none)
 }
 
 // The block of thread t's statement p.
@@ -34,7 +68,7 @@ fn find(draft: &[u8], t: u16, n: u16, label: &[u8]) -> u16
     let mut p: u16 = 0;
     while p < n {
         let other = drafts::label(draft, block(t, p));
-        if base::same(other, label) {
+        if same_label(other, label) {
             return p;
         }
         p += 1;

@@ -11,6 +11,9 @@ use Rattle.lines.proofs.items.passes.Tie as tie
 enum-told : tie.Need-enum-told
 enum-told c = search needs
 
+allowed-requires : tie.Need-allowed-requires
+allowed-requires c κs = search needs
+
 enum-told-2 : tie.Need-enum-told-2
 enum-told-2 c = search needs
 
@@ -36,7 +39,7 @@ enum-told-6 : tie.Need-enum-told-6
 enum-told-6 c = search needs
 
 returns : tie.Need-returns
-returns c = sym (ap (λ (k : Class). testOf k (c .before .before .args .b)) (c .enum-told .given .1))
+returns c = c .allowed .ensures ∙ sym (ap (λ (k : Class). testOf k (c .before .before .before .args .b)) (c .before .enum-told .given .1))
 
 returns-2 : tie.Need-returns-2
 returns-2 c = c .is-blank .ensures ∙ sym (ap (λ (k : Class). testOf k (c .before .before .before .args .b)) (c .before .enum-told2 .given .1))
@@ -59,6 +62,7 @@ passes-spec =
     tie.close
     (tie.spec
     enum-told
+    allowed-requires
     enum-told-2
     is-blank-requires
     enum-told-3

@@ -1,7 +1,6 @@
 -- `lines::items::run` meets its contract. The run is i bytes and the run from i on. Assumes nothing.
 use Prim.Native.Nat.{_≤_, _+_, _-_}
 use mathlib.Core.Path.{_≡_, sym, _∙_}
-use native.Mathlib.Nat.{zero-add}
 use native.Mathlib.Omega.{arith}
 use borrow.Author.Needs.{needs}
 use lib.ListN.{length, drop}
@@ -16,8 +15,11 @@ Inv-loop s class i₀ i = (i ≤ length s) × (run (testOf class) s ≡ i + run 
 abbrev μ-loop : tie.MeasureT-loop
 μ-loop s class i₀ i = length s - i
 
+eights-requires : tie.Need-eights-requires Inv-loop μ-loop
+eights-requires c κs = search needs
+
 loop-holds : tie.Need-loop-holds Inv-loop μ-loop
-loop-holds c = (search needs, sym (zero-add _))
+loop-holds c = c .eights .ensures
 
 shared-slice-read-passes : tie.Need-shared-slice-read-passes Inv-loop μ-loop
 shared-slice-read-passes c = search needs
@@ -50,6 +52,7 @@ run-spec =
     (tie.spec
     Inv-loop
     μ-loop
+    eights-requires
     loop-holds
     shared-slice-read-passes
     passes-requires

@@ -5,6 +5,7 @@ use mathlib.Core.List.{List}
 use mathlib.Core.Path.{_≡_, ap, ap₂, sym, _∙_}
 use denote.Ref.{now}
 use borrow.Author.Needs.{needs}
+use lib.ListN.{take, drop}
 use Rattle.base.proofs.Choice.{chosen, passed, and-left}
 use Rattle.lines.specs.Bytes.{onlyBlanks, name, pastName}
 use Rattle.lines.specs.Lines.{padded, isLabel, targeted}
@@ -14,22 +15,29 @@ use Rattle.lines.proofs.Runs.{label-short}
 use Rattle.lines.proofs.statements.targeted.Statement.{statement}
 use Rattle.lines.proofs.statements.targeted.Tie as tie
 
+-- the name
+named : (c : tie.After-front) → now (c .front .result) ≡ name (now (c .before .before .before .args .s))
+named c = c .front .ensures ∙ ap (λ (n : ℕ). take n (now (c .before .before .before .args .s))) (c .before .run .ensures .0)
+
 -- what the code tests is the definition's test
 whole : (c : tie.After-only-blanks) →
-    let s = now (c .before .before .before .before .before .args .s) in
+    let s = now (c .before .before .before .before .before .before .args .s) in
     (c .before .before .is-label .result && c .only-blanks .result) ≡ (isLabel (name s) && onlyBlanks (pastName s))
 whole c =
-    ap₂ (λ (t u : Bool). t && u) (c .before .before .is-label .ensures ∙ ap isLabel (c .before .before .before .name .ensures))
-    (c .only-blanks .ensures ∙ ap onlyBlanks (c .before .past-name .ensures))
+    ap₂ (λ (t u : Bool). t && u) (c .before .before .is-label .ensures ∙ ap isLabel (named (c .before .before .before)))
+    (c .only-blanks .ensures ∙ ap onlyBlanks (c .before .past .ensures ∙ ap (λ (n : ℕ). drop n (now (c .before .before .before .before .before .before .args .s))) (c .before .before .before .before .run .ensures .0)))
 
-name-requires : tie.Need-name-requires
-name-requires c κs = search needs
+run-requires : tie.Need-run-requires
+run-requires c κs = search needs
+
+front-requires : tie.Need-front-requires
+front-requires c κs = search needs
 
 is-label-requires : tie.Need-is-label-requires
 is-label-requires c κs = search needs
 
-past-name-requires : tie.Need-past-name-requires
-past-name-requires c κs = search needs
+past-requires : tie.Need-past-requires
+past-requires c κs = search needs
 
 only-blanks-requires : tie.Need-only-blanks-requires
 only-blanks-requires c κs = search needs
@@ -42,9 +50,9 @@ padded-requires c κs =
 returns : tie.Need-returns
 unfolding targeted
 returns c =
-    let a = c .before .before .before .before .before .before .before .args in
+    let a = c .before .before .before .before .before .before .before .before .args in
     let to : List ℕ → Stated = λ (t : List ℕ). record { form = Good; label = a .label; number = a .number; mode = 0; argument = 0; target = t } in
-    ap to (c .padded .ensures ∙ ap padded (c .before .before .before .before .before .name .ensures))
+    ap to (c .padded .ensures ∙ ap padded (named (c .before .before .before .before .before)))
     ∙ sym (chosen _ _ (sym (whole (c .before .before)) ∙ c .before .if1 .taken))
 
 none-requires : tie.Need-none-requires
@@ -58,9 +66,10 @@ pub targeted-spec : {M : Type 1} → statement M
 targeted-spec =
     tie.close
     (tie.spec
-    name-requires
+    run-requires
+    front-requires
     is-label-requires
-    past-name-requires
+    past-requires
     only-blanks-requires
     padded-requires
     returns

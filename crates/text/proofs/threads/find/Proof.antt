@@ -13,7 +13,7 @@ use Rattle.text.proofs.threads.find.Statement.{statement}
 use Rattle.text.proofs.threads.find.Tie as tie
 use Rattle.text.proofs.threads.find.Reads as reads
 use Rattle.text.proofs.threads.find.Lts as lts
-use Rattle.base.proofs.same.Reads as same-reads
+use Rattle.text.proofs.threads.same_label.Reads as same-label-reads
 use Rattle.text.proofs.drafts.label.Reads as label-reads
 use Rattle.text.proofs.threads.block.Reads as block-reads
 
@@ -37,14 +37,14 @@ label-requires : tie.Need-label-requires Inv-loop μ-loop
 label-requires c κs = search needs
 
 -- src/threads.rt:36:12
-same-requires : tie.Need-same-requires Inv-loop μ-loop
-same-requires c κs = search needs
+same-label-requires : tie.Need-same-label-requires Inv-loop μ-loop
+same-label-requires c κs = search needs
 
 -- src/threads.rt:37:13
 returns : tie.Need-returns Inv-loop μ-loop
 returns c = let a = c .before .before .before .before .before .before .before .before .args in let l = c .before .before .before .before .before .loop in
     sym (least-hit (λ q. same (blockAt (now (a .draft)) (32 * a .t + q) .label) (now (a .label))) (a .n) (l .p) (l .inv .1)
-    (ap (λ (s : List ℕ). same s (now (a .label))) (sym (c .before .before .label .ensures ∙ ap (λ (k : ℕ). take 16 (drop (36 * k + 4) (now (a .draft)))) (c .before .before .before .block .ensures))) ∙ sym (c .before .same .ensures) ∙ c .if1 .taken) (c .before .before .before .before .loop-test .taken))
+    (ap (λ (s : List ℕ). same s (now (a .label))) (sym (c .before .before .label .ensures ∙ ap (λ (k : ℕ). take 16 (drop (36 * k + 4) (now (a .draft)))) (c .before .before .before .block .ensures))) ∙ sym (c .before .same-label .ensures) ∙ c .if1 .taken) (c .before .before .before .before .loop-test .taken))
 
 -- src/threads.rt:39:9
 add-p : tie.Need-add-p Inv-loop μ-loop
@@ -59,7 +59,7 @@ loop-again : tie.Need-loop-again Inv-loop μ-loop
 loop-again c = let a = c .before .before .before .before .before .before .before .before .args in let l = c .before .before .before .before .before .loop in (
   search needs,
   least-more (λ q. same (blockAt (now (a .draft)) (32 * a .t + q) .label) (now (a .label))) (l .p) (l .inv .1)
-      (ap (λ (s : List ℕ). same s (now (a .label))) (sym (c .before .before .label .ensures ∙ ap (λ (k : ℕ). take 16 (drop (36 * k + 4) (now (a .draft)))) (c .before .before .before .block .ensures))) ∙ sym (c .before .same .ensures) ∙ c .if1 .left),
+      (ap (λ (s : List ℕ). same s (now (a .label))) (sym (c .before .before .label .ensures ∙ ap (λ (k : ℕ). take 16 (drop (36 * k + 4) (now (a .draft)))) (c .before .before .before .block .ensures))) ∙ sym (c .before .same-label .ensures) ∙ c .if1 .left),
 )
 
 -- src/threads.rt:30:1
@@ -76,7 +76,7 @@ find-spec =
     loop-holds
     block-requires
     label-requires
-    same-requires
+    same-label-requires
     returns
     add-p
     loop-less
