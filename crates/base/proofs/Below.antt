@@ -1,14 +1,14 @@
 -- Laws of tests over the numbers below a bound: what one turn of a loop over them needs. Assumes nothing.
 use Prim.Native.Nat.{ℕ, zero, suc, _+_, _≤_, _<_}
-use mathlib.Core.Path.{_≡_, refl, ap, ap₂, sym, _∙_}
-use mathlib.Core.Bool.{Bool, true, false, cond, not, _&&_, _||_, true≢false}
+use mathlib.Core.Path.{_≡_, refl, ap, ap₂, _∙_}
+use mathlib.Core.Bool.{Bool, true, false, cond, not}
 use native.Mathlib.Omega.{arith}
 use native.Mathlib.Numerals.{add-one}
 use native.Mathlib.Decide.{ℕ-discrete, decLt}
-use borrow.Author.Tests.{lt-ltb, le-ltb, ltb-true, ltb-false, eq-eqb, ne-eqb}
+use borrow.Author.Tests.{lt-ltb, le-ltb, ltb-true, eq-eqb, ne-eqb}
 use lib.Dec.{ltb, eqb}
 use Rattle.base.specs.Below.{every, some, number, least}
-use Rattle.base.proofs.Choice.{chosen, passed, and-true, and-false, and-right-false, and-left, and-right, or-true, or-false, or-right-true, clash, cond-both}
+use Rattle.base.proofs.Choice.{chosen, passed, and-true, and-false, and-right-false, and-left, and-right, or-true, or-false, or-right-true, cond-both}
 
 module _ (test : ℕ → Bool) where
   -- ---- every

@@ -1,17 +1,17 @@
 -- Laws of bytes written at a place, and of lists of bytes that are the same. Assumes nothing.
-use Prim.Native.Nat.{ℕ, zero, suc, _+_, _-_, _≤_, _<_}
+use Prim.Native.Nat.{ℕ, suc, _+_, _-_, _≤_, _<_}
 use mathlib.Core.Path.{_≡_, refl, ap, sym, _∙_}
 use mathlib.Core.List.{List, [], _∷_, _++_, append-assoc, append-nil}
 use mathlib.Core.Bool.{Bool, true, false, cond, _&&_}
 use native.Mathlib.Omega.{arith}
-use native.Mathlib.Nat.{add-zero, zero-add}
+use native.Mathlib.Nat.{zero-add}
 use native.Mathlib.Numerals.{add-one}
 use lib.Dec.{eqb, leb}
-use lib.ListN.{length, getD, take, drop, length-append, length-take, length-drop, take-append-drop, drop-of-length-le}
+use lib.ListN.{length, getD, take, drop, length-append, length-drop, drop-of-length-le}
 use lib.Seq.{take-length, take-all, take-at, length-take-le, drop-cons, drop-drop, drop-append-add, take-append-seam}
 use borrow.Author.Tests.{le-leb, lt-leb, leb-true, eq-eqb, ne-eqb, eqb-true}
 use Rattle.base.specs.Bytes.{splice, placed, over, same}
-use Rattle.base.proofs.Choice.{chosen, passed, and-true, and-false, and-right-false, and-left, and-right, clash}
+use Rattle.base.proofs.Choice.{chosen, passed, and-true, and-right-false, and-left, and-right, clash}
 
 -- bytes that fit are written, others are not
 pub placed-fits : (xs : List ℕ) (i : ℕ) (ys : List ℕ) → i + length ys ≤ length xs → placed xs i ys ≡ splice xs i ys

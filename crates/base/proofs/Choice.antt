@@ -1,8 +1,7 @@
 -- Laws of a choice by a test, and of tests joined. Assumes nothing.
 use mathlib.Core.Path.{_≡_, refl, ap, sym, _∙_}
-use Prim.Native.Nat.{ℕ, _≤_, _<_}
-use native.Mathlib.Omega.{arith}
-use borrow.Author.Tests.{lt-leb, le-leb, ltb-false, ltb-true, lt-ltb, le-ltb}
+use Prim.Native.Nat.{ℕ}
+use borrow.Author.Tests.{lt-leb, le-leb, ltb-false, ltb-true}
 use lib.Dec.{leb, ltb}
 use mir.Val.{boolByte}
 use mathlib.Core.Bool.{Bool, true, false, cond, not, _&&_, _||_, true≢false}

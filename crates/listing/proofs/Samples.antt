@@ -11,8 +11,7 @@ use Rattle.step.specs.Maps.{begin, outcome, advanced}
 use Rattle.step.specs.Runs.{somePermitted, endOf}
 use Rattle.step.specs.Traces.{shown}
 use Rattle.lines.specs.Bytes.{run, valueAfter}
-use Rattle.lines.specs.Lines.{lines, isDot, padded, isLabel, stated, numbered, bracketed, targeted, argued, afterWord, worded, labelled, statement, statementLine, valued, addressed, mapLine}
-use Rattle.lines.specs.Lines.{cell as cellLine}
+use Rattle.lines.specs.Lines.{lines, isDot, padded, isLabel, stated, numbered, bracketed, targeted, argued, afterWord, worded, labelled, statement, statementLine, valued, addressed, mapLine, cell as cellLine}
 use Rattle.text.specs.Answers.{refusalIn, inLines, statementsFit, doubledAt, targetFits, threadFits, labelsFit, checkpointsFit, addressDoubled, mapFits, whole, answer}
 use Rattle.text.specs.Records.{joined, pcOf, argumentOf, statementBytes, threadBytes, setBytes, statementsBefore, cellBytes, mapBytes}
 use Rattle.text.specs.Sections.{dots, added, gained, closed, lineAdded, threadsFrom, inserted, cellAdded, cellsFrom}

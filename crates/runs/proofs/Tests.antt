@@ -1,6 +1,6 @@
 -- A test that stands before a search over the numbers below a bound. Assumes nothing.
 use Prim.Native.Nat.{ℕ, _+_, _<_}
-use mathlib.Core.Path.{_≡_, refl, ap, ap₂, sym, _∙_}
+use mathlib.Core.Path.{_≡_, refl, _∙_}
 use mathlib.Core.Bool.{Bool, true, false, _&&_, _||_}
 use native.Mathlib.Numerals.{add-one}
 use Rattle.base.specs.Below.{some}

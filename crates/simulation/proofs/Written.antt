@@ -1,11 +1,10 @@
 -- A trace written from the start of an output. Assumes nothing.
-use Prim.Native.Nat.{ℕ, _+_, _≤_}
+use Prim.Native.Nat.{ℕ, _≤_}
 use mathlib.Core.Path.{_≡_, ap, _∙_, sym}
-use mathlib.Core.List.{List, [], _++_}
-use native.Mathlib.Nat.{zero-add}
+use mathlib.Core.List.{List, []}
 use native.Mathlib.Omega.{arith}
-use lib.ListN.{length, take, drop}
-use Rattle.base.specs.Bytes.{placed, over}
+use lib.ListN.{length, take}
+use Rattle.base.specs.Bytes.{placed}
 use Rattle.base.proofs.Bytes.{placed-over, over-none}
 use Rattle.runs.specs.Walks.{Begins}
 use Rattle.simulation.specs.Simulation.{bytesOut, outputOver}

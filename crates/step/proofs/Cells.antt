@@ -1,8 +1,8 @@
 -- The sparse memory: the cells in use are a part of the arrays, and a store is a write of one cell, whether it is there already or not.
 -- Assumes nothing.
-use Prim.Native.Nat.{ℕ, suc, _+_, _≤_, _<_}
+use Prim.Native.Nat.{ℕ, _+_, _≤_, _<_}
 use mathlib.Core.Path.{_≡_, refl, ap, sym, _∙_, fun-ext}
-use mathlib.Core.Bool.{Bool, true, false, cond, _&&_, _||_}
+use mathlib.Core.Bool.{Bool, true, false, cond, _||_}
 use mathlib.Core.List.{List}
 use native.Mathlib.Omega.{arith}
 use native.Mathlib.Numerals.{add-one}
@@ -11,9 +11,9 @@ use lib.Dec.{eqb, ltb}
 use lib.ListN.{length, getD, set, take}
 use lib.Seq.{getD-set-same, getD-set-other, getD-take, length-take-le}
 use Rattle.base.specs.Below.{least}
-use Rattle.base.proofs.Below.{least-below, least-passes, least-ext}
+use Rattle.base.proofs.Below.{least-passes, least-ext}
 use Rattle.base.proofs.Choice.{chosen, passed, or-true, or-false, or-right-true}
-use Rattle.records.specs.Maps.{cellAt, holds, content}
+use Rattle.records.specs.Maps.{cellAt}
 use Rattle.step.specs.Held.{memoryOf, knownOf, memoryIn, knownIn}
 use Rattle.step.specs.Machine.{memoryAfter, wrote}
 use Rattle.step.specs.Maps.{knownAfter}

@@ -1,5 +1,5 @@
 -- Which choices are permitted, test by test as the code goes. Assumes nothing.
-use Prim.Native.Nat.{ℕ, _<_, _≤_}
+use Prim.Native.Nat.{_<_, _≤_}
 use mathlib.Core.Path.{_≡_, refl, ap, sym, _∙_}
 use mathlib.Core.Bool.{Bool, true, false, not, _&&_, _||_}
 use borrow.Author.Tests.{lt-ltb, le-ltb}
@@ -7,7 +7,7 @@ use lib.Dec.{ltb}
 use Rattle.base.proofs.Choice.{and-false, clash}
 use Rattle.records.specs.Sets.{Set}
 use Rattle.step.specs.Held.{allowed}
-use Rattle.step.specs.Machine.{State, current, actor, needsEmpty, isEmpty, waiting, permitted}
+use Rattle.step.specs.Machine.{State, current, actor, waiting, permitted}
 use Rattle.step.specs.declared.Choice.{Choice}
 use Rattle.step.specs.declared.Choice.the-variants.{Execute, Flush}
 

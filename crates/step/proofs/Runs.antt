@@ -9,7 +9,7 @@ use native.Mathlib.Decide.{decLt}
 use lib.Dec.{eqb, ltb}
 use lib.ListN.{length, take, drop, length-append}
 use lib.Seq.{take-at, drop-at, getD-take}
-use borrow.Author.Tests.{ltb-true, ltb-false, lt-ltb, le-ltb, eqb-true, eq-eqb, ne-eqb}
+use borrow.Author.Tests.{ltb-true, ltb-false, lt-ltb, le-ltb, eqb-true, ne-eqb}
 use Rattle.base.proofs.Choice.{chosen, passed, and-true, and-left, and-right, clash}
 use Rattle.records.specs.Instructions.{JMP, JZ, JNZ, JS, JNS, JNZNS, HALT, EXIT, instructions, isJump, isLast}
 use Rattle.records.specs.Sets.{Set, WellFormed}

@@ -1,11 +1,11 @@
 -- Laws of the threads and cells that the lines still to come leave. Assumes nothing.
-use Prim.Native.Nat.{ℕ, zero, suc, _+_, _≤_, _<_}
-use mathlib.Core.Path.{_≡_, refl, ap, sym, _∙_, subst}
+use Prim.Native.Nat.{ℕ, _+_, _≤_, _<_}
+use mathlib.Core.Path.{_≡_, refl, ap, _∙_, subst}
 use mathlib.Core.List.{List, [], _∷_}
 use mathlib.Core.Bool.{Bool, true, false, cond}
 use native.Mathlib.Omega.{arith}
 use native.Mathlib.Decide.{ℕ-discrete}
-use lib.Dec.{eqb, ltb}
+use lib.Dec.{eqb}
 use lib.ListN.{length}
 use borrow.Author.Tests.{eq-eqb, ne-eqb}
 use Rattle.base.proofs.Choice.{chosen, passed, cond-both}
@@ -13,7 +13,7 @@ use Rattle.lines.specs.Lines.{isDot, statementLine, mapLine}
 use Rattle.lines.specs.declared.Stated.{Stated}
 use Rattle.lines.specs.declared.Cell.{Cell}
 use Rattle.text.proofs.Inserted.{length-inserted}
-use Rattle.text.specs.Sections.{Threads, dots, isGood, halt, added, isComplete, gained, closed, lineAdded, threadsFrom, lower, higher, inserted, cellAdded, cellsFrom}
+use Rattle.text.specs.Sections.{Threads, dots, isGood, halt, added, isComplete, gained, closed, lineAdded, threadsFrom, inserted, cellAdded, cellsFrom}
 
 -- ---- threads
 

@@ -1,14 +1,14 @@
 -- Laws of the tests before records are written. Assumes nothing.
-use Prim.Native.Nat.{ℕ, zero, suc, _+_, _*_, _≤_, _<_}
+use Prim.Native.Nat.{ℕ, _*_, _≤_}
 use mathlib.Core.Path.{_≡_, refl, ap, sym, _∙_, subst}
-use mathlib.Core.List.{List, [], _∷_}
+use mathlib.Core.List.{List}
 use mathlib.Core.Bool.{Bool, true, false, cond, not, _&&_}
 use native.Mathlib.Omega.{arith}
 use native.Mathlib.Decide.{ℕ-discrete}
-use lib.Dec.{leb, eqb}
+use lib.Dec.{leb}
 use lib.ListN.{length, getD, take, List·getD-eq-default}
-use borrow.Author.Tests.{leb-true, le-leb, eq-eqb}
-use Rattle.base.proofs.Choice.{chosen, passed, and-left, and-right, and-true, clash}
+use borrow.Author.Tests.{leb-true, le-leb}
+use Rattle.base.proofs.Choice.{chosen, passed, and-left, and-right, and-true}
 use Rattle.lines.specs.declared.Cell.{Cell}
 use Rattle.text.specs.Answers.{threadsFit, statementsFit, labelsFit, checkpointsFit, mapFits, refused}
 use Rattle.text.specs.Readings.{threadsKept, ThreadsStand, threadsRefusal, checked, Written}

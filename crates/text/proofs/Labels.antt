@@ -1,7 +1,7 @@
 -- Laws of a thread's statements in their blocks, and of the search for a label. Assumes nothing.
 use Prim.Native.Nat.{ℕ, zero, suc, _+_, _*_, _≤_, _<_}
 use mathlib.Core.Path.{_≡_, refl, ap, ap₂, sym, _∙_}
-use mathlib.Core.List.{List, [], _∷_}
+use mathlib.Core.List.{List}
 use mathlib.Core.Bool.{Bool, true, false, cond, _&&_, _||_}
 use native.Mathlib.Omega.{arith}
 use native.Mathlib.Nat.{le-of-eq}
@@ -11,7 +11,7 @@ use lib.ListN.{length, getD, drop, drop-of-length-le}
 use borrow.Author.Tests.{lt-ltb, le-ltb, ltb-true}
 use Rattle.base.specs.Below.{every, some, least}
 use Rattle.base.specs.Bytes.{same}
-use Rattle.base.proofs.Below.{least-ext, least-below}
+use Rattle.base.proofs.Below.{least-ext}
 use Rattle.base.proofs.Bytes.{same-next}
 use Rattle.base.proofs.Choice.{chosen, passed, and-false, and-yes}
 use Rattle.text.specs.Drafts.{blockAt, drafted}

@@ -1,19 +1,18 @@
 -- What holds where a line starts: what is kept, and the lines still to come, give the whole text. Assumes nothing.
-use Prim.Native.Nat.{ℕ, zero, suc, _+_, _-_, _*_, _≤_, _<_, min}
+use Prim.Native.Nat.{ℕ, suc, _+_, _-_, _*_, _≤_, _<_, min}
 use mathlib.Core.Path.{_≡_, refl, ap, ap₂, sym, _∙_, subst}
 use mathlib.Core.List.{List, [], _∷_}
 use mathlib.Core.Bool.{Bool, true, false, cond, not, _&&_, _||_}
 use native.Mathlib.Omega.{arith}
-use native.Mathlib.Nat.{add-zero, min-eq-left, min-eq-right}
-use native.Mathlib.Numerals.{add-one}
+use native.Mathlib.Nat.{min-eq-left, min-eq-right}
 use native.Mathlib.Decide.{ℕ-discrete, decLt}
 use lib.Dec.{eqb, ltb, leb}
 use lib.ListN.{length, getD, take, drop, replicate, length-replicate, getD-replicate, List·getD-eq-default}
 use lib.Seq.{length-take-le}
-use borrow.Author.Tests.{eq-eqb, ne-eqb, eqb-true, lt-ltb, le-ltb, ltb-true, lt-leb, le-leb, leb-true}
+use borrow.Author.Tests.{eq-eqb, ne-eqb, eqb-true, lt-ltb, le-ltb, lt-leb, le-leb, leb-true}
 use Rattle.base.specs.Below.{every}
 use Rattle.base.proofs.Below.{every-not, every-all}
-use Rattle.base.proofs.Choice.{chosen, passed, and-true, and-false, and-left, and-right, and-right-false, or-left, clash}
+use Rattle.base.proofs.Choice.{chosen, passed, and-true, and-false, and-left, and-right, and-right-false, clash}
 use Rattle.lines.specs.Lines.{lines, isDot, statementLine, mapLine}
 use Rattle.lines.specs.Bytes.{isInLine, run}
 use Rattle.lines.specs.declared.Cell.{Cell}
@@ -27,7 +26,7 @@ use Rattle.text.specs.declared.Reading.{Reading}
 use Rattle.text.proofs.Carried.{cells-length}
 use Rattle.text.proofs.Final.{turned, Grows, grows-turned, grows-from, length-from}
 use Rattle.text.proofs.Inserted.{length-inserted}
-use Rattle.text.proofs.Pieces.{lines-next, lines-start, lines-end}
+use Rattle.text.proofs.Pieces.{lines-next}
 
 -- the lines `rest` are still to come
 pub record At (text : List ℕ) (r : Reading) (draft keys : List ℕ) (rest : List (List ℕ)) : Type 0 where

@@ -1,24 +1,22 @@
 -- Laws of one line taken: a section's end, a cell, a statement. Assumes nothing.
-use Prim.Native.Nat.{ℕ, zero, suc, _+_, _-_, _*_, _≤_, _<_, min}
+use Prim.Native.Nat.{ℕ, _+_, _-_, _*_, _≤_, _<_, min}
 use mathlib.Core.Path.{_≡_, refl, ap, ap₂, sym, _∙_}
-use mathlib.Core.List.{List, [], _∷_}
+use mathlib.Core.List.{List, []}
 use mathlib.Core.Bool.{Bool, true, false, cond, not, _&&_, _||_}
 use native.Mathlib.Omega.{arith}
 use native.Mathlib.Nat.{add-zero}
-use native.Mathlib.Decide.{decLt, ℕ-discrete}
+use native.Mathlib.Decide.{ℕ-discrete}
 use lib.Dec.{eqb, ltb}
-use lib.ListN.{length, getD}
-use borrow.Author.Tests.{eq-eqb, ne-eqb, lt-ltb, le-ltb, ltb-true, ltb-false}
-use Rattle.base.proofs.Choice.{chosen, passed, and-true, and-left, and-right, or-true, or-right-true, or-left, or-right, clash}
+use lib.ListN.{getD}
+use borrow.Author.Tests.{eq-eqb, lt-ltb, ltb-true, ltb-false}
+use Rattle.base.proofs.Choice.{chosen, passed, and-left, and-right, or-true, or-right-true, or-left, or-right, clash}
 use Rattle.lines.specs.Lines.{isDot, statementLine, mapLine}
-use Rattle.lines.specs.declared.Form.{Form}
 use Rattle.lines.specs.declared.Stated.{Stated}
-use Rattle.lines.specs.declared.Cell.{Cell}
 use Rattle.records.specs.Instructions.{isLast}
 use Rattle.text.specs.Answers.{refusalOf}
-use Rattle.text.specs.Drafts.{blockAt, drafted, threadsIn}
-use Rattle.text.specs.Readings.{threadsKept, cellsKept, openCount, Sound, Closes, States, Maps, Takes, threadsAfter, cellsAfter, misfits}
-use Rattle.text.specs.Sections.{Threads, halt, isGood, added, isComplete, gained, closed, lineAdded, cellAdded, inserted}
+use Rattle.text.specs.Drafts.{blockAt, threadsIn}
+use Rattle.text.specs.Readings.{threadsKept, cellsKept, openCount, Closes, States, Maps, Takes, misfits}
+use Rattle.text.specs.Sections.{Threads, halt, isGood, added, isComplete, gained, closed, lineAdded, cellAdded}
 use Rattle.text.specs.declared.Reading.{Reading}
 use Rattle.text.proofs.Kept.{complete}
 

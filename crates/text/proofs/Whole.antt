@@ -1,17 +1,15 @@
 -- From what the lines leave to the answer and the outputs. Assumes nothing.
-use Prim.Native.Nat.{ℕ, zero, suc, _+_, _*_, _≤_, _<_}
+use Prim.Native.Nat.{ℕ, _*_, _≤_, _<_}
 use mathlib.Core.Path.{_≡_, refl, ap, sym, _∙_}
-use mathlib.Core.List.{List, [], _∷_, _++_}
+use mathlib.Core.List.{List, []}
 use mathlib.Core.Bool.{Bool, true, false, cond, not, _&&_}
-use native.Mathlib.Omega.{arith}
-use native.Mathlib.Decide.{decLt}
-use lib.Dec.{leb, ltb}
-use lib.ListN.{length, take, drop}
+use lib.Dec.{leb}
+use lib.ListN.{length}
 use borrow.Author.Tests.{le-ltb, lt-ltb}
 use Rattle.base.proofs.Choice.{chosen, passed, cond-ap}
 use Rattle.lines.specs.Lines.{lines}
 use Rattle.lines.specs.declared.Cell.{Cell}
-use Rattle.text.specs.Answers.{refused, roomFits, threadsFit, statementsFit, labelsFit, checkpointsFit, mapFits, whole, inLines, answer, outputBy, setOutput, mapOutput}
+use Rattle.text.specs.Answers.{refused, threadsFit, statementsFit, labelsFit, checkpointsFit, mapFits, whole, inLines, answer, outputBy, setOutput, mapOutput}
 use Rattle.text.specs.Readings.{ReadsLines, ThreadsStand, CellsStand, checked, Written, Few, roomed, setPart, mapPart}
 use Rattle.text.specs.Records.{setBytes, statements, mapBytes}
 use Rattle.text.specs.Sections.{Threads, threads, cells}

@@ -1,3 +1,4 @@
+-- `base::byte_at` meets its contract. Assumes nothing.
 use denote.Ref.{now}
 use mathlib.Core.Path.{sym}
 use lib.ListN.{List·getD-eq-default}
@@ -7,15 +8,12 @@ use Rattle.base.proofs.byte_at.Tie as tie
 use Rattle.base.proofs.byte_at.Reads as reads
 use Rattle.base.proofs.byte_at.Lts as lts
 
--- src/lib.rt:33:22
 shared-slice-read-result : tie.Need-shared-slice-read-result
 shared-slice-read-result c = search needs
 
--- src/lib.rt:30:1
 returns : tie.Need-returns
 returns c = search needs
 
--- src/lib.rt:30:1
 returns-2 : tie.Need-returns-2
 returns-2 c = sym (List·getD-eq-default (now (c .before .args .s)) 0 (c .if1 .left))
 

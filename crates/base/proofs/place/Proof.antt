@@ -1,6 +1,7 @@
+-- `base::place` meets its contract. Assumes nothing.
 use denote.Ref.{now}
 use native.Mathlib.Omega.{arith}
-use mathlib.Core.Path.{sym, _∙_}
+use mathlib.Core.Path.{sym}
 use Rattle.base.proofs.Bytes.{copied, placed-not}
 use borrow.Author.Needs.{needs}
 use Rattle.base.proofs.place.Statement.{statement}
@@ -9,39 +10,31 @@ use Rattle.base.proofs.place.Reads as reads
 use Rattle.base.proofs.place.Lts as lts
 use Rattle.bytes.proofs.copy.Reads as copy-reads
 
--- src/lib.rt:55:32
 sub-copy : tie.Need-sub-copy
 sub-copy c = search needs
 
--- src/lib.rt:55:32
 part-copy-start : tie.Need-part-copy-start
 part-copy-start c = search needs
 
--- src/lib.rt:55:32
 part-copy-end : tie.Need-part-copy-end
 part-copy-end c = search needs
 
--- src/lib.rt:55:13
 copy-requires : tie.Need-copy-requires
 copy-requires c κs = search needs
 
--- src/lib.rt:49:1
 same-length : tie.Need-same-length
 same-length c = search needs
 
--- src/lib.rt:49:1
 returns : tie.Need-returns
 returns c =
     let a = c .before .before .before .before .before .before .before .before .args in
     rw (c .before .before .copy .ensures .1) (copied (now (a .out)) (now (a .bytes)) (a .i) (omega arith))
 
--- src/lib.rt:49:1
 returns-2 : tie.Need-returns-2
 returns-2 c =
     let a = c .before .before .before .before .args in
     sym (placed-not (now (a .out)) (a .i) (now (a .bytes)) (omega arith))
 
--- src/lib.rt:49:1
 returns-3 : tie.Need-returns-3
 returns-3 c =
     let a = c .before .before .before .args in

@@ -1,3 +1,4 @@
+-- `base::word_at` meets its contract. Assumes nothing.
 use denote.Ref.{now}
 use Prim.Native.Nat.{_≤_, _+_}
 use native.Mathlib.Omega.{arith}
@@ -9,7 +10,6 @@ use Rattle.base.proofs.word_at.Reads as reads
 use Rattle.base.proofs.word_at.Lts as lts
 use Rattle.base.proofs.byte_at.Reads as byte-at-reads
 
--- src/lib.rt:41:9
 returns : tie.Need-returns
 returns c =
     let s = c .before .before .args .s in
@@ -17,35 +17,27 @@ returns c =
     let h : length (now s) ≤ i + 1 = omega arith in
     omega (arith, List·getD-eq-default (now s) 0 (c .if1 .taken), List·getD-eq-default (now s) 0 h)
 
--- src/lib.rt:43:9
 byte-at-requires : tie.Need-byte-at-requires
 byte-at-requires c κs = search needs
 
--- src/lib.rt:44:27
 add-byte-at : tie.Need-add-byte-at
 add-byte-at c = search needs
 
--- src/lib.rt:44:9
 byte-at-requires-2 : tie.Need-byte-at-requires-2
 byte-at-requires-2 c κs = search needs
 
--- src/lib.rt:45:6
 cast-result : tie.Need-cast-result
 cast-result c = search needs
 
--- src/lib.rt:45:27
 cast-result-2 : tie.Need-cast-result-2
 cast-result-2 c = search needs
 
--- src/lib.rt:45:20
 mul-result : tie.Need-mul-result
 mul-result c = search needs
 
--- src/lib.rt:45:5
 add-result : tie.Need-add-result
 add-result c = search needs
 
--- src/lib.rt:37:1
 returns-2 : tie.Need-returns-2
 returns-2 c = search needs
 

@@ -1,7 +1,8 @@
+-- `deepchalk::deepchalk_read` meets its contract. Assumes nothing.
 use Rattle.deepchalk.specs.Packed.{packedRead}
 use Rattle.text.specs.Answers.{setOutput, mapOutput}
 use Rattle.text.specs.declared.Answer.{Answer}
-use mathlib.Core.Path.{_≡_, ap, _∙_}
+use mathlib.Core.Path.{ap, _∙_}
 use denote.Ref.{now}
 use borrow.Author.Needs.{needs}
 use Rattle.deepchalk.proofs.deepchalk_read.Statement.{statement}
@@ -11,23 +12,18 @@ use Rattle.deepchalk.proofs.deepchalk_read.Lts as lts
 use Rattle.deepchalk.proofs.pack_read.Reads as pack-read-reads
 use Rattle.text.proofs.read.Reads as read-reads
 
--- src/lib.rt:47:9
 read-requires : tie.Need-read-requires
 read-requires c κs = search needs
 
--- src/lib.rt:48:5
 pack-read-requires : tie.Need-pack-read-requires
 pack-read-requires c κs = search needs
 
--- src/lib.rt:41:1
 same-length : tie.Need-same-length
 same-length c = search needs
 
--- src/lib.rt:41:1
 same-length-2 : tie.Need-same-length-2
 same-length-2 c = search needs
 
--- src/lib.rt:41:1
 returns : tie.Need-returns
 returns c = let s = c .before .before .before .before .before .read .ensures in
     let a = c .before .before .before .before .before .before .before .before .before .before .before .args in

@@ -1,4 +1,5 @@
-use mathlib.Core.Path.{_≡_, ap, _∙_}
+-- `deepchalk::deepchalk_replay` meets its contract. Assumes nothing.
+use mathlib.Core.Path.{ap, _∙_}
 use Rattle.deepchalk.specs.Packed.{packed}
 use borrow.Author.Needs.{needs}
 use Rattle.deepchalk.proofs.deepchalk_replay.Statement.{statement}
@@ -8,15 +9,12 @@ use Rattle.deepchalk.proofs.deepchalk_replay.Lts as lts
 use Rattle.deepchalk.proofs.pack.Reads as pack-reads
 use Rattle.replay.proofs.replay.Reads as replay-reads
 
--- src/lib.rt:44:9
 replay-requires : tie.Need-replay-requires
 replay-requires c κs = search needs
 
--- src/lib.rt:45:5
 pack-requires : tie.Need-pack-requires
 pack-requires c κs = search needs
 
--- src/lib.rt:40:1
 returns : tie.Need-returns
 returns c = c .pack .ensures ∙ ap packed (c .before .replay .ensures)
 

@@ -1,5 +1,6 @@
+-- `deepchalk::deepchalk_simulate` meets its contract. Assumes nothing.
 use denote.Ref.{now}
-use mathlib.Core.Path.{_≡_, ap, _∙_}
+use mathlib.Core.Path.{ap, _∙_}
 use Rattle.step.specs.declared.Answer.{Answer}
 use Rattle.simulation.specs.Simulation.{traceOutput}
 use Rattle.deepchalk.specs.Packed.{packed}
@@ -11,19 +12,15 @@ use Rattle.deepchalk.proofs.deepchalk_simulate.Lts as lts
 use Rattle.deepchalk.proofs.pack.Reads as pack-reads
 use Rattle.simulation.proofs.simulate.Reads as simulate-reads
 
--- src/lib.rt:35:9
 simulate-requires : tie.Need-simulate-requires
 simulate-requires c κs = search needs
 
--- src/lib.rt:36:5
 pack-requires : tie.Need-pack-requires
 pack-requires c κs = search needs
 
--- src/lib.rt:29:1
 same-length : tie.Need-same-length
 same-length c = search needs
 
--- src/lib.rt:29:1
 returns : tie.Need-returns
 returns c =
     let s = c .before .before .before .simulate .ensures in

@@ -1,11 +1,8 @@
+-- `deepchalk::pack` meets its contract. Assumes nothing.
 use Prim.Native.Nat.{ℕ, _+_, _*_}
 use native.Mathlib.Nat.{zero-add}
-use native.Mathlib.Omega.{arith}
-use mathlib.Core.Path.{_≡_, ap, _∙_, sym}
-use Rattle.step.specs.declared.End.the-variants.{Code, Stuck, Open}
+use mathlib.Core.Path.{ap, _∙_, sym}
 use Rattle.step.specs.declared.End.{End}
-use Rattle.step.specs.declared.Answer.the-variants.{Ran, Refused}
-use Rattle.step.specs.declared.Answer.{Answer}
 use Rattle.deepchalk.specs.Packed.{endNumber, endCode, packed}
 use borrow.Author.Needs.{needs}
 use Rattle.deepchalk.proofs.pack.Statement.{statement}
@@ -13,90 +10,70 @@ use Rattle.deepchalk.proofs.pack.Tie as tie
 use Rattle.deepchalk.proofs.pack.Reads as reads
 use Rattle.deepchalk.proofs.pack.Lts as lts
 
--- src/lib.rt:16:23
 enum-known-answer : tie.Need-enum-known-answer
 enum-known-answer c = search needs
 
--- src/lib.rt:17:39
 cast-count : tie.Need-cast-count
 cast-count c = search needs
 
--- src/lib.rt:17:25
 mul-count : tie.Need-mul-count
 mul-count c = search needs
 
--- src/lib.rt:19:27
 enum-known-end : tie.Need-enum-known-end
 enum-known-end c = search needs
 
--- src/lib.rt:19:45
 cast-result : tie.Need-cast-result
 cast-result c = search needs
 
--- src/lib.rt:19:36
 mul-result : tie.Need-mul-result
 mul-result c = search needs
 
--- src/lib.rt:19:36
 add-result : tie.Need-add-result
 add-result c = search needs
 
--- src/lib.rt:20:31
 enum-told : tie.Need-enum-told
 enum-told c = search needs
 
--- src/lib.rt:20:31
 add-result-2 : tie.Need-add-result-2
 add-result-2 c = search needs
 
--- src/lib.rt:21:30
 enum-told-2 : tie.Need-enum-told-2
 enum-told-2 c = search needs
 
--- src/lib.rt:21:30
 add-result-3 : tie.Need-add-result-3
 add-result-3 c = search needs
 
--- src/lib.rt:24:27
 enum-known-answer-2 : tie.Need-enum-known-answer-2
 enum-known-answer-2 c = search needs
 
--- src/lib.rt:24:47
 cast-result-2 : tie.Need-cast-result-2
 cast-result-2 c = search needs
 
--- src/lib.rt:24:78
 cast-result-3 : tie.Need-cast-result-3
 cast-result-3 c = search needs
 
--- src/lib.rt:24:64
 mul-result-2 : tie.Need-mul-result-2
 mul-result-2 c = search needs
 
--- src/lib.rt:24:46
 add-result-4 : tie.Need-add-result-4
 add-result-4 c = search needs
 
--- src/lib.rt:12:1
 returns : tie.Need-returns
 returns c =
     let steps = c .before .before .before .before .answer .given .0 .0 in
     ap (λ (n : ℕ). n + 4294967296 * steps) (sym (zero-add (65536 * c .before .end .given .0 .0)))
     ∙ sym (ap packed (c .before .before .before .before .answer .given .1) ∙ ap (λ (e : End). 256 * endNumber e + 65536 * endCode e + 4294967296 * steps) (c .before .end .given .1))
 
--- src/lib.rt:12:1
 returns-2 : tie.Need-returns-2
 returns-2 c =
     let steps = c .before .before .before .answer .given .0 .0 in
     sym (ap packed (c .before .before .before .answer .given .1) ∙ ap (λ (e : End). 256 * endNumber e + 65536 * endCode e + 4294967296 * steps) (c .enum-told .given .1))
 
--- src/lib.rt:12:1
 returns-3 : tie.Need-returns-3
 returns-3 c =
     let steps = c .before .before .before .answer .given .0 .0 in
     sym (ap packed (c .before .before .before .answer .given .1) ∙ ap (λ (e : End). 256 * endNumber e + 65536 * endCode e + 4294967296 * steps) (c .enum-told2 .given .1))
 
--- src/lib.rt:12:1
 returns-4 : tie.Need-returns-4
 returns-4 c = sym (ap packed (c .before .answer2 .given .1))
 

@@ -1,60 +1,48 @@
+-- `deepchalk::pack_read` meets its contract. Assumes nothing.
 use Rattle.deepchalk.specs.Packed.{packedRead}
-use mathlib.Core.Path.{_≡_, ap, sym}
+use mathlib.Core.Path.{ap, sym}
 use borrow.Author.Needs.{needs}
 use Rattle.deepchalk.proofs.pack_read.Statement.{statement}
 use Rattle.deepchalk.proofs.pack_read.Tie as tie
 use Rattle.deepchalk.proofs.pack_read.Reads as reads
 use Rattle.deepchalk.proofs.pack_read.Lts as lts
 
--- src/lib.rt:33:30
 enum-known-answer : tie.Need-enum-known-answer
 enum-known-answer c = search needs
 
--- src/lib.rt:34:22
 cast-result : tie.Need-cast-result
 cast-result c = search needs
 
--- src/lib.rt:34:13
 mul-result : tie.Need-mul-result
 mul-result c = search needs
 
--- src/lib.rt:34:57
 cast-result-2 : tie.Need-cast-result-2
 cast-result-2 c = search needs
 
--- src/lib.rt:34:43
 mul-result-2 : tie.Need-mul-result-2
 mul-result-2 c = search needs
 
--- src/lib.rt:34:13
 add-result : tie.Need-add-result
 add-result c = search needs
 
--- src/lib.rt:36:33
 enum-known-answer-2 : tie.Need-enum-known-answer-2
 enum-known-answer-2 c = search needs
 
--- src/lib.rt:36:53
 cast-result-3 : tie.Need-cast-result-3
 cast-result-3 c = search needs
 
--- src/lib.rt:36:84
 cast-result-4 : tie.Need-cast-result-4
 cast-result-4 c = search needs
 
--- src/lib.rt:36:70
 mul-result-3 : tie.Need-mul-result-3
 mul-result-3 c = search needs
 
--- src/lib.rt:36:52
 add-result-2 : tie.Need-add-result-2
 add-result-2 c = search needs
 
--- src/lib.rt:29:1
 returns : tie.Need-returns
 returns c = sym (ap packedRead (c .before .answer .given .1))
 
--- src/lib.rt:29:1
 returns-2 : tie.Need-returns-2
 returns-2 c = sym (ap packedRead (c .before .answer2 .given .1))
 

@@ -1,3 +1,4 @@
+-- `listing::list_text` meets its contract. Assumes nothing.
 use Rattle.listing.specs.Texts.{listingBy, listingOf}
 use Rattle.listing.proofs.Records.{set-taken, map-taken}
 use Rattle.listings.specs.Outputs.{count, printed}
@@ -9,8 +10,8 @@ use lib.ListN.{length, take}
 use denote.Ref.{now}
 use native.Mathlib.Omega.{arith}
 use mathlib.Core.List.{List}
-use mathlib.Core.Path.{_≡_, refl, sym, ap, ap₂, _∙_}
-use Prim.Native.Nat.{ℕ, _*_, _≤_}
+use mathlib.Core.Path.{_≡_, sym, ap, ap₂, _∙_}
+use Prim.Native.Nat.{ℕ, _*_}
 use borrow.Author.Needs.{needs}
 use Rattle.listing.proofs.list_text.Statement.{statement}
 use Rattle.listing.proofs.list_text.Tie as tie
@@ -20,79 +21,62 @@ use Rattle.listings.proofs.list.Reads as list-reads
 use Rattle.listings.proofs.refused.Reads as refused-reads
 use Rattle.text.proofs.read.Reads as read-reads
 
--- src/main.rt:17:35
 slice-aggregate-read : tie.Need-slice-aggregate-read
 slice-aggregate-read c = search needs
 
--- src/main.rt:17:45
 slice-aggregate-read-2 : tie.Need-slice-aggregate-read-2
 slice-aggregate-read-2 c = search needs
 
--- src/main.rt:17:9
 read-requires : tie.Need-read-requires
 read-requires c κs = search needs
 
--- src/main.rt:19:24
 enum-known-answer : tie.Need-enum-known-answer
 enum-known-answer c = search needs
 
--- src/main.rt:20:29
 cast-size : tie.Need-cast-size
 cast-size c = search needs
 
--- src/main.rt:20:24
 mul-size : tie.Need-mul-size
 mul-size c = search needs
 
--- src/main.rt:21:31
 cast-length : tie.Need-cast-length
 cast-length c = search needs
 
--- src/main.rt:21:26
 mul-length : tie.Need-mul-length
 mul-length c = search needs
 
--- src/main.rt:22:28
 array-share-prefix-set : tie.Need-array-share-prefix-set
 array-share-prefix-set c = let text = c .before .before .before .before .before .before .before .before .before .before .args .text .now in let g = c .before .answer .given in let w = c .before .before .before .before .before .read .ensures in
     let k = read-counts text 1024 512 (g .0 .0) (g .0 .1 .0) (sym (w .0) ∙ g .1) in
     let l : length (c .before .before .before .before .before .read .last .1 .0) ≡ 1024 = search needs in omega (arith, k .2, l)
 
--- src/main.rt:22:28
 slice-aggregate-list : tie.Need-slice-aggregate-list
 slice-aggregate-list c = let text = c .before .before .before .before .before .before .before .before .before .before .before .args .text .now in let g = c .before .before .answer .given in let w = c .before .before .before .before .before .before .read .ensures in
     let k = read-counts text 1024 512 (g .0 .0) (g .0 .1 .0) (sym (w .0) ∙ g .1) in
     let l : length (c .before .before .before .before .before .before .read .last .1 .0) ≡ 1024 = search needs in sym (length-take-le (8 * g .0 .0) (c .before .before .before .before .before .before .read .last .1 .0) (omega (arith, k .2, l)))
 
--- src/main.rt:22:42
 array-share-prefix-map : tie.Need-array-share-prefix-map
 array-share-prefix-map c = let text = c .before .before .before .before .before .before .before .before .before .before .before .args .text .now in let g = c .before .before .answer .given in let w = c .before .before .before .before .before .before .read .ensures in
     let k = read-counts text 1024 512 (g .0 .0) (g .0 .1 .0) (sym (w .0) ∙ g .1) in
     let l : length (c .before .before .before .before .before .before .read .last .1 .1 .0) ≡ 512 = search needs in omega (arith, k .3, l)
 
--- src/main.rt:22:42
 slice-aggregate-list-2 : tie.Need-slice-aggregate-list-2
 slice-aggregate-list-2 c = let text = c .before .before .before .before .before .before .before .before .before .before .before .before .args .text .now in let g = c .before .before .before .answer .given in let w = c .before .before .before .before .before .before .before .read .ensures in
     let k = read-counts text 1024 512 (g .0 .0) (g .0 .1 .0) (sym (w .0) ∙ g .1) in
     let l : length (c .before .before .before .before .before .before .before .read .last .1 .1 .0) ≡ 512 = search needs in sym (length-take-le (4 * g .0 .1 .0) (c .before .before .before .before .before .before .before .read .last .1 .1 .0) (omega (arith, k .3, l)))
 
--- src/main.rt:22:13
 list-requires : tie.Need-list-requires
 list-requires c κs = search needs
 
--- src/main.rt:24:27
 enum-known-answer-2 : tie.Need-enum-known-answer-2
 enum-known-answer-2 c = search needs
 
--- src/main.rt:24:46
 refused-requires : tie.Need-refused-requires
 refused-requires c κs = search needs
 
--- src/main.rt:11:1
 same-length : tie.Need-same-length
 same-length c = search needs
 
--- src/main.rt:11:1
 returns : tie.Need-returns
 unfolding listingOf
 returns c = let text = c .before .before .before .before .before .before .before .before .before .before .before .before .before .before .before .before .args .text .now in let g = c .before .before .before .before .before .before .before .answer .given in let w = c .before .before .before .before .before .before .before .before .before .before .before .read .ensures in
@@ -104,11 +88,9 @@ returns c = let text = c .before .before .before .before .before .before .before
     let e = ap₂ listing set map ∙ sym (ap (λ (r : Answer). listingBy r text) (sym (w .0) ∙ g .1)) in
     (l .0 ∙ ap (λ (bytes : List ℕ). count bytes out) e, l .1 ∙ ap (λ (bytes : List ℕ). printed bytes out) e)
 
--- src/main.rt:11:1
 same-length-2 : tie.Need-same-length-2
 same-length-2 c = search needs
 
--- src/main.rt:11:1
 returns-2 : tie.Need-returns-2
 unfolding listingOf
 returns-2 c = let text = c .before .before .before .before .before .before .before .before .before .before .before .before .before .before .args .text .now in let out = c .before .before .before .before .before .before .before .before .before .before .before .before .before .before .args .out .now in

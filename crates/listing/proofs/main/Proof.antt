@@ -1,5 +1,6 @@
+-- `listing::main` meets its contract. Assumes nothing.
 use lib.Seq.{length-take-le}
-use mathlib.Core.Path.{_≡_, sym}
+use mathlib.Core.Path.{sym}
 use borrow.Author.Needs.{needs}
 use Rattle.listing.proofs.main.Statement.{statement}
 use Rattle.listing.proofs.main.Tie as tie
@@ -9,43 +10,33 @@ use Rattle.io.proofs.read_full.Reads as read-full-reads
 use Rattle.io.proofs.write_all.Reads as write-all-reads
 use Rattle.listing.proofs.list_text.Reads as list-text-reads
 
--- src/main.rt:32:44
 slice-aggregate-read-full : tie.Need-slice-aggregate-read-full
 slice-aggregate-read-full c = search needs
 
--- src/main.rt:32:9
 read-full-requires : tie.Need-read-full-requires
 read-full-requires c κs = search needs
 
--- src/main.rt:33:28
 array-share-prefix-text : tie.Need-array-share-prefix-text
 array-share-prefix-text c = search needs
 
--- src/main.rt:33:28
 slice-aggregate-list-text : tie.Need-slice-aggregate-list-text
 slice-aggregate-list-text c = search needs
 
--- src/main.rt:33:43
 slice-aggregate-list-text-2 : tie.Need-slice-aggregate-list-text-2
 slice-aggregate-list-text-2 c = search needs
 
--- src/main.rt:33:9
 list-text-requires : tie.Need-list-text-requires
 list-text-requires c κs = search needs
 
--- src/main.rt:34:34
 array-share-prefix-out : tie.Need-array-share-prefix-out
 array-share-prefix-out c = search needs
 
--- src/main.rt:34:34
 slice-aggregate-write-all : tie.Need-slice-aggregate-write-all
 slice-aggregate-write-all c = sym (length-take-le (c .before .before .list-text .result) (c .before .before .list-text .last .1 .0) (search needs))
 
--- src/main.rt:34:5
 write-all-requires : tie.Need-write-all-requires
 write-all-requires c κs = search needs
 
--- src/main.rt:29:1
 returns : tie.Need-returns
 returns c = search needs
 

@@ -1,3 +1,4 @@
+-- `replay::accepted` meets its contract. Assumes nothing.
 use denote.Ref.{now}
 use lib.ListN.{length}
 use lib.Dec.{eqb, leb}
@@ -20,37 +21,30 @@ use Rattle.replay.proofs.accepted.Lts as lts
 use Rattle.replay.proofs.refused.Reads as refused-reads
 use Rattle.runs.proofs.walk.Reads as walk-reads
 
--- src/lib.rt:25:9
 refused-requires : tie.Need-refused-requires
 refused-requires c κs = search needs
 
--- src/lib.rt:25:9
 returns : tie.Need-returns
 unfolding limitedTrace
 returns c =
     let t = now (c .before .before .before .before .before .args .trace) in
     c .refused .ensures ∙ sym (passed _ _ (and-false (leb (length t / 24) 64) (ne-eqb _ _ (c .before .if1 .taken))))
 
--- src/lib.rt:28:9
 refused-requires-2 : tie.Need-refused-requires-2
 refused-requires-2 c κs = search needs
 
--- src/lib.rt:28:9
 returns-2 : tie.Need-returns-2
 unfolding limitedTrace
 returns-2 c =
     let t = now (c .before .before .before .before .before .before .args .trace) in
     c .refused2 .ensures ∙ sym (passed _ _ (and-right-false (eqb (length t % 24) 0) (lt-leb _ _ (c .before .if2 .taken))))
 
--- src/lib.rt:32:47
 slice-aggregate-walk : tie.Need-slice-aggregate-walk
 slice-aggregate-walk c = search needs
 
--- src/lib.rt:32:5
 walk-requires : tie.Need-walk-requires
 walk-requires c κs = search needs
 
--- src/lib.rt:19:1
 returns-3 : tie.Need-returns-3
 unfolding limitedTrace
 returns-3 c =

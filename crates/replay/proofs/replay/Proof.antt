@@ -1,10 +1,11 @@
+-- `replay::replay` meets its contract. Assumes nothing.
 use Rattle.replay.specs.Replay.{limitedTrace, replayed}
 use denote.Ref.{now}
-use mathlib.Core.Path.{_≡_, refl, sym, ap, _∙_}
+use mathlib.Core.Path.{_≡_, sym, ap, _∙_}
 use mathlib.Core.Bool.{true}
 use Rattle.runs.proofs.Layouts.{no-threads, some-threads, few-threads, set-read}
 use Rattle.records.proofs.Maps.{few-cells}
-use Rattle.records.specs.Sets.{Set, setOf, setBy, setAccepted}
+use Rattle.records.specs.Sets.{Set, setAccepted}
 use Rattle.records.specs.Maps.{mapAccepted}
 use Rattle.base.proofs.Choice.{chosen, passed, and-true, and-false, and-right-false}
 use borrow.Author.Needs.{needs}
@@ -21,15 +22,12 @@ use Rattle.replay.proofs.refused.Reads as refused-reads
 good : (c : tie.After-map-accepted) → setAccepted (now (c .before .before .before .before .before .before .before .args .set)) ≡ true
 good c = some-threads (now (c .before .before .before .before .before .before .before .args .set)) (c .before .before .before .layout .result) (c .before .before .before .layout .ensures) (c .before .if1 .left)
 
--- src/lib.rt:118:9
 layout-requires : tie.Need-layout-requires
 layout-requires c κs = search needs
 
--- src/lib.rt:120:9
 refused-requires : tie.Need-refused-requires
 refused-requires c κs = search needs
 
--- src/lib.rt:120:9
 returns : tie.Need-returns
 unfolding replayed
 returns c =
@@ -37,18 +35,15 @@ returns c =
     let a = l .before .before .before .before .args in
     c .refused .ensures ∙ sym (passed _ _ (and-false (mapAccepted 256 (now (a .map))) (no-threads (now (a .set)) (l .layout .result) (l .layout .ensures) (c .before .if1 .taken))))
 
--- src/lib.rt:122:8
 map-accepted-requires : tie.Need-map-accepted-requires
 map-accepted-requires c κs = search needs
 
--- src/lib.rt:123:9
 accepted-requires : tie.Need-accepted-requires
 accepted-requires c κs =
     let m = c .before in
     let a = m .before .before .before .before .before .before .before .args in
     (few-threads (now (a .set)) _ (m .before .before .before .layout .ensures) (good m), few-cells 256 (now (a .map)) (sym (m .map-accepted .ensures) ∙ c .if2 .taken))
 
--- src/lib.rt:123:9
 returns-2 : tie.Need-returns-2
 unfolding replayed
 returns-2 c =
@@ -58,11 +53,9 @@ returns-2 c =
     ∙ ap (λ (S : Set). limitedTrace S (now (a .map)) (now (a .trace))) (set-read (now (a .set)) (m .before .before .before .layout .result) (m .before .before .before .layout .ensures) (good m))
     ∙ sym (chosen _ _ (and-true (good m) (sym (m .map-accepted .ensures) ∙ c .before .if2 .taken)))
 
--- src/lib.rt:125:5
 refused-requires-2 : tie.Need-refused-requires-2
 refused-requires-2 c κs = search needs
 
--- src/lib.rt:115:1
 returns-3 : tie.Need-returns-3
 unfolding replayed
 returns-3 c =

@@ -1,6 +1,7 @@
+-- `runs::acts` meets its contract. Assumes nothing.
 use denote.Ref.{now}
 use lib.Dec.{leb}
-use mathlib.Core.Path.{_≡_, sym, ap, _∙_}
+use mathlib.Core.Path.{sym, ap, _∙_}
 use mathlib.Core.Bool.{Bool, _&&_, _||_}
 use Rattle.step.specs.declared.Choice.the-variants.{Execute, Flush}
 use Rattle.step.specs.Machine.{permitted}
@@ -15,11 +16,9 @@ use Rattle.runs.proofs.acts.Reads as reads
 use Rattle.runs.proofs.acts.Lts as lts
 use Rattle.step.proofs.choices.permits.Reads as permits-reads
 
--- src/lib.rt:77:8
 permits-requires : tie.Need-permits-requires
 permits-requires c κs = search needs
 
--- src/lib.rt:78:9
 returns : tie.Need-returns
 returns c =
     let a = c .before .before .before .args in
@@ -29,11 +28,9 @@ returns c =
     sym (and-or (leb (a .layout .threads) 4) (permitted S s (Execute (a .t))) (permitted S s (Flush (a .t)))
     ∙ or-true (leb (a .layout .threads) 4 && permitted S s (Flush (a .t))) (sym (c .before .permits .ensures memory) ∙ c .if1 .taken))
 
--- src/lib.rt:80:5
 permits-requires-2 : tie.Need-permits-requires-2
 permits-requires-2 c κs = search needs
 
--- src/lib.rt:74:1
 returns-2 : tie.Need-returns-2
 returns-2 c =
     let a = c .before .before .before .before .args in

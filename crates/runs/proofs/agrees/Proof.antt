@@ -1,3 +1,4 @@
+-- `runs::agrees` meets its contract. Assumes nothing.
 use Rattle.base.specs.Bytes.{same}
 use Rattle.base.proofs.Choice.{chosen}
 use mathlib.Core.Path.{_≡_, sym, ap, _∙_}
@@ -12,35 +13,27 @@ use Rattle.runs.proofs.agrees.Reads as reads
 use Rattle.runs.proofs.agrees.Lts as lts
 use Rattle.base.proofs.same.Reads as same-reads
 
--- src/lib.rt:175:18
 mul-at : tie.Need-mul-at
 mul-at c = search needs
 
--- src/lib.rt:176:19
 add-end : tie.Need-add-end
 add-end c = search needs
 
--- src/lib.rt:177:27
 sub-same : tie.Need-sub-same
 sub-same c = search needs
 
--- src/lib.rt:177:27
 part-same-start : tie.Need-part-same-start
 part-same-start c = search needs
 
--- src/lib.rt:177:27
 part-same-end : tie.Need-part-same-end
 part-same-end c = c .before .before .pre .1 (c .if1 .taken)
 
--- src/lib.rt:177:44
 slice-aggregate-same : tie.Need-slice-aggregate-same
 slice-aggregate-same c = search needs
 
--- src/lib.rt:177:9
 same-requires : tie.Need-same-requires
 same-requires c κs = search needs
 
--- src/lib.rt:177:9
 returns : tie.Need-returns
 returns c =
     let s = c .before .before .before .before .before in
@@ -48,7 +41,6 @@ returns c =
     let d : 24 * a .i + 24 - 24 * a .i ≡ 24 = omega arith in
     c .same .ensures ∙ ap (λ (n : ℕ). same (take n (drop (24 * a .i) (now (a .input)))) (a .t4)) d ∙ sym (chosen _ _ (c .before .before .before .if1 .taken))
 
--- src/lib.rt:170:1
 returns-2 : tie.Need-returns-2
 returns-2 c = search needs
 

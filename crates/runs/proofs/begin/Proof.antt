@@ -1,10 +1,10 @@
+-- `runs::begin` meets its contract. Assumes nothing.
 use denote.Ref.{now}
 use lib.ListN.{length, getD, length-set}
 use lib.Dec.{leb}
-use Prim.Native.Nat.{ℕ, _≤_, _<_, _-_, _*_, _/_, _+_}
+use Prim.Native.Nat.{ℕ, _≤_, _<_, _-_, _/_}
 use native.Mathlib.Omega.{arith}
-use mathlib.Core.Path.{_≡_, sym, ap, _∙_, refl}
-use mathlib.Core.Bool.{Bool, _&&_}
+use mathlib.Core.Path.{_≡_, sym, refl}
 use borrow.Author.Tests.{le-leb, lt-leb}
 use borrow.Author.Needs.{needs}
 use Rattle.records.specs.Maps.{cells, addressAt, valueAt}
@@ -25,69 +25,54 @@ Inv-loop map addresses₀ values₀ n k₀ addresses values k =
 abbrev μ-loop : tie.MeasureT-loop
 μ-loop map addresses₀ values₀ n k₀ addresses values k = n - k
 
--- src/lib.rt:59:9
 returns : tie.Need-returns Inv-loop μ-loop
 unfolding least
 returns c =
     let a = c .before .before .before .before .args in
     (sym (passed _ _ (and-false (leb (cells (now (a .map))) (length (now (a .values)))) (lt-leb _ _ (c .if1 .taken)))), refl, refl)
 
--- src/lib.rt:62:9
 returns-2 : tie.Need-returns-2 Inv-loop μ-loop
 unfolding least
 returns-2 c =
     let a = c .before .before .before .before .before .args in
     (sym (passed _ _ (and-right-false (leb (cells (now (a .map))) (length (now (a .addresses)))) (lt-leb _ _ (c .if2 .taken)))), refl, refl)
 
--- src/lib.rt:65:5
 loop-holds : tie.Need-loop-holds Inv-loop μ-loop
 loop-holds c = (search needs, search needs, search needs, search needs, refl, refl, (λ j h. absurd (omega arith)), (λ j h. absurd (omega arith)))
 
--- src/lib.rt:66:43
 mul-word-at : tie.Need-mul-word-at Inv-loop μ-loop
 mul-word-at c = search needs
 
--- src/lib.rt:66:24
 word-at-requires : tie.Need-word-at-requires Inv-loop μ-loop
 word-at-requires c κs = search needs
 
--- src/lib.rt:66:9
 mul-addresses : tie.Need-mul-addresses Inv-loop μ-loop
 mul-addresses c = search needs
 
--- src/lib.rt:66:9
 slice-write-addresses : tie.Need-slice-write-addresses Inv-loop μ-loop
 slice-write-addresses c = search needs
 
--- src/lib.rt:67:40
 mul-word-at-2 : tie.Need-mul-word-at-2 Inv-loop μ-loop
 mul-word-at-2 c = search needs
 
--- src/lib.rt:67:40
 add-word-at : tie.Need-add-word-at Inv-loop μ-loop
 add-word-at c = search needs
 
--- src/lib.rt:67:21
 word-at-requires-2 : tie.Need-word-at-requires-2 Inv-loop μ-loop
 word-at-requires-2 c κs = search needs
 
--- src/lib.rt:67:9
 mul-values : tie.Need-mul-values Inv-loop μ-loop
 mul-values c = search needs
 
--- src/lib.rt:67:9
 slice-write-values : tie.Need-slice-write-values Inv-loop μ-loop
 slice-write-values c = search needs
 
--- src/lib.rt:68:9
 add-k : tie.Need-add-k Inv-loop μ-loop
 add-k c = search needs
 
--- src/lib.rt:65:5
 loop-less : tie.Need-loop-less Inv-loop μ-loop
 loop-less c = search needs
 
--- src/lib.rt:65:5
 loop-again : tie.Need-loop-again Inv-loop μ-loop
 loop-again c =
     let l = c .before .before .before .loop in
@@ -102,15 +87,12 @@ loop-again c =
       stored-more (l .values) (l .k) (c .word-at2 .result) (valueAt (now (a .map))) (omega arith) (l .inv .7) (c .word-at2 .ensures),
     )
 
--- src/lib.rt:52:1
 same-length : tie.Need-same-length Inv-loop μ-loop
 same-length c = search needs
 
--- src/lib.rt:52:1
 same-length-2 : tie.Need-same-length-2 Inv-loop μ-loop
 same-length-2 c = search needs
 
--- src/lib.rt:52:1
 returns-3 : tie.Need-returns-3 Inv-loop μ-loop
 returns-3 c =
     let l = c .before .loop in

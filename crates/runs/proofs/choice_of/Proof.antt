@@ -1,3 +1,4 @@
+-- `runs::choice_of` meets its contract. Assumes nothing.
 use mathlib.Core.Path.{sym}
 use borrow.Author.Tests.{lt-ltb, le-ltb}
 use Rattle.step.specs.Runs.{choiceOf}
@@ -7,12 +8,10 @@ use Rattle.runs.proofs.choice_of.Tie as tie
 use Rattle.runs.proofs.choice_of.Reads as reads
 use Rattle.runs.proofs.choice_of.Lts as lts
 
--- src/lib.rt:46:9
 returns : tie.Need-returns
 unfolding choiceOf
 returns c = sym (chosen _ _ (lt-ltb _ _ (c .if1 .taken)))
 
--- src/lib.rt:42:1
 returns-2 : tie.Need-returns-2
 unfolding choiceOf
 returns-2 c = sym (passed _ _ (le-ltb _ _ (c .if1 .left)))

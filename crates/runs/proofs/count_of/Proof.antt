@@ -1,3 +1,4 @@
+-- `runs::count_of` meets its contract. Assumes nothing.
 use Rattle.base.proofs.Choice.{chosen}
 use mathlib.Core.Path.{sym}
 use borrow.Author.Needs.{needs}
@@ -6,11 +7,9 @@ use Rattle.runs.proofs.count_of.Tie as tie
 use Rattle.runs.proofs.count_of.Reads as reads
 use Rattle.runs.proofs.count_of.Lts as lts
 
--- src/lib.rt:148:9
 returns : tie.Need-returns
 returns c = sym (chosen _ _ (c .if1 .taken))
 
--- src/lib.rt:144:1
 returns-2 : tie.Need-returns-2
 returns-2 c = search needs
 

@@ -1,9 +1,10 @@
+-- `runs::end_of` meets its contract. Assumes nothing.
 use denote.Ref.{now}
 use lib.Dec.{leb}
 use Prim.Native.Nat.{ℕ, _≤_, _-_}
 use native.Mathlib.Omega.{arith}
 use mathlib.Core.Path.{_≡_, sym, ap, _∙_}
-use mathlib.Core.Bool.{Bool, false, _&&_}
+use mathlib.Core.Bool.{false, _&&_}
 use borrow.Author.Needs.{needs}
 use Rattle.step.specs.Runs.{canAct, somePermitted}
 use Rattle.step.specs.Held.{stateOf}
@@ -23,21 +24,17 @@ Inv-loop set layout m t₀ t = (t ≤ layout .threads) × (m .ended ≡ false) �
 abbrev μ-loop : tie.MeasureT-loop
 μ-loop set layout m t₀ t = layout .threads - t
 
--- src/lib.rt:88:9
 returns : tie.Need-returns Inv-loop μ-loop
 returns c = λ memory. sym (chosen _ _ (c .if1 .taken))
 
--- src/lib.rt:91:5
 loop-holds : tie.Need-loop-holds Inv-loop μ-loop
 loop-holds c =
     let a = c .before .before .args in
     (search needs, c .if1 .left, λ memory. guarded-none (leb (a .layout .threads) 4) (canAct (setBy (now (a .set)) (a .layout)) (stateOf (a .m) memory)))
 
--- src/lib.rt:92:12
 acts-requires : tie.Need-acts-requires Inv-loop μ-loop
 acts-requires c κs = search needs
 
--- src/lib.rt:93:13
 returns-2 : tie.Need-returns-2 Inv-loop μ-loop
 unfolding somePermitted
 returns-2 c =
@@ -45,22 +42,18 @@ returns-2 c =
     let a = c .before .before .before .before .before .before .before .args in
     λ memory. sym (passed _ _ (l .inv .1) ∙ chosen _ _ (guarded-at (leb (a .layout .threads) 4) (canAct (setBy (now (a .set)) (a .layout)) (stateOf (a .m) memory)) _ (l .t) (search needs) (sym (c .before .acts .ensures memory) ∙ c .if3 .taken)))
 
--- src/lib.rt:95:9
 add-t : tie.Need-add-t Inv-loop μ-loop
 add-t c = search needs
 
--- src/lib.rt:91:5
 loop-less : tie.Need-loop-less Inv-loop μ-loop
 loop-less c = search needs
 
--- src/lib.rt:91:5
 loop-again : tie.Need-loop-again Inv-loop μ-loop
 loop-again c =
     let l = c .before .before .before .before .loop in
     let a = c .before .before .before .before .before .before .before .args in
     (search needs, l .inv .1, λ memory. guarded-more (leb (a .layout .threads) 4) (canAct (setBy (now (a .set)) (a .layout)) (stateOf (a .m) memory)) (l .t) (l .inv .2 memory) (sym (c .before .acts .ensures memory) ∙ c .if3 .left))
 
--- src/lib.rt:84:1
 returns-3 : tie.Need-returns-3 Inv-loop μ-loop
 unfolding somePermitted
 returns-3 c =

@@ -1,5 +1,6 @@
-use mathlib.Core.Path.{_≡_, refl, sym}
-use Rattle.step.specs.Machine.{State, fresh, unmarked}
+-- `runs::fresh_machine` meets its contract. Assumes nothing.
+use mathlib.Core.Path.{refl}
+use Rattle.step.specs.Machine.{fresh, unmarked}
 use mathlib.Core.Bool.{false}
 use Rattle.step.proofs.Four.{four}
 use borrow.Author.Needs.{needs}
@@ -9,11 +10,9 @@ use Rattle.runs.proofs.fresh_machine.Reads as reads
 use Rattle.runs.proofs.fresh_machine.Lts as lts
 use Rattle.step.proofs.Thread.fresh.Reads as fresh-reads
 
--- src/lib.rt:28:9
 fresh-requires : tie.Need-fresh-requires
 fresh-requires c κs = search needs
 
--- src/lib.rt:25:1
 returns : tie.Need-returns
 returns c =
     let e = c .fresh .ensures in (

@@ -1,3 +1,4 @@
+-- `runs::made` meets its contract. Assumes nothing.
 use Rattle.step.specs.declared.Choice.the-variants.{Execute, Flush}
 use Rattle.step.specs.Traces.{stepChoice}
 use Rattle.step.specs.Runs.{choiceOf}
@@ -26,23 +27,18 @@ unfolding stepChoice
 read bytes at =
     ap₂ (λ (n t : ℕ). cond (eqb n 20) (Flush t) (Execute t)) (getD-drop at bytes 1 0) (getD-drop at bytes 0 0 ∙ ap (λ (k : ℕ). getD bytes k 0) (add-zero at))
 
--- src/lib.rt:159:18
 mul-at : tie.Need-mul-at
 mul-at c = search needs
 
--- src/lib.rt:160:13
 byte-at-requires : tie.Need-byte-at-requires
 byte-at-requires c κs = search needs
 
--- src/lib.rt:161:33
 add-byte-at : tie.Need-add-byte-at
 add-byte-at c = search needs
 
--- src/lib.rt:161:12
 byte-at-requires-2 : tie.Need-byte-at-requires-2
 byte-at-requires-2 c κs = search needs
 
--- src/lib.rt:162:13
 returns : tie.Need-returns
 returns c =
     let a = c .before .before .before .before .before .args in
@@ -50,7 +46,6 @@ returns c =
     ap Flush (c .before .before .byte-at .ensures)
     ∙ sym (chosen _ _ (c .before .before .before .if1 .taken) ∙ read (now (a .input)) (24 * a .i) ∙ chosen _ _ (sym (ap (λ (k : ℕ). eqb k 20) n) ∙ eq-eqb _ _ (c .if2 .taken)))
 
--- src/lib.rt:164:9
 returns-2 : tie.Need-returns-2
 returns-2 c =
     let a = c .before .before .before .before .before .args in
@@ -58,15 +53,12 @@ returns-2 c =
     ap Execute (c .before .before .byte-at .ensures)
     ∙ sym (chosen _ _ (c .before .before .before .if1 .taken) ∙ read (now (a .input)) (24 * a .i) ∙ passed _ _ (sym (ap (λ (k : ℕ). eqb k 20) n) ∙ ne-eqb _ _ (c .if2 .left)))
 
--- src/lib.rt:166:15
 byte-at-requires-3 : tie.Need-byte-at-requires-3
 byte-at-requires-3 c κs = search needs
 
--- src/lib.rt:166:5
 choice-of-requires : tie.Need-choice-of-requires
 choice-of-requires c κs = search needs
 
--- src/lib.rt:154:1
 returns-3 : tie.Need-returns-3
 returns-3 c = c .choice-of .ensures ∙ ap choiceOf (c .before .byte-at3 .ensures) ∙ sym (passed _ _ (c .before .before .if1 .left))
 

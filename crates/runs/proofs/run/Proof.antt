@@ -1,3 +1,4 @@
+-- `runs::run` meets its contract. Assumes nothing.
 use Prim.Native.Nat.{ℕ, _+_, _-_, _*_, _%_, _≤_, _<_}
 use mathlib.Core.Bool.{Bool, true, false, cond, not, _&&_}
 use mathlib.Core.List.{List, [], _++_, append-nil}
@@ -213,130 +214,100 @@ ended-so : (replaying : Bool) (bytes tr : List ℕ) → (replaying ≡ false →
 ended-so true bytes tr f = refl
 ended-so false bytes tr f = f refl
 
--- src/lib.rt:231:5
 loop-holds : tie.Need-loop-holds Inv-loop μ-loop
 loop-holds c =
     let p = c .before .before .before .before .before .pre in
     (p .0, p .1, p .2, refl, refl, refl, (omega arith, p .3 .0, p .3 .1, refl, λ f. (p .4 f, refl), p .5 .0, p .5 .1))
 
--- src/lib.rt:232:13
 made-requires : tie.Need-made-requires Inv-loop μ-loop
 made-requires c κs = let l = c .before .loop in omega (arith, c .loop-test .taken, l .inv .6 .0, l .inv .1)
 
--- src/lib.rt:233:13
 actor-requires : tie.Need-actor-requires Inv-loop μ-loop
 actor-requires c κs = search needs
 
--- src/lib.rt:234:18
 cast-at : tie.Need-cast-at Inv-loop μ-loop
 cast-at c = search needs
 
--- src/lib.rt:235:17
 mul-x : tie.Need-mul-x Inv-loop μ-loop
 mul-x c = search needs
 
--- src/lib.rt:235:17
 element-copy-out-x : tie.Need-element-copy-out-x Inv-loop μ-loop
 element-copy-out-x c = search needs
 
--- src/lib.rt:237:20
 mul-mark : tie.Need-mul-mark Inv-loop μ-loop
 mul-mark c = search needs
 
--- src/lib.rt:237:20
 element-copy-out-mark : tie.Need-element-copy-out-mark Inv-loop μ-loop
 element-copy-out-mark c = search needs
 
--- src/lib.rt:238:13
 advance-requires : tie.Need-advance-requires Inv-loop μ-loop
 advance-requires c κs = search needs
 
--- src/lib.rt:244:21
 step-bytes-requires : tie.Need-step-bytes-requires Inv-loop μ-loop
 step-bytes-requires c κs = search needs
 
--- src/lib.rt:245:28
 mul-place : tie.Need-mul-place Inv-loop μ-loop
 mul-place c = let l = c .before .before .before .before .before .before .before .before .before .before .before .before .before .before .before .before .before .loop in omega (arith, c .before .before .before .before .before .before .before .before .before .before .before .before .before .before .before .before .loop-test .taken, l .inv .6 .0, l .inv .1)
 
--- src/lib.rt:245:40
 slice-aggregate-place : tie.Need-slice-aggregate-place Inv-loop μ-loop
 slice-aggregate-place c = search needs
 
--- src/lib.rt:245:9
 place-requires : tie.Need-place-requires Inv-loop μ-loop
 place-requires c κs = search needs
 
--- src/lib.rt:246:43
 agrees-requires : tie.Need-agrees-requires Inv-loop μ-loop
 agrees-requires c κs =
     let l = c .before .before .before .before .before .before .before .before .before .before .before .before .before .before .before .before .before .before .before .before .before .loop in
     let t = c .before .before .before .before .before .before .before .before .before .before .before .before .before .before .before .before .before .before .before .before .loop-test .taken in
     (omega (arith, t, l .inv .6 .0, l .inv .1), λ e. let n = l .inv .2 ∙ chosen _ _ e in omega (arith, n, t, l .inv .6 .0))
 
--- src/lib.rt:246:13
 refusal-of-requires : tie.Need-refusal-of-requires Inv-loop μ-loop
 refusal-of-requires c κs = search needs
 
--- src/lib.rt:250:24
 refused-requires : tie.Need-refused-requires Inv-loop μ-loop
 refused-requires c κs = let x = c .before in let l = x .before .before .before .before .before .before .before .before .before .before .before .before .before .before .before .before .before .before .before .before .before .before .before .loop in omega (arith, goes x, l .inv .6 .0, l .inv .1)
 
--- src/lib.rt:248:13
 same-length : tie.Need-same-length Inv-loop μ-loop
 same-length c = let x = c .before .before in x .before .before .before .before .before .before .before .before .before .before .before .before .before .before .advance .kept .1 .1 .1 .1 .1 .1 .0 ∙ x .before .before .before .before .before .before .before .before .before .before .before .before .before .before .before .before .before .before .before .before .before .before .before .loop .inv .3
 
--- src/lib.rt:248:13
 same-length-2 : tie.Need-same-length-2 Inv-loop μ-loop
 same-length-2 c = let x = c .before .before in x .before .before .before .before .before .before .before .before .before .before .before .before .before .before .advance .kept .1 .1 .1 .1 .1 .1 .1 .0 ∙ x .before .before .before .before .before .before .before .before .before .before .before .before .before .before .before .before .before .before .before .before .before .before .before .loop .inv .4
 
--- src/lib.rt:248:13
 same-length-3 : tie.Need-same-length-3 Inv-loop μ-loop
 same-length-3 c = let x = c .before .before in x .before .before .before .before .place .kept .0 ∙ x .before .before .before .before .before .before .before .before .before .before .before .before .before .before .before .before .before .before .before .before .before .before .before .loop .inv .5
 
--- src/lib.rt:248:13
 returns : tie.Need-returns Inv-loop μ-loop
 returns c =
     let x = c .before .before in
     (c .refused .ensures ∙ sym (judged x ∙ on-refused _ _ _ (c .before .if1 .taken)), refused-begins _ _ _ _ _ (c .refused .ensures))
 
--- src/lib.rt:253:9
 mul-y : tie.Need-mul-y Inv-loop μ-loop
 mul-y c = search needs
 
--- src/lib.rt:253:9
 element-set-from-y : tie.Need-element-set-from-y Inv-loop μ-loop
 element-set-from-y c = search needs
 
--- src/lib.rt:256:9
 add-steps : tie.Need-add-steps Inv-loop μ-loop
 add-steps c = let x = c .before .before in let l = x .before .before .before .before .before .before .before .before .before .before .before .before .before .before .before .before .before .before .before .before .before .before .before .loop in omega (arith, goes x, l .inv .6 .0, l .inv .1)
 
--- src/lib.rt:257:9
 sub-budget : tie.Need-sub-budget Inv-loop μ-loop
 sub-budget c = omega (arith, goes (c .before .before))
 
--- src/lib.rt:258:13
 quiet-requires : tie.Need-quiet-requires Inv-loop μ-loop
 quiet-requires c κs = search needs
 
--- src/lib.rt:259:17
 marks-after-requires : tie.Need-marks-after-requires Inv-loop μ-loop
 marks-after-requires c κs = search needs
 
--- src/lib.rt:268:33
 ended-after-requires : tie.Need-ended-after-requires Inv-loop μ-loop
 ended-after-requires c κs = search needs
 
--- src/lib.rt:269:22
 code-after-requires : tie.Need-code-after-requires Inv-loop μ-loop
 code-after-requires c κs = search needs
 
--- src/lib.rt:231:5
 loop-less : tie.Need-loop-less Inv-loop μ-loop
 loop-less c = omega (arith, goes (c .before .before .before .before .before .before .before .before))
 
--- src/lib.rt:231:5
 loop-again : tie.Need-loop-again Inv-loop μ-loop
 loop-again c =
     let x = c .before .before .before .before .before .before .before .before in
@@ -360,11 +331,9 @@ loop-again c =
           (c .code-after .ensures)),
     )
 
--- src/lib.rt:231:5
 loop-less-2 : tie.Need-loop-less-2 Inv-loop μ-loop
 loop-less-2 c = omega (arith, goes (c .before .before .before .before))
 
--- src/lib.rt:231:5
 loop-again-2 : tie.Need-loop-again-2 Inv-loop μ-loop
 loop-again-2 c =
     let x = c .before .before .before .before in
@@ -384,27 +353,21 @@ loop-again-2 c =
           refl refl refl (l .inv .6 .6) (sym (c .before .quiet .ensures) ∙ not-false _ (c .if2 .left))),
     )
 
--- src/lib.rt:272:9
 end-of-requires : tie.Need-end-of-requires Inv-loop μ-loop
 end-of-requires c κs = search needs
 
--- src/lib.rt:274:16
 cast-t58 : tie.Need-cast-t58 Inv-loop μ-loop
 cast-t58 c = search needs
 
--- src/lib.rt:205:1
 same-length-4 : tie.Need-same-length-4 Inv-loop μ-loop
 same-length-4 c = search needs
 
--- src/lib.rt:205:1
 same-length-5 : tie.Need-same-length-5 Inv-loop μ-loop
 same-length-5 c = search needs
 
--- src/lib.rt:205:1
 same-length-6 : tie.Need-same-length-6 Inv-loop μ-loop
 same-length-6 c = search needs
 
--- src/lib.rt:205:1
 returns-2 : tie.Need-returns-2 Inv-loop μ-loop
 unfolding walked trace choices
 returns-2 c =

@@ -1,3 +1,4 @@
+-- `runs::walk` meets its contract. Assumes nothing.
 use Prim.Native.Nat.{ℕ, _*_, _/_, _≤_}
 use mathlib.Core.Bool.{Bool, true, false, _&&_, _||_}
 use mathlib.Core.Path.{_≡_, ap, ap₂, sym, subst, _∙_}
@@ -85,35 +86,27 @@ first-state : (r : tie.After-run) → let b = r .before .before .before .before 
 unfolding begin
 first-state r = ap (λ (h : Held). h .state) (starts r)
 
--- src/lib.rt:291:9
 count-of-requires : tie.Need-count-of-requires
 count-of-requires c κs = search needs
 
--- src/lib.rt:298:33
 slice-aggregate-begin : tie.Need-slice-aggregate-begin
 slice-aggregate-begin c = search needs
 
--- src/lib.rt:298:49
 slice-aggregate-begin-2 : tie.Need-slice-aggregate-begin-2
 slice-aggregate-begin-2 c = search needs
 
--- src/lib.rt:298:13
 begin-requires : tie.Need-begin-requires
 begin-requires c κs = search needs
 
--- src/lib.rt:299:13
 fresh-machine-requires : tie.Need-fresh-machine-requires
 fresh-machine-requires c κs = search needs
 
--- src/lib.rt:307:13
 slice-aggregate-run : tie.Need-slice-aggregate-run
 slice-aggregate-run c = search needs
 
--- src/lib.rt:308:13
 slice-aggregate-run-2 : tie.Need-slice-aggregate-run-2
 slice-aggregate-run-2 c = search needs
 
--- src/lib.rt:300:9
 run-requires : tie.Need-run-requires
 run-requires c κs =
     let t = c .before .before .before .before .before .before .before .before .before in
@@ -128,11 +121,9 @@ run-requires c κs =
       (f .1, f .2),
     )
 
--- src/lib.rt:300:9
 same-length : tie.Need-same-length
 same-length c = search needs
 
--- src/lib.rt:300:9
 returns : tie.Need-returns
 unfolding walkedOver
 returns c =
@@ -149,7 +140,6 @@ returns c =
 refused-requires : tie.Need-refused-requires
 refused-requires c κs = search needs
 
--- src/lib.rt:280:1
 returns-2 : tie.Need-returns-2
 unfolding walkedOver
 returns-2 c = (c .refused .ensures ∙ sym (passed _ _ (tested (c .before .before) ∙ c .before .if1 .left)), refused-begins _ _ _ _ _ (c .refused .ensures))

@@ -1,3 +1,4 @@
+-- `simulation::accepted` meets its contract. Assumes nothing.
 use denote.Ref.{now}
 use lib.Seq.{length-take-le}
 use lib.ListN.{length, take}
@@ -67,56 +68,44 @@ output-length r = length-trace (set-of r) _ noWrite (choices (schedule-of r)) �
 sized : (c : tie.After-bytes-out) → let r = c .before .before in c .bytes-out .result ≤ 24 * length (schedule-of r)
 sized c = let r = c .before .before in omega (arith, c .bytes-out .ensures, out-most (r .walk .result) (24 * length (schedule-of r)))
 
--- src/lib.rt:36:9
 returns : tie.Need-returns
 unfolding limited
 returns c = (sym (chosen _ _ (lt-ltb _ _ (c .if1 .taken))), refl)
 
--- src/lib.rt:41:22
 mul-if2 : tie.Need-mul-if2
 mul-if2 c = search needs
 
--- src/lib.rt:42:9
 returns-2 : tie.Need-returns-2
 unfolding limited
 returns-2 c = (sym (passed _ _ (le-ltb _ _ (c .before .if1 .left)) ∙ chosen _ _ (lt-ltb _ _ (c .if2 .taken))), refl)
 
--- src/lib.rt:49:64
 slice-aggregate-walk : tie.Need-slice-aggregate-walk
 slice-aggregate-walk c = search needs
 
--- src/lib.rt:49:9
 walk-requires : tie.Need-walk-requires
 walk-requires c κs = search needs
 
--- src/lib.rt:50:34
 mul-bytes-out : tie.Need-mul-bytes-out
 mul-bytes-out c = search needs
 
--- src/lib.rt:50:9
 bytes-out-requires : tie.Need-bytes-out-requires
 bytes-out-requires c κs = search needs
 
--- src/lib.rt:51:27
 array-share-prefix-bytes : tie.Need-array-share-prefix-bytes
 array-share-prefix-bytes c = let o = c .before in omega (arith, sized o, short (o .before .before))
 
--- src/lib.rt:51:27
 slice-aggregate-place : tie.Need-slice-aggregate-place
 slice-aggregate-place c =
     let o = c .before .before in
     let r = o .before .before in
     sym (length-take-le (o .bytes-out .result) (bytes-of r) (omega (arith, r .walk .kept .1 .1 .1 .1 .1 .0, sized o, short r)))
 
--- src/lib.rt:51:5
 place-requires : tie.Need-place-requires
 place-requires c κs = search needs
 
--- src/lib.rt:29:1
 same-length : tie.Need-same-length
 same-length c = search needs
 
--- src/lib.rt:29:1
 returns-3 : tie.Need-returns-3
 returns-3 c =
     let o = c .before .before .before .before .before in

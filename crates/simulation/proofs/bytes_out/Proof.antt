@@ -1,3 +1,4 @@
+-- `simulation::bytes_out` meets its contract. Assumes nothing.
 use mathlib.Core.Path.{sym, ap}
 use Rattle.simulation.specs.Simulation.{bytesOut}
 use Rattle.step.specs.declared.Answer.{Answer}

@@ -1,7 +1,6 @@
+-- `simulation::simulate` meets its contract. Assumes nothing.
 use lib.ListN.{length}
-use Prim.Native.Nat.{ℕ}
-use mathlib.Core.List.{List}
-use Rattle.records.specs.Maps.{mapValue}
+use Rattle.records.specs.Maps.{mapValue, mapAccepted}
 use Rattle.step.specs.Traces.{trace}
 use Rattle.step.specs.Runs.{choices}
 use Rattle.step.specs.Machine.{start, noWrite}
@@ -11,8 +10,7 @@ use mathlib.Core.Path.{_≡_, refl, sym, ap, _∙_}
 use mathlib.Core.Bool.{true}
 use Rattle.runs.proofs.Layouts.{no-threads, some-threads, few-threads, set-read}
 use Rattle.records.proofs.Maps.{few-cells}
-use Rattle.records.specs.Sets.{Set, setOf, setBy, setAccepted}
-use Rattle.records.specs.Maps.{mapAccepted}
+use Rattle.records.specs.Sets.{Set, setAccepted}
 use Rattle.base.proofs.Choice.{chosen, passed, and-true, and-false, and-right-false}
 use borrow.Author.Needs.{needs}
 use Rattle.simulation.proofs.simulate.Statement.{statement}
@@ -27,33 +25,27 @@ use Rattle.simulation.proofs.accepted.Reads as accepted-reads
 good : (c : tie.After-map-accepted) → setAccepted (now (c .before .before .before .before .before .before .before .before .args .set)) ≡ true
 good c = some-threads (now (c .before .before .before .before .before .before .before .before .args .set)) (c .before .before .before .layout .result) (c .before .before .before .layout .ensures) (c .before .if1 .left)
 
--- src/lib.rt:110:9
 layout-requires : tie.Need-layout-requires
 layout-requires c κs = search needs
 
--- src/lib.rt:112:9
 returns : tie.Need-returns
 unfolding simulated
 returns c =
     let a = c .before .before .before .before .before .before .before .args in
     (sym (passed _ _ (and-false (mapAccepted 256 (now (a .map))) (no-threads (now (a .set)) (c .before .before .layout .result) (c .before .before .layout .ensures) (c .if1 .taken)))), refl)
 
--- src/lib.rt:117:8
 map-accepted-requires : tie.Need-map-accepted-requires
 map-accepted-requires c κs = search needs
 
--- src/lib.rt:118:9
 accepted-requires : tie.Need-accepted-requires
 accepted-requires c κs =
     let m = c .before .before in
     let a = m .before .before .before .before .before .before .before .before .args in
     (few-threads (now (a .set)) _ (m .before .before .before .layout .ensures) (good m), few-cells 256 (now (a .map)) (sym (m .map-accepted .ensures) ∙ c .before .if2 .taken))
 
--- src/lib.rt:118:9
 same-length : tie.Need-same-length
 same-length c = search needs
 
--- src/lib.rt:118:9
 returns-2 : tie.Need-returns-2
 unfolding simulated scheduleTrace
 returns-2 c =
@@ -66,7 +58,6 @@ returns-2 c =
       p .accepted .ensures .1 ∙ ap (λ (S : Set). outputOver (p .accepted .result) (trace S (start (mapValue (now (a .map)))) noWrite (choices (now (a .schedule)))) (now (a .trace))) s,
     )
 
--- src/lib.rt:106:1
 returns-3 : tie.Need-returns-3
 unfolding simulated
 returns-3 c =

@@ -1,3 +1,4 @@
+-- `text::finish` meets its contract. Assumes nothing.
 use Rattle.text.specs.declared.Answer.{Answer}
 use Rattle.text.specs.Readings.{Few, roomed, setPart, mapPart}
 use Rattle.text.specs.Answers.{outputBy}
@@ -10,10 +11,8 @@ use lib.Dec.{leb}
 use denote.Ref.{now}
 use borrow.Author.Tests.{leb-true}
 use native.Mathlib.Omega.{arith}
-use mathlib.Core.List.{List}
-use mathlib.Core.Bool.{_&&_}
-use mathlib.Core.Path.{_≡_, refl, sym, ap, _∙_, subst}
-use Prim.Native.Nat.{ℕ, _*_, _≤_}
+use mathlib.Core.Path.{refl, sym, ap, _∙_, subst}
+use Prim.Native.Nat.{_*_}
 use borrow.Author.Needs.{needs}
 use Rattle.text.proofs.finish.Statement.{statement}
 use Rattle.text.proofs.finish.Tie as tie
@@ -22,51 +21,39 @@ use Rattle.text.proofs.finish.Lts as lts
 use Rattle.base.proofs.place.Reads as place-reads
 use Rattle.text.proofs.refused.Reads as refused-reads
 
--- src/lib.rt:118:24
 enum-known-answer : tie.Need-enum-known-answer
 enum-known-answer c = search needs
 
--- src/lib.rt:119:29
 cast-size : tie.Need-cast-size
 cast-size c = search needs
 
--- src/lib.rt:119:24
 mul-size : tie.Need-mul-size
 mul-size c = search needs
 
--- src/lib.rt:120:31
 cast-length : tie.Need-cast-length
 cast-length c = search needs
 
--- src/lib.rt:120:26
 mul-length : tie.Need-mul-length
 mul-length c = search needs
 
--- src/lib.rt:123:37
 slice-aggregate-place : tie.Need-slice-aggregate-place
 slice-aggregate-place c = let s = c .before .before .before .before .before .before .before .before .before .before in let e = c .before .before .before .before .answer .given in let few = subst Few (e .1) (s .pre .0) in sym (length-take-le (8 * e .0 .0) (s .args .records .now) (omega (arith, few .0, s .pre .1)))
 
--- src/lib.rt:123:17
 place-requires : tie.Need-place-requires
 place-requires c κs = search needs
 
--- src/lib.rt:124:37
 slice-aggregate-place-2 : tie.Need-slice-aggregate-place-2
 slice-aggregate-place-2 c = let s = c .before .before .before .before .before .before .before .before .before .before .before .before .before .before .before in let e = c .before .before .before .before .before .before .before .before .before .answer .given in let few = subst Few (e .1) (s .pre .0) in sym (length-take-le (4 * e .0 .1 .0) (s .args .cells .now) (omega (arith, few .1, s .pre .2)))
 
--- src/lib.rt:124:17
 place-requires-2 : tie.Need-place-requires-2
 place-requires-2 c κs = search needs
 
--- src/lib.rt:125:17
 same-length : tie.Need-same-length
 same-length c = search needs
 
--- src/lib.rt:125:17
 same-length-2 : tie.Need-same-length-2
 same-length-2 c = search needs
 
--- src/lib.rt:125:17
 returns : tie.Need-returns
 returns c = let s = c .before .before .before .before .before .before .before .before .before .before .before .before .before .before .before .before .before .before in let a = s .args in let e = c .before .before .before .before .before .before .before .before .before .before .before .before .answer .given in let few = subst Few (e .1) (s .pre .0) in
     let n = e .0 .0 in let m = e .0 .1 .0 in
@@ -80,15 +67,12 @@ returns c = let s = c .before .before .before .before .before .before .before .b
       c .before .before .place2 .ensures ∙ placed-over (a .map .now) (take (4 * m) (a .cells .now)) (omega (arith, y, q)) ∙ ap (λ (r : Answer). over (mapPart r (a .cells .now)) (a .map .now)) (sym (e .1)),
     )
 
--- src/lib.rt:130:13
 refused-requires : tie.Need-refused-requires
 refused-requires c κs = search needs
 
--- src/lib.rt:132:27
 enum-known-answer-2 : tie.Need-enum-known-answer-2
 enum-known-answer-2 c = search needs
 
--- src/lib.rt:111:1
 returns-2 : tie.Need-returns-2
 returns-2 c = let s = c .before .before .before .before .before .before .before .before .before in let a = s .args in let e = c .before .before .before .answer .given in (
   c .refused .ensures ∙ sym (ap (roomed (length (a .set .now)) (length (a .map .now))) (e .1) ∙ passed _ _ (c .before .if1 .left)),
@@ -96,7 +80,6 @@ returns-2 c = let s = c .before .before .before .before .before .before .before 
   sym (ap (λ (r : Answer). outputBy r (mapPart (a .answer) (a .cells .now)) (a .map .now)) (c .refused .ensures)),
 )
 
--- src/lib.rt:111:1
 returns-3 : tie.Need-returns-3
 returns-3 c = let a = c .before .before .before .before .before .before .before .args in let e = c .before .answer2 .given in
     (sym (ap (roomed (length (a .set .now)) (length (a .map .now))) (e .1)), refl, refl)

@@ -1,18 +1,16 @@
+-- `text::judge` meets its contract. Assumes nothing.
 use Rattle.text.specs.declared.Answer.the-variants.{Read, Refused}
 use Rattle.text.specs.Sections.{Threads}
 use Rattle.text.specs.Records.{setBytes, statements}
-use Rattle.text.specs.Readings.{ThreadsStand, threadsRefusal}
+use Rattle.text.specs.Readings.{ThreadsStand}
 use Rattle.text.specs.Answers.{checkpointsFit, mapFits}
 use Rattle.text.proofs.Fitting.{checked-early, checked-seven, checked-eight, checked-read, assembled, none-written, fits-eight, fits-read}
-use Rattle.base.proofs.Choice.{chosen, passed}
-use lib.ListN.{length, take}
+use lib.ListN.{take}
 use denote.Ref.{now}
 use borrow.Author.Tests.{not-true, not-false}
 use native.Mathlib.Omega.{arith}
-use mathlib.Core.List.{List}
-use mathlib.Core.Bool.{Bool, true, false, cond, not}
-use mathlib.Core.Path.{_≡_, refl, sym, ap, ap₂, _∙_}
-use Prim.Native.Nat.{ℕ, _*_, _≤_}
+use mathlib.Core.Path.{_≡_, sym, ap, ap₂, _∙_}
+use Prim.Native.Nat.{ℕ, _*_}
 use borrow.Author.Needs.{needs}
 use Rattle.text.proofs.judge.Statement.{statement}
 use Rattle.text.proofs.judge.Tie as tie
@@ -24,15 +22,12 @@ use Rattle.text.proofs.threads.assemble.Reads as assemble-reads
 use Rattle.text.proofs.threads.checkpoints_fit.Reads as checkpoints-fit-reads
 use Rattle.text.proofs.threads_refusal.Reads as threads-refusal-reads
 
--- src/lib.rt:91:9
 threads-refusal-requires : tie.Need-threads-refusal-requires
 threads-refusal-requires c κs = search needs
 
--- src/lib.rt:93:9
 refused-requires : tie.Need-refused-requires
 refused-requires c κs = search needs
 
--- src/lib.rt:93:9
 returns : tie.Need-returns
 returns c = let tr = c .before .before .threads-refusal .ensures in
     record {
@@ -40,23 +35,18 @@ returns c = let tr = c .before .before .threads-refusal .ensures in
       written = λ T cs ts st. none-written _ _ _ T cs _ _ (c .refused .ensures);
     }
 
--- src/lib.rt:96:9
 assemble-requires : tie.Need-assemble-requires
 assemble-requires c κs = search needs
 
--- src/lib.rt:97:9
 checkpoints-fit-requires : tie.Need-checkpoints-fit-requires
 checkpoints-fit-requires c κs = search needs
 
--- src/lib.rt:98:9
 refused-requires-2 : tie.Need-refused-requires-2
 refused-requires-2 c κs = search needs
 
--- src/lib.rt:98:9
 same-length : tie.Need-same-length
 same-length c = search needs
 
--- src/lib.rt:98:9
 returns-2 : tie.Need-returns-2
 returns-2 c = let s = c .before .before .before .before .before .before .before .before .before .before .before .before .before .before .before in
     let tr = c .before .before .before .before .before .before .before .before .before .before .threads-refusal .ensures in
@@ -70,23 +60,18 @@ returns-2 c = let s = c .before .before .before .before .before .before .before 
       written = λ T cs ts st. none-written _ _ _ T cs _ _ (c .refused2 .ensures);
     }
 
--- src/lib.rt:100:9
 map-refusal-requires : tie.Need-map-refusal-requires
 map-refusal-requires c κs = search needs
 
--- src/lib.rt:102:9
 refused-requires-3 : tie.Need-refused-requires-3
 refused-requires-3 c κs = search needs
 
--- src/lib.rt:102:9
 same-length-2 : tie.Need-same-length-2
 same-length-2 c = search needs
 
--- src/lib.rt:102:9
 same-length-3 : tie.Need-same-length-3
 same-length-3 c = search needs
 
--- src/lib.rt:102:9
 returns-3 : tie.Need-returns-3
 returns-3 c = let s = c .before .before .before .before .before .before .before .before .before .before .before .before .before .before .before .before .before .before .before .before in
     let tr = c .before .before .before .before .before .before .before .before .before .before .before .before .before .before .before .threads-refusal .ensures in
@@ -101,15 +86,12 @@ returns-3 c = let s = c .before .before .before .before .before .before .before 
       written = λ T cs ts st. none-written _ _ _ T cs _ _ (c .refused3 .ensures);
     }
 
--- src/lib.rt:87:1
 same-length-4 : tie.Need-same-length-4
 same-length-4 c = search needs
 
--- src/lib.rt:87:1
 same-length-5 : tie.Need-same-length-5
 same-length-5 c = search needs
 
--- src/lib.rt:87:1
 returns-4 : tie.Need-returns-4
 returns-4 c = let s = c .before .before .before .before .before .before .before .before .before .before .before .before .before .before .before .before .before .before .before in
     let tr = c .before .before .before .before .before .before .before .before .before .before .before .before .before .before .threads-refusal .ensures in

@@ -1,15 +1,13 @@
+-- `text::map_refusal` meets its contract. Assumes nothing.
 use Rattle.text.specs.Records.{mapBytes}
 use Rattle.text.specs.Answers.{mapFits}
 use Rattle.records.specs.Maps.{mapAccepted}
 use Rattle.base.proofs.Choice.{chosen, passed, and-false}
-use lib.ListN.{length, take}
-use denote.Ref.{now}
+use lib.ListN.{length}
 use borrow.Author.Tests.{lt-leb}
 use native.Mathlib.Omega.{arith}
-use mathlib.Core.List.{List}
-use mathlib.Core.Bool.{Bool, true, false, cond}
-use mathlib.Core.Path.{_≡_, refl, sym, ap, _∙_}
-use Prim.Native.Nat.{ℕ, _*_, _/_, _≤_, _<_}
+use mathlib.Core.Path.{refl, sym, ap, _∙_}
+use Prim.Native.Nat.{ℕ, _≤_}
 use borrow.Author.Needs.{needs}
 use Rattle.text.proofs.map_refusal.Statement.{statement}
 use Rattle.text.proofs.map_refusal.Tie as tie
@@ -18,28 +16,22 @@ use Rattle.text.proofs.map_refusal.Lts as lts
 use Rattle.text.proofs.map.fits.Reads as fits-reads
 use Rattle.text.proofs.map.write.Reads as write-reads
 
--- src/lib.rt:75:13
 cast-n : tie.Need-cast-n
 cast-n c = search needs
 
--- src/lib.rt:77:9
 returns : tie.Need-returns
 unfolding mapFits
 returns c = ((λ cs st. (sym (passed {A = ℕ} 0 8 (and-false _ (lt-leb (length cs) 128 (st .many (c .if1 .taken))))), λ e. absurd (omega (arith, e)))), refl)
 
--- src/lib.rt:79:5
 write-requires : tie.Need-write-requires
 write-requires c κs = search needs
 
--- src/lib.rt:80:8
 fits-requires : tie.Need-fits-requires
 fits-requires c κs = search needs
 
--- src/lib.rt:81:9
 same-length : tie.Need-same-length
 same-length c = search needs
 
--- src/lib.rt:81:9
 returns-2 : tie.Need-returns-2
 returns-2 c = let s = c .before .before .before .before .before .before .before .before .before .before .before .before in let w = c .before .before .before .before .before .write .ensures in
     let few : s .args .r .cells ≤ 128 = c .before .before .before .before .before .before .before .if1 .left in
@@ -49,11 +41,9 @@ returns-2 c = let s = c .before .before .before .before .before .before .before 
       w .1,
     )
 
--- src/lib.rt:70:1
 same-length-2 : tie.Need-same-length-2
 same-length-2 c = search needs
 
--- src/lib.rt:70:1
 returns-3 : tie.Need-returns-3
 returns-3 c = let s = c .before .before .before .before .before .before .before .before .before .before .before .before in let w = c .before .before .before .before .before .write .ensures in
     let few : s .args .r .cells ≤ 128 = c .before .before .before .before .before .before .before .if1 .left in

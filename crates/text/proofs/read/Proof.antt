@@ -1,3 +1,4 @@
+-- `text::read` meets its contract. Assumes nothing.
 use Rattle.text.specs.declared.Answer.the-variants.{Refused}
 use Rattle.text.specs.Sections.{threads, cells}
 use Rattle.text.specs.Answers.{setOutput, mapOutput}
@@ -7,9 +8,8 @@ use lib.ListN.{length}
 use denote.Ref.{now}
 use native.Mathlib.Decide.{decLt}
 use native.Mathlib.Omega.{arith}
-use mathlib.Core.List.{List}
-use mathlib.Core.Path.{_≡_, refl, sym, ap, ap₂, _∙_}
-use Prim.Native.Nat.{ℕ, _≤_, _<_}
+use mathlib.Core.Path.{refl, ap₂, _∙_}
+use Prim.Native.Nat.{_≤_}
 use borrow.Author.Needs.{needs}
 use Rattle.text.proofs.read.Statement.{statement}
 use Rattle.text.proofs.read.Tie as tie
@@ -19,19 +19,15 @@ use Rattle.text.proofs.finish.Reads as finish-reads
 use Rattle.text.proofs.judge.Reads as judge-reads
 use Rattle.text.proofs.sections.read.Reads as read-reads
 
--- src/lib.rt:144:34
 slice-aggregate-read : tie.Need-slice-aggregate-read
 slice-aggregate-read c = search needs
 
--- src/lib.rt:144:46
 slice-aggregate-read-2 : tie.Need-slice-aggregate-read-2
 slice-aggregate-read-2 c = search needs
 
--- src/lib.rt:144:9
 read-requires : tie.Need-read-requires
 read-requires c κs = search needs
 
--- src/lib.rt:146:9
 returns : tie.Need-returns
 unfolding setOutput mapOutput
 returns c = let s = c .before .before .before .before .before .before .before .before .before .before in let r = c .before .before .before .before .read in let text = s .args .text .now in (
@@ -43,37 +39,29 @@ returns c = let s = c .before .before .before .before .before .before .before .b
   refl,
 )
 
--- src/lib.rt:153:24
 slice-aggregate-judge : tie.Need-slice-aggregate-judge
 slice-aggregate-judge c = search needs
 
--- src/lib.rt:153:32
 slice-aggregate-judge-2 : tie.Need-slice-aggregate-judge-2
 slice-aggregate-judge-2 c = search needs
 
--- src/lib.rt:153:42
 slice-aggregate-judge-3 : tie.Need-slice-aggregate-judge-3
 slice-aggregate-judge-3 c = search needs
 
--- src/lib.rt:153:56
 slice-aggregate-judge-4 : tie.Need-slice-aggregate-judge-4
 slice-aggregate-judge-4 c = search needs
 
--- src/lib.rt:153:9
 judge-requires : tie.Need-judge-requires
 judge-requires c κs = let s = c .before .before .before .before .before .before .before .before .before .before .before .before .before .before in let r = c .before .before .before .before .before .before .before .before .read .ensures in
     let short : length (s .args .text .now) ≤ 16384 = elim (decLt 16384 (length (s .args .text .now))) [ yes h ↦ absurd (let z = r .0 h .0 in omega (arith, z, c .before .before .before .before .if1 .left)) | no h ↦ omega arith ] in
     (r .1 short (search needs) (search needs) .sound, search needs, refl, refl)
 
--- src/lib.rt:154:20
 slice-aggregate-finish : tie.Need-slice-aggregate-finish
 slice-aggregate-finish c = search needs
 
--- src/lib.rt:154:30
 slice-aggregate-finish-2 : tie.Need-slice-aggregate-finish-2
 slice-aggregate-finish-2 c = search needs
 
--- src/lib.rt:154:5
 finish-requires : tie.Need-finish-requires
 finish-requires c κs = let s = c .before .before .before .before .before .before .before .before .before .before .before .before .before .before .before .before .before .before .before .before .before in let r = c .before .before .before .before .before .before .before .before .before .before .before .before .before .before .before .read .ensures in let zero = c .before .before .before .before .before .before .before .before .before .before .before .if1 .left in
     let text = s .args .text .now in
@@ -85,15 +73,12 @@ finish-requires c κs = let s = c .before .before .before .before .before .befor
     let w = j .written (threads (lines text)) (cells (lines text)) ts st in
     (written-few (c .before .before .before .before .before .before .judge .result) (threads (lines text)) (cells (lines text)) (c .before .before .before .before .before .before .judge .last .1 .1 .1 .0) (c .before .before .before .before .before .before .judge .last .1 .1 .1 .1 .0) w, search needs, search needs)
 
--- src/lib.rt:137:1
 same-length : tie.Need-same-length
 same-length c = search needs
 
--- src/lib.rt:137:1
 same-length-2 : tie.Need-same-length-2
 same-length-2 c = search needs
 
--- src/lib.rt:137:1
 returns-2 : tie.Need-returns-2
 returns-2 c = let s = c .before .before .before .before .before .before .before .before .before .before .before .before .before .before .before .before .before .before .before .before .before .before .before .before .before .before in let r = c .before .before .before .before .before .before .before .before .before .before .before .before .before .before .before .before .before .before .before .before .read .ensures in let zero = c .before .before .before .before .before .before .before .before .before .before .before .before .before .before .before .before .if1 .left in
     let text = s .args .text .now in

@@ -1,3 +1,4 @@
+-- `step::act::advance` meets its contract. Assumes nothing.
 use denote.Ref.{now}
 use lib.ListN.{length, getD, take}
 use lib.Seq.{length-take-le}
@@ -155,54 +156,42 @@ wrote-is c =
     let s = start-of (c .before .before .before .before .before) in
     c .effect-of .ensures .2 ∙ given c (λ k i mem. writtenBy (s .args .choice) i (s .args .x) mem)
 
--- src/act.rt:309:9
 actor-requires : tie.Need-actor-requires
 actor-requires c κs = search needs
 
--- src/act.rt:310:9
 statement-of-requires : tie.Need-statement-of-requires
 statement-of-requires c κs = search needs
 
--- src/act.rt:314:12
 may-requires : tie.Need-may-requires
 may-requires c κs = search needs
 
--- src/act.rt:315:45
 slice-reshare-prefix-effect-of : tie.Need-slice-reshare-prefix-effect-of
 slice-reshare-prefix-effect-of c = omega (arith, in-addresses (c .before .before))
 
--- src/act.rt:315:45
 slice-aggregate-effect-of : tie.Need-slice-aggregate-effect-of
 slice-aggregate-effect-of c = let f = c .before .before .before in let a = start-of f .args in sym (length-take-le (a .filled) (now (a .addresses)) (omega (arith, in-addresses f)))
 
--- src/act.rt:315:67
 slice-reshare-prefix-effect-of-2 : tie.Need-slice-reshare-prefix-effect-of-2
 slice-reshare-prefix-effect-of-2 c = omega (arith, in-values (c .before .before .before))
 
--- src/act.rt:315:67
 slice-aggregate-effect-of-2 : tie.Need-slice-aggregate-effect-of-2
 slice-aggregate-effect-of-2 c = let f = c .before .before .before .before in let a = start-of f .args in sym (length-take-le (a .filled) (now (a .values)) (omega (arith, in-values f)))
 
--- src/act.rt:315:17
 effect-of-requires : tie.Need-effect-of-requires
 effect-of-requires c κs =
     let f = c .before .before .before .before in
     let a = start-of f .args in
     pc-fits (now (a .set)) (a .layout) (a .choice) (a .x) (f .before .before .statement-of .result) (stated f) (λ t. counts-fit (start-of f) t .fits)
 
--- src/act.rt:320:21
 write-requires : tie.Need-write-requires
 write-requires c κs = let f = c .before .before .before .before .before .before .before .before .before .before .before in (in-addresses f, in-values f)
 
--- src/act.rt:321:17
 same-length : tie.Need-same-length
 same-length c = search needs
 
--- src/act.rt:321:17
 same-length-2 : tie.Need-same-length-2
 same-length-2 c = search needs
 
--- src/act.rt:321:17
 returns : tie.Need-returns
 returns c =
     let w = c .before .before .before .before in
@@ -222,19 +211,15 @@ returns c =
       more = w .write .ensures .2;
     }
 
--- src/act.rt:330:13
 not-taken-requires : tie.Need-not-taken-requires
 not-taken-requires c κs = search needs
 
--- src/act.rt:330:13
 same-length-3 : tie.Need-same-length-3
 same-length-3 c = search needs
 
--- src/act.rt:330:13
 same-length-4 : tie.Need-same-length-4
 same-length-4 c = search needs
 
--- src/act.rt:330:13
 returns-2 : tie.Need-returns-2
 returns-2 c =
     let e = c .before .before in
@@ -244,11 +229,9 @@ returns-2 c =
     unmoved (can-of s) (a .choice) (statement-by s) (a .x) (waiting-of s) (now (a .addresses)) (now (a .values)) (a .filled) (c .not-taken .result) Lacking (f .before .before .statement-of .result) refl (c .not-taken .ensures) (stated f)
     (sym (taking (e .before .before .before) ∙ passed _ _ (sym (knows e) ∙ c .before .if3 .left)))
 
--- src/act.rt:332:9
 not-taken-requires-2 : tie.Need-not-taken-requires-2
 not-taken-requires-2 c κs = search needs
 
--- src/act.rt:332:9
 returns-3 : tie.Need-returns-3
 returns-3 c =
     let p = c .before .before in
@@ -258,11 +241,9 @@ returns-3 c =
     unmoved (can-of s) (a .choice) (statement-by s) (a .x) (waiting-of s) (now (a .addresses)) (now (a .values)) (a .filled) (c .not-taken2 .result) NotPermitted (f .before .before .statement-of .result) refl (c .not-taken2 .ensures) (stated f)
     (sym (passed _ _ (and-right-false (can-of s) (sym (permits p) ∙ c .before .if2 .left))))
 
--- src/act.rt:334:5
 not-taken-requires-3 : tie.Need-not-taken-requires-3
 not-taken-requires-3 c κs = search needs
 
--- src/act.rt:292:1
 returns-4 : tie.Need-returns-4
 returns-4 c =
     let k = c .before .before in

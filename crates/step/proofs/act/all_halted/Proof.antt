@@ -1,3 +1,4 @@
+-- `step::act::all_halted` meets its contract. Assumes nothing.
 use Rattle.base.proofs.Below.{every-not}
 use Rattle.base.specs.Below.{every}
 use lib.ListN.{getD}
@@ -11,32 +12,26 @@ use Rattle.step.proofs.act.all_halted.Tie as tie
 use Rattle.step.proofs.act.all_halted.Reads as reads
 use Rattle.step.proofs.act.all_halted.Lts as lts
 
--- src/act.rt:65:1
 returns : tie.Need-returns
 unfolding every
 returns c = let a = c .before .args in sym (ap (λ (n : ℕ). every n (λ t. getD (a .first ∷ a .second ∷ a .third ∷ a .fourth ∷ []) t false)) (c .match .keys1))
 
--- src/act.rt:65:1
 returns-2 : tie.Need-returns-2
 unfolding every
 returns-2 c = let a = c .before .args in sym (ap (λ (n : ℕ). every n (λ t. getD (a .first ∷ a .second ∷ a .third ∷ a .fourth ∷ []) t false)) (c .match .keys2))
 
--- src/act.rt:65:1
 returns-3 : tie.Need-returns-3
 unfolding every
 returns-3 c = let a = c .before .args in sym (ap (λ (n : ℕ). every n (λ t. getD (a .first ∷ a .second ∷ a .third ∷ a .fourth ∷ []) t false)) (c .match .keys3))
 
--- src/act.rt:65:1
 returns-4 : tie.Need-returns-4
 unfolding every
 returns-4 c = let a = c .before .args in sym (ap (λ (n : ℕ). every n (λ t. getD (a .first ∷ a .second ∷ a .third ∷ a .fourth ∷ []) t false)) (c .match .keys4))
 
--- src/act.rt:65:1
 returns-5 : tie.Need-returns-5
 unfolding every
 returns-5 c = let a = c .before .args in sym (ap (λ (n : ℕ). every n (λ t. getD (a .first ∷ a .second ∷ a .third ∷ a .fourth ∷ []) t false)) (c .match .keys5))
 
--- src/act.rt:65:1
 returns-6 : tie.Need-returns-6
 returns-6 c = let a = c .before .args in sym (every-not (λ t. getD (a .first ∷ a .second ∷ a .third ∷ a .fourth ∷ []) t false) (a .n) 4 (omega arith) refl)
 

@@ -1,3 +1,4 @@
+-- `step::act::code_after` meets its contract. Assumes nothing.
 use Rattle.base.proofs.Choice.{chosen, passed}
 use borrow.Author.Tests.{eq-eqb, ne-eqb}
 use mathlib.Core.Path.{sym}
@@ -6,11 +7,9 @@ use Rattle.step.proofs.act.code_after.Tie as tie
 use Rattle.step.proofs.act.code_after.Reads as reads
 use Rattle.step.proofs.act.code_after.Lts as lts
 
--- src/act.rt:99:9
 returns : tie.Need-returns
 returns c = sym (chosen _ _ (eq-eqb _ _ (c .if1 .taken)))
 
--- src/act.rt:95:1
 returns-2 : tie.Need-returns-2
 returns-2 c = sym (passed _ _ (ne-eqb _ _ (c .if1 .left)))
 

@@ -1,5 +1,6 @@
+-- `step::act::effect_of` meets its contract. Assumes nothing.
 use denote.Ref.{now}
-use mathlib.Core.Path.{_≡_, sym, ap, _∙_}
+use mathlib.Core.Path.{sym, ap, _∙_}
 use Rattle.step.specs.Held.{memoryIn, knownIn, cellsOf, readsBy, threadBy, writtenBy}
 use Rattle.step.specs.Maps.{knowsAll}
 use Rattle.step.specs.declared.Choice.{Choice}
@@ -11,23 +12,18 @@ use Rattle.step.proofs.act.effect_of.Lts as lts
 use Rattle.step.proofs.act.executing.Reads as executing-reads
 use Rattle.step.proofs.act.flushing.Reads as flushing-reads
 
--- src/act.rt:205:31
 enum-told : tie.Need-enum-told
 enum-told c = search needs
 
--- src/act.rt:205:31
 executing-requires : tie.Need-executing-requires
 executing-requires c κs = search needs
 
--- src/act.rt:206:29
 enum-told-2 : tie.Need-enum-told-2
 enum-told-2 c = search needs
 
--- src/act.rt:206:29
 flushing-requires : tie.Need-flushing-requires
 flushing-requires c κs = search needs
 
--- src/act.rt:196:1
 returns : tie.Need-returns
 returns c =
     let a = c .before .before .before .before .before .args in
@@ -40,7 +36,6 @@ returns c =
       e .3 ∙ ap (λ (k : Choice). readsBy k (a .i) (a .x) memory) q,
     )
 
--- src/act.rt:196:1
 returns-2 : tie.Need-returns-2
 returns-2 c =
     let a = c .before .before .before .before .before .args in

@@ -1,3 +1,4 @@
+-- `step::act::ended_after` meets its contract. Assumes nothing.
 use Rattle.step.proofs.Four.{four}
 use Rattle.step.specs.declared.Thread.{Thread}
 use Rattle.step.specs.Machine.{fresh}
@@ -16,27 +17,21 @@ use Rattle.step.proofs.act.ended_after.Reads as reads
 use Rattle.step.proofs.act.ended_after.Lts as lts
 use Rattle.step.proofs.act.all_halted.Reads as all-halted-reads
 
--- src/act.rt:84:9
 element-copy-out-all-halted : tie.Need-element-copy-out-all-halted
 element-copy-out-all-halted c = search needs
 
--- src/act.rt:85:9
 element-copy-out-all-halted-2 : tie.Need-element-copy-out-all-halted-2
 element-copy-out-all-halted-2 c = search needs
 
--- src/act.rt:86:9
 element-copy-out-all-halted-3 : tie.Need-element-copy-out-all-halted-3
 element-copy-out-all-halted-3 c = search needs
 
--- src/act.rt:87:9
 element-copy-out-all-halted-4 : tie.Need-element-copy-out-all-halted-4
 element-copy-out-all-halted-4 c = search needs
 
--- src/act.rt:82:9
 all-halted-requires : tie.Need-all-halted-requires
 all-halted-requires c κs = search needs
 
--- src/act.rt:79:1
 returns : tie.Need-returns
 returns c =
     let h = c .before .all-halted in

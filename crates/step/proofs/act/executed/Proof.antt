@@ -1,4 +1,5 @@
-use mathlib.Core.Path.{_≡_, ap₂}
+-- `step::act::executed` meets its contract. Assumes nothing.
+use mathlib.Core.Path.{ap₂}
 use Rattle.step.specs.Machine.{withPc}
 use borrow.Author.Needs.{needs}
 use Rattle.step.proofs.act.executed.Statement.{statement}

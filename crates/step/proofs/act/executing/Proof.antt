@@ -1,8 +1,9 @@
+-- `step::act::executing` meets its contract. Assumes nothing.
 use denote.Ref.{now}
 use Prim.Native.Nat.{ℕ}
 use lib.Dec.{eqb}
 use mathlib.Core.Path.{_≡_, sym, ap, ap₂, _∙_}
-use mathlib.Core.Bool.{Bool, true, cond, _&&_}
+use mathlib.Core.Bool.{true, cond, _&&_}
 use Rattle.base.proofs.Choice.{chosen, passed}
 use Rattle.records.specs.Instructions.{CAS}
 use Rattle.records.specs.declared.Statement.{Statement}
@@ -54,26 +55,21 @@ wrote-cas c e =
     let o = c .before .before .before in
     ap (λ (a : ℕ). wrote a (thread-of o .accu)) (o .operands .ensures .1) ∙ sym (chosen _ _ (cas c ∙ e))
 
--- src/act.rt:141:9
 operands-requires : tie.Need-operands-requires
 operands-requires c κs = search needs
 
--- src/act.rt:142:9
 executed-requires : tie.Need-executed-requires
 executed-requires c κs = search needs
 
--- src/act.rt:149:8
 matches-requires : tie.Need-matches-requires
 matches-requires c κs = search needs
 
--- src/act.rt:133:1
 returns : tie.Need-returns
 returns c =
     let m = c .before in
     let o = m .before .before .before .operands in
     (o .ensures .0, registers (m .before .before), wrote-cas m (c .if1 .taken), o .ensures .3)
 
--- src/act.rt:133:1
 returns-2 : tie.Need-returns-2
 returns-2 c =
     let m = c .before in

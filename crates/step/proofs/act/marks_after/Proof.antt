@@ -1,3 +1,4 @@
+-- `step::act::marks_after` meets its contract. Assumes nothing.
 use Rattle.base.proofs.Choice.{chosen, passed}
 use borrow.Author.Tests.{lt-ltb, le-ltb}
 use mathlib.Core.Path.{sym, _∙_}
@@ -8,15 +9,12 @@ use Rattle.step.proofs.act.marks_after.Reads as reads
 use Rattle.step.proofs.act.marks_after.Lts as lts
 use Rattle.step.proofs.act.marks_settled.Reads as marks-settled-reads
 
--- src/act.rt:128:9
 marks-settled-requires : tie.Need-marks-settled-requires
 marks-settled-requires c κs = search needs
 
--- src/act.rt:128:9
 returns : tie.Need-returns
 returns c = c .marks-settled .ensures ∙ sym (chosen _ _ (lt-ltb _ _ (c .before .if1 .taken)))
 
--- src/act.rt:124:1
 returns-2 : tie.Need-returns-2
 returns-2 c = sym (passed _ _ (le-ltb _ _ (c .if1 .left)))
 

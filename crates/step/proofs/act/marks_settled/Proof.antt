@@ -1,3 +1,4 @@
+-- `step::act::marks_settled` meets its contract. Assumes nothing.
 use Rattle.step.proofs.Four.{stored}
 use Rattle.step.proofs.Settled.{marks-cleared, marks-left}
 use Rattle.base.proofs.Choice.{and-true, and-false, and-right-false}
@@ -20,15 +21,12 @@ use Rattle.step.proofs.act.marks_settled.Lts as lts
 use Rattle.step.proofs.checkpoints.clear.Reads as clear-reads
 use Rattle.step.proofs.checkpoints.opened.Reads as opened-reads
 
--- src/act.rt:109:21
 clear-requires : tie.Need-clear-requires
 clear-requires c κs = search needs
 
--- src/act.rt:111:12
 opened-requires : tie.Need-opened-requires
 opened-requires c κs = search needs
 
--- src/act.rt:112:13
 returns : tie.Need-returns
 returns c =
     let a = c .before .before .before .before .before .before .args in
@@ -36,15 +34,12 @@ returns c =
     c .before .before .before .before .clear .ensures
     ∙ marks-cleared S (λ v. getD (a .marks) v unmarked) (a .t) (a .i) (and-right-false (eqb (a .i .number) 19) (ap not (sym (c .before .opened .ensures) ∙ c .if2 .taken)))
 
--- src/act.rt:114:9
 mul-after : tie.Need-mul-after
 mul-after c = search needs
 
--- src/act.rt:114:9
 array-set-from-after : tie.Need-array-set-from-after
 array-set-from-after c = search needs
 
--- src/act.rt:118:9
 returns-2 : tie.Need-returns-2
 returns-2 c =
     let a = c .before .before .before .before .before .before .args in
@@ -56,7 +51,6 @@ returns-2 c =
     ∙ ap {B = ℕ → Mark} (λ (f : ℕ → Mark) (u : ℕ). cond (eqb u (a .t)) v (f u)) (r .ensures)
     ∙ marks-left S (λ v. getD (a .marks) v unmarked) (a .t) (a .i) (and-true (eq-eqb _ _ (c .before .before .if1 .taken)) (ap not (sym (c .before .opened .ensures) ∙ c .if2 .left)))
 
--- src/act.rt:105:1
 returns-3 : tie.Need-returns-3
 returns-3 c =
     let a = c .before .before .before .before .args in

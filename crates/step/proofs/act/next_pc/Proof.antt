@@ -1,9 +1,10 @@
+-- `step::act::next_pc` meets its contract. Assumes nothing.
 use borrow.Author.Tests.{eq-eqb, ne-eqb, lt-ltb, le-ltb}
 use lib.Dec.{eqb, ltb}
 use native.Mathlib.Numerals.{add-one}
 use native.Mathlib.Omega.{arith}
 use mathlib.Core.Path.{_≡_, _∙_, sym, ap}
-use mathlib.Core.Bool.{Bool, cond, not, _||_}
+use mathlib.Core.Bool.{cond, not, _||_}
 use Prim.Native.Nat.{suc}
 use Rattle.base.proofs.Choice.{chosen, passed, or-true, or-false, or-right-true}
 use Rattle.step.specs.Machine.{nextPc, jumps}

@@ -1,3 +1,4 @@
+-- `step::act::not_taken` meets its contract. Assumes nothing.
 use Rattle.step.specs.Machine.{noWrite}
 use Rattle.step.specs.Held.{noRead}
 use Rattle.step.specs.declared.Thread.{Thread}
@@ -9,11 +10,9 @@ use Rattle.step.proofs.act.not_taken.Reads as reads
 use Rattle.step.proofs.act.not_taken.Lts as lts
 use Rattle.step.proofs.Thread.fresh.Reads as fresh-reads
 
--- src/act.rt:268:9
 fresh-requires : tie.Need-fresh-requires
 fresh-requires c κs = search needs
 
--- src/act.rt:265:1
 returns : tie.Need-returns
 returns c = ap (λ (x : Thread). record { outcome = c .before .args .outcome; statement = c .before .args .statement; thread = x; filled = c .before .args .filled; wrote = noWrite; read = noRead }) (c .fresh .ensures)
 

@@ -1,9 +1,10 @@
+-- `step::act::put` meets its contract. Assumes nothing.
 use lib.Seq.{length-take-le}
 use denote.Ref.{now}
 use Prim.Native.Nat.{_≤_, _<_}
 use native.Mathlib.Omega.{arith}
-use mathlib.Core.Path.{_≡_, _∙_, sym, ap}
-use lib.ListN.{length, getD}
+use mathlib.Core.Path.{_≡_, _∙_, sym}
+use lib.ListN.{getD}
 use lib.Dec.{eqb}
 use Rattle.records.specs.Maps.{cellAt}
 use Rattle.step.proofs.Cells.{prefix-cell, hit-memory, hit-known, miss-memory, miss-known}

@@ -1,3 +1,4 @@
+-- `step::act::statement_of` meets its contract. Assumes nothing.
 use Rattle.step.specs.declared.Choice.{Choice}
 use Rattle.step.specs.Held.{statementBy}
 use Rattle.records.specs.Sets.{setBy}
@@ -10,25 +11,20 @@ use Rattle.step.proofs.act.statement_of.Reads as reads
 use Rattle.step.proofs.act.statement_of.Lts as lts
 use Rattle.records.proofs.fetch.Reads as fetch-reads
 
--- src/act.rt:255:25
 enum-known-choice : tie.Need-enum-known-choice
 enum-known-choice c = search needs
 
--- src/act.rt:255:31
 fetch-requires : tie.Need-fetch-requires
 fetch-requires c κs = search needs
 
--- src/act.rt:256:29
 enum-told : tie.Need-enum-told
 enum-told c = search needs
 
--- src/act.rt:251:1
 returns : tie.Need-returns
 returns c =
     let a = c .before .before .before .before .before .args in
     c .fetch .ensures ∙ sym (ap (λ (k : Choice). statementBy (setBy (now (a .set)) (a .layout)) k (a .x)) (c .before .before .choice .given .1))
 
--- src/act.rt:251:1
 returns-2 : tie.Need-returns-2
 returns-2 c =
     let a = c .before .before .before .args in

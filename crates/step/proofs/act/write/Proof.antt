@@ -1,9 +1,10 @@
+-- `step::act::write` meets its contract. Assumes nothing.
 use denote.Ref.{now}
-use Prim.Native.Nat.{ℕ, _≤_, _+_}
+use Prim.Native.Nat.{ℕ}
 use native.Mathlib.Omega.{arith}
 use lib.Dec.{eqb}
 use mathlib.Core.Path.{_≡_, sym, ap, _∙_, fun-ext}
-use mathlib.Core.Bool.{Bool, true, false, _||_, _&&_}
+use mathlib.Core.Bool.{Bool, true, _||_}
 use Rattle.base.proofs.Choice.{passed, and-false}
 use Rattle.step.specs.Held.{memoryOf, knownOf}
 use Rattle.step.specs.Machine.{wrote, memoryAfter}
@@ -20,19 +21,15 @@ use Rattle.step.proofs.act.put.Reads as put-reads
 all-of : (w : Written) → w .done ≡ true → wrote (w .address) (w .value) ≡ w
 all-of w e k = record { done = sym e k; address = w .address; value = w .value }
 
--- src/act.rt:120:9
 put-requires : tie.Need-put-requires
 put-requires c κs = search needs
 
--- src/act.rt:120:9
 same-length : tie.Need-same-length
 same-length c = search needs
 
--- src/act.rt:120:9
 same-length-2 : tie.Need-same-length-2
 same-length-2 c = search needs
 
--- src/act.rt:120:9
 returns : tie.Need-returns
 returns c =
     let p = c .before .before .before .before in
@@ -43,7 +40,6 @@ returns c =
       p .put .ensures .2,
     )
 
--- src/act.rt:113:1
 returns-2 : tie.Need-returns-2
 returns-2 c =
     let a = c .before .before .before .args in

@@ -1,3 +1,4 @@
+-- `step::checkpoints::clear` meets its contract. Assumes nothing.
 use Rattle.step.proofs.Four.{four}
 use Rattle.base.proofs.Choice.{passed, and-false}
 use Rattle.records.specs.Sets.{setBy}
@@ -20,83 +21,63 @@ use Rattle.step.proofs.checkpoints.kept.Reads as kept-reads
 all : (s : tie.Start) → length (s .args .t3) ≡ 4
 all s = search needs
 
--- src/checkpoints.rt:159:40
 array-copy-out-clears : tie.Need-array-copy-out-clears
 array-copy-out-clears c = search needs
 
--- src/checkpoints.rt:159:9
 clears-requires : tie.Need-clears-requires
 clears-requires c κs = search needs
 
--- src/checkpoints.rt:160:44
 array-copy-out-clears-too : tie.Need-array-copy-out-clears-too
 array-copy-out-clears-too c = search needs
 
--- src/checkpoints.rt:160:54
 array-copy-out-clears-too-2 : tie.Need-array-copy-out-clears-too-2
 array-copy-out-clears-too-2 c = search needs
 
--- src/checkpoints.rt:160:9
 clears-too-requires : tie.Need-clears-too-requires
 clears-too-requires c κs = search needs
 
--- src/checkpoints.rt:161:44
 array-copy-out-clears-too-3 : tie.Need-array-copy-out-clears-too-3
 array-copy-out-clears-too-3 c = search needs
 
--- src/checkpoints.rt:161:54
 array-copy-out-clears-too-4 : tie.Need-array-copy-out-clears-too-4
 array-copy-out-clears-too-4 c = search needs
 
--- src/checkpoints.rt:161:9
 clears-too-requires-2 : tie.Need-clears-too-requires-2
 clears-too-requires-2 c κs = search needs
 
--- src/checkpoints.rt:162:44
 array-copy-out-clears-too-5 : tie.Need-array-copy-out-clears-too-5
 array-copy-out-clears-too-5 c = search needs
 
--- src/checkpoints.rt:162:54
 array-copy-out-clears-too-6 : tie.Need-array-copy-out-clears-too-6
 array-copy-out-clears-too-6 c = search needs
 
--- src/checkpoints.rt:162:9
 clears-too-requires-3 : tie.Need-clears-too-requires-3
 clears-too-requires-3 c κs = search needs
 
--- src/checkpoints.rt:163:14
 array-copy-out-kept : tie.Need-array-copy-out-kept
 array-copy-out-kept c = search needs
 
--- src/checkpoints.rt:163:6
 kept-requires : tie.Need-kept-requires
 kept-requires c κs = search needs
 
--- src/checkpoints.rt:163:33
 array-copy-out-kept-2 : tie.Need-array-copy-out-kept-2
 array-copy-out-kept-2 c = search needs
 
--- src/checkpoints.rt:163:25
 kept-requires-2 : tie.Need-kept-requires-2
 kept-requires-2 c κs = search needs
 
--- src/checkpoints.rt:163:52
 array-copy-out-kept-3 : tie.Need-array-copy-out-kept-3
 array-copy-out-kept-3 c = search needs
 
--- src/checkpoints.rt:163:44
 kept-requires-3 : tie.Need-kept-requires-3
 kept-requires-3 c κs = search needs
 
--- src/checkpoints.rt:163:71
 array-copy-out-kept-4 : tie.Need-array-copy-out-kept-4
 array-copy-out-kept-4 c = search needs
 
--- src/checkpoints.rt:163:63
 kept-requires-4 : tie.Need-kept-requires-4
 kept-requires-4 c κs = search needs
 
--- src/checkpoints.rt:156:1
 returns : tie.Need-returns
 unfolding cleared
 returns c =

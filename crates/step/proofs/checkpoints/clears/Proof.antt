@@ -1,3 +1,4 @@
+-- `step::checkpoints::clears` meets its contract. Assumes nothing.
 use Rattle.step.specs.Machine.{unmarked, opened}
 use Rattle.records.specs.Sets.{setBy}
 use mathlib.Core.Path.{sym, ap, _∙_}
@@ -11,17 +12,14 @@ use Rattle.step.proofs.checkpoints.clears.Reads as reads
 use Rattle.step.proofs.checkpoints.clears.Lts as lts
 use Rattle.step.proofs.checkpoints.opened.Reads as opened-reads
 
--- src/checkpoints.rt:116:9
 opened-requires : tie.Need-opened-requires
 opened-requires c κs = search needs
 
--- src/checkpoints.rt:116:9
 returns : tie.Need-returns
 returns c =
     let a = c .before .before .before .args in
     c .opened .ensures ∙ sym (ap (λ (b : Bool). b && opened (setBy (now (a .set)) (a .layout)) (λ t. getD (a .marks) t unmarked) (a .m .checkpoint)) (c .before .if1 .taken))
 
--- src/checkpoints.rt:112:1
 returns-2 : tie.Need-returns-2
 returns-2 c = search needs
 

@@ -1,3 +1,4 @@
+-- `step::checkpoints::clears_too` meets its contract. Assumes nothing.
 use Rattle.step.specs.Machine.{unmarked, opened}
 use Rattle.records.specs.Sets.{setBy}
 use Rattle.base.proofs.Choice.{and-left, and-right}
@@ -16,11 +17,9 @@ use Rattle.step.proofs.checkpoints.clears_too.Lts as lts
 use Rattle.step.proofs.checkpoints.marked_at.Reads as marked-at-reads
 use Rattle.step.proofs.checkpoints.opened.Reads as opened-reads
 
--- src/checkpoints.rt:134:12
 marked-at-requires : tie.Need-marked-at-requires
 marked-at-requires c κs = search needs
 
--- src/checkpoints.rt:135:13
 returns : tie.Need-returns
 returns c =
     let s = c .before .before .before .before in
@@ -31,17 +30,14 @@ returns c =
     ∙ ap₂ (λ (b : Bool) (n : ℕ). b && is-open n) (and-left (a .other .on) (eqb (a .other .checkpoint) (a .m .checkpoint)) e) (eqb-true _ _ (and-right (a .other .on) (eqb (a .other .checkpoint) (a .m .checkpoint)) e))
     ∙ sym (ap (λ (b : Bool). b && is-open (a .m .checkpoint)) (c .before .before .if1 .taken))
 
--- src/checkpoints.rt:137:9
 opened-requires : tie.Need-opened-requires
 opened-requires c κs = search needs
 
--- src/checkpoints.rt:137:9
 returns-2 : tie.Need-returns-2
 returns-2 c =
     let a = c .before .before .before .before .before .args in
     c .opened .ensures ∙ sym (ap (λ (b : Bool). b && opened (setBy (now (a .set)) (a .layout)) (λ t. getD (a .marks) t unmarked) (a .m .checkpoint)) (c .before .before .before .if1 .taken))
 
--- src/checkpoints.rt:122:1
 returns-3 : tie.Need-returns-3
 returns-3 c = search needs
 

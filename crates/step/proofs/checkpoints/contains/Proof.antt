@@ -1,3 +1,4 @@
+-- `step::checkpoints::contains` meets its contract. Assumes nothing.
 use Rattle.step.proofs.Groups.{some-same}
 use Rattle.base.specs.Below.{some}
 use Rattle.base.proofs.Choice.{chosen}
@@ -52,40 +53,31 @@ found c =
     let a = c .before .before .before .before .before .before .before .args in
     c .checks .ensures ∙ ap (λ (i : Statement). eqb (i .number) CHECK && eqb (i .argument) (a .c)) (c .before .statement-at .ensures)
 
--- src/checkpoints.rt:50:9
 count-requires : tie.Need-count-requires Inv-loop μ-loop
 count-requires c κs = search needs
 
--- src/checkpoints.rt:51:17
 start-requires : tie.Need-start-requires Inv-loop μ-loop
 start-requires c κs = search needs
 
--- src/checkpoints.rt:51:17
 cast-first : tie.Need-cast-first Inv-loop μ-loop
 cast-first c = search needs
 
--- src/checkpoints.rt:53:5
 loop-holds : tie.Need-loop-holds Inv-loop μ-loop
 unfolding some
 loop-holds c = (search needs, omega (arith, c .before .count .ok), omega (arith, c .start .ok), refl)
 
--- src/checkpoints.rt:54:53
 cast-statement-at : tie.Need-cast-statement-at Inv-loop μ-loop
 cast-statement-at c = search needs
 
--- src/checkpoints.rt:54:44
 add-statement-at : tie.Need-add-statement-at Inv-loop μ-loop
 add-statement-at c = search needs
 
--- src/checkpoints.rt:54:13
 statement-at-requires : tie.Need-statement-at-requires Inv-loop μ-loop
 statement-at-requires c κs = search needs
 
--- src/checkpoints.rt:55:12
 checks-requires : tie.Need-checks-requires Inv-loop μ-loop
 checks-requires c κs = search needs
 
--- src/checkpoints.rt:56:13
 returns : tie.Need-returns Inv-loop μ-loop
 unfolding contains
 returns c =
@@ -96,22 +88,18 @@ returns c =
     sym (some-at (isCheck (setBy (now (a .set)) (a .layout)) (a .t) (a .c)) _ (l .p) (omega (arith, n, c .before .before .before .loop-test .taken))
     (sym (checked-is (now (a .set)) (a .layout) (a .t) (a .c) _ (l .p) (s .start .ensures) (omega (arith, n, c .before .before .before .loop-test .taken))) ∙ sym (found (c .before)) ∙ c .if1 .taken))
 
--- src/checkpoints.rt:58:9
 add-p : tie.Need-add-p Inv-loop μ-loop
 add-p c = search needs
 
--- src/checkpoints.rt:53:5
 loop-less : tie.Need-loop-less Inv-loop μ-loop
 loop-less c = search needs
 
--- src/checkpoints.rt:53:5
 loop-again : tie.Need-loop-again Inv-loop μ-loop
 loop-again c =
     let l = c .before .before .before .before .loop in
     let a = c .before .before .before .before .before .before .before .before .args in
     (search needs, search needs, search needs, some-more (λ q. checked (now (a .set)) _ (a .c) q) (l .p) (l .inv .3) (sym (found (c .before)) ∙ c .if1 .left))
 
--- src/checkpoints.rt:47:1
 returns-2 : tie.Need-returns-2 Inv-loop μ-loop
 unfolding contains
 returns-2 c =

@@ -1,3 +1,4 @@
+-- `step::checkpoints::kept` meets its contract. Assumes nothing.
 use mathlib.Core.Path.{sym}
 use Rattle.base.proofs.Choice.{chosen}
 use borrow.Author.Needs.{needs}
@@ -6,11 +7,9 @@ use Rattle.step.proofs.checkpoints.kept.Tie as tie
 use Rattle.step.proofs.checkpoints.kept.Reads as reads
 use Rattle.step.proofs.checkpoints.kept.Lts as lts
 
--- src/checkpoints.rt:147:9
 returns : tie.Need-returns
 returns c = sym (chosen _ _ (c .if1 .taken))
 
--- src/checkpoints.rt:143:1
 returns-2 : tie.Need-returns-2
 returns-2 c = search needs
 

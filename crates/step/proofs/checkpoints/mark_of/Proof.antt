@@ -1,3 +1,4 @@
+-- `step::checkpoints::mark_of` meets its contract. Assumes nothing.
 use Rattle.step.specs.Machine.{unmarked}
 use Prim.Native.Nat.{_≤_}
 use mathlib.Core.Path.{_≡_, sym}
@@ -9,19 +10,15 @@ use Rattle.step.proofs.checkpoints.mark_of.Tie as tie
 use Rattle.step.proofs.checkpoints.mark_of.Reads as reads
 use Rattle.step.proofs.checkpoints.mark_of.Lts as lts
 
--- src/checkpoints.rt:66:16
 mul-result : tie.Need-mul-result
 mul-result c = search needs
 
--- src/checkpoints.rt:66:16
 array-copy-out-result : tie.Need-array-copy-out-result
 array-copy-out-result c = search needs
 
--- src/checkpoints.rt:66:9
 returns : tie.Need-returns
 returns c = search needs
 
--- src/checkpoints.rt:61:1
 returns-2 : tie.Need-returns-2
 returns-2 c =
     let n : length (c .before .args .t1) ≡ 4 = search needs in

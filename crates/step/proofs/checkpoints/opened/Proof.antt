@@ -1,17 +1,16 @@
-use Prim.Native.Nat.{ℕ}
+-- `step::checkpoints::opened` meets its contract. Assumes nothing.
+use Prim.Native.Nat.{ℕ, _≤_, _-_}
 use mathlib.Core.Bool.{Bool, true, not, _||_}
 use mathlib.Core.List.{List}
 use Rattle.step.specs.declared.Mark.{Mark}
-use Rattle.records.specs.Sets.{Set}
+use Rattle.records.specs.Sets.{Set, setBy}
 use denote.Ref.{now}
 use lib.ListN.{getD}
 use native.Mathlib.Omega.{arith}
 use mathlib.Core.Path.{_≡_, sym, ap, _∙_, refl}
 use Rattle.step.specs.Machine.{contains, markedAt, opened, unmarked}
-use Rattle.records.specs.Sets.{setBy}
 use Rattle.base.proofs.Below.{every-more, every-not}
 use Rattle.base.specs.Below.{every}
-use Prim.Native.Nat.{_≤_, _-_}
 use borrow.Author.Needs.{needs}
 use Rattle.step.proofs.checkpoints.opened.Statement.{statement}
 use Rattle.step.proofs.checkpoints.opened.Tie as tie
@@ -37,20 +36,16 @@ judged c =
     let a = c .before .before .before .before .before .before .args in
     sym (c .shuts .ensures ∙ ap (λ (m : Mark). not (contains (setBy (now (a .set)) (a .layout)) (c .before .before .before .before .loop .t) (a .c)) || markedAt m (a .c)) (c .before .mark-of .ensures))
 
--- src/checkpoints.rt:89:5
 loop-holds : tie.Need-loop-holds Inv-loop μ-loop
 unfolding every
 loop-holds c = (search needs, refl)
 
--- src/checkpoints.rt:90:31
 mark-of-requires : tie.Need-mark-of-requires Inv-loop μ-loop
 mark-of-requires c κs = search needs
 
--- src/checkpoints.rt:90:12
 shuts-requires : tie.Need-shuts-requires Inv-loop μ-loop
 shuts-requires c κs = search needs
 
--- src/checkpoints.rt:91:13
 returns : tie.Need-returns Inv-loop μ-loop
 unfolding opened
 returns c =
@@ -58,22 +53,18 @@ returns c =
     let a = c .before .before .before .before .before .before .before .args in
     sym (every-not (passes (setBy (now (a .set)) (a .layout)) (a .marks) (a .c)) _ (l .t) (search needs) (judged (c .before) ∙ ap not (c .if2 .taken)))
 
--- src/checkpoints.rt:93:9
 add-t : tie.Need-add-t Inv-loop μ-loop
 add-t c = search needs
 
--- src/checkpoints.rt:89:5
 loop-less : tie.Need-loop-less Inv-loop μ-loop
 loop-less c = search needs
 
--- src/checkpoints.rt:89:5
 loop-again : tie.Need-loop-again Inv-loop μ-loop
 loop-again c =
     let l = c .before .before .before .before .before .loop in
     let a = c .before .before .before .before .before .before .before .args in
     (search needs, every-more (passes (setBy (now (a .set)) (a .layout)) (a .marks) (a .c)) (l .t) (l .inv .1) (judged (c .before) ∙ ap not (c .if2 .left)))
 
--- src/checkpoints.rt:85:1
 returns-2 : tie.Need-returns-2 Inv-loop μ-loop
 unfolding opened
 returns-2 c =

@@ -1,10 +1,10 @@
+-- `step::checkpoints::shuts` meets its contract. Assumes nothing.
 use denote.Ref.{now}
 use Rattle.records.specs.Sets.{setBy}
 use Rattle.step.specs.Machine.{contains}
-use Rattle.base.proofs.Choice.{or-no}
-use mathlib.Core.Bool.{Bool, true, false, not, _||_}
-use mathlib.Core.Path.{_≡_, sym, ap, ap₂, _∙_, refl}
-use Rattle.base.proofs.Choice.{or-right-true}
+use Rattle.base.proofs.Choice.{or-no, or-right-true}
+use mathlib.Core.Bool.{Bool, not, _||_}
+use mathlib.Core.Path.{sym, ap, _∙_}
 use borrow.Author.Needs.{needs}
 use Rattle.step.proofs.checkpoints.shuts.Statement.{statement}
 use Rattle.step.proofs.checkpoints.shuts.Tie as tie

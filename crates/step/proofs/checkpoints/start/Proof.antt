@@ -1,3 +1,4 @@
+-- `step::checkpoints::start` meets its contract. Assumes nothing.
 use lib.ListN.{length, List·getD-eq-default}
 use native.Mathlib.Omega.{arith}
 use mathlib.Core.Path.{_≡_, sym}
@@ -8,19 +9,15 @@ use Rattle.step.proofs.checkpoints.start.Tie as tie
 use Rattle.step.proofs.checkpoints.start.Reads as reads
 use Rattle.step.proofs.checkpoints.start.Lts as lts
 
--- src/checkpoints.rt:31:16
 mul-result : tie.Need-mul-result
 mul-result c = search needs
 
--- src/checkpoints.rt:31:16
 element-copy-out-result : tie.Need-element-copy-out-result
 element-copy-out-result c = search needs
 
--- src/checkpoints.rt:31:9
 returns : tie.Need-returns
 returns c = search needs
 
--- src/checkpoints.rt:26:1
 returns-2 : tie.Need-returns-2
 returns-2 c =
     let n : length (c .before .args .t1 .starts) ≡ 4 = search needs in

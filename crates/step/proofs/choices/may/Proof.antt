@@ -1,12 +1,12 @@
+-- `step::choices::may` meets its contract. Assumes nothing.
 use denote.Ref.{now}
 use lib.ListN.{getD}
 use mathlib.Core.Path.{_≡_, sym, ap, _∙_}
-use mathlib.Core.Bool.{Bool, true, false, not, _&&_, _||_}
+use mathlib.Core.Bool.{Bool, not, _&&_, _||_}
 use Rattle.step.specs.declared.Choice.{Choice}
 use Rattle.step.specs.Machine.{needsEmpty, opened, unmarked}
 use Rattle.step.specs.Held.{allowed}
 use Rattle.records.specs.Sets.{setBy}
-use Rattle.base.proofs.Choice.{and-true, and-false}
 use Rattle.step.proofs.Permitted.{blocked-not, free-may, not-not}
 use borrow.Author.Needs.{needs}
 use Rattle.step.proofs.choices.may.Statement.{statement}
@@ -33,15 +33,12 @@ decided c =
     free-may (a .x .halted) (needsEmpty (a .i .number)) (a .x .full) (waits s) (sym (ap (λ (b : Bool). a .x .halted || a .x .full && b) (n .needs-empty .ensures)) ∙ c .if1 .left)
     ∙ sym (ap (λ (k : Choice). allowed k (a .i) (a .x) (waits s)) (n .before .enum-told .given .1))
 
--- src/choices.rt:32:48
 enum-told : tie.Need-enum-told
 enum-told c = search needs
 
--- src/choices.rt:32:48
 needs-empty-requires : tie.Need-needs-empty-requires
 needs-empty-requires c κs = search needs
 
--- src/choices.rt:34:17
 returns : tie.Need-returns
 returns c =
     let n = c .before .before .before in
@@ -49,11 +46,9 @@ returns c =
     sym (ap (λ (k : Choice). allowed k (a .i) (a .x) (waits (n .before .before .before))) (n .before .enum-told .given .1)
     ∙ blocked-not (a .x .halted) (needsEmpty (a .i .number)) (a .x .full) (waits (n .before .before .before)) (sym (ap (λ (b : Bool). a .x .halted || a .x .full && b) (n .needs-empty .ensures)) ∙ c .if1 .taken))
 
--- src/choices.rt:37:17
 opened-requires : tie.Need-opened-requires
 opened-requires c κs = search needs
 
--- src/choices.rt:37:17
 returns-2 : tie.Need-returns-2
 returns-2 c =
     let e = c .before .before in
@@ -61,11 +56,9 @@ returns-2 c =
     let o = opened (setBy (now (a .set)) (a .layout)) (λ u. getD (a .marks) u unmarked) (a .mark .checkpoint) in
     c .opened .ensures ∙ sym (not-not o) ∙ sym (ap (λ (b : Bool). not (b && not o)) (c .before .if2 .taken)) ∙ decided e
 
--- src/choices.rt:41:29
 enum-told-2 : tie.Need-enum-told-2
 enum-told-2 c = search needs
 
--- src/choices.rt:27:1
 returns-3 : tie.Need-returns-3
 returns-3 c =
     let e = c .before in
@@ -73,7 +66,6 @@ returns-3 c =
     let o = opened (setBy (now (a .set)) (a .layout)) (λ u. getD (a .marks) u unmarked) (a .mark .checkpoint) in
     sym (ap (λ (b : Bool). not (b && not o)) (c .if2 .left)) ∙ decided e
 
--- src/choices.rt:27:1
 returns-4 : tie.Need-returns-4
 returns-4 c =
     let a = c .before .before .before .args in

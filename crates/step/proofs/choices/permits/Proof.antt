@@ -1,13 +1,14 @@
+-- `step::choices::permits` meets its contract. Assumes nothing.
 use denote.Ref.{now}
 use lib.ListN.{getD}
 use lib.Dec.{leb}
 use native.Mathlib.Omega.{arith}
-use Prim.Native.Nat.{ℕ, _≤_, _<_}
+use Prim.Native.Nat.{ℕ}
 use mathlib.Core.Path.{_≡_, sym, ap, _∙_}
 use Rattle.step.specs.declared.Mark.{Mark}
-use mathlib.Core.Bool.{Bool, not, _&&_}
+use mathlib.Core.Bool.{Bool, _&&_}
 use borrow.Author.Tests.{lt-leb, le-leb}
-use Rattle.step.specs.Machine.{fresh, unmarked, permitted, actor, opened, waiting}
+use Rattle.step.specs.Machine.{fresh, unmarked, permitted, actor, waiting}
 use Rattle.step.specs.Held.{stateOf, allowed}
 use Rattle.records.specs.declared.Statement.{Statement}
 use Rattle.records.specs.Sets.{setBy}
@@ -31,52 +32,41 @@ few c memory =
     let a = c .before .before .before .before .args in
     ap (λ (b : Bool). b && permitted (setBy (now (a .set)) (a .layout)) (stateOf (a .t3) memory) (a .choice)) (le-leb _ _ (c .if1 .left))
 
--- src/choices.rt:59:9
 actor-requires : tie.Need-actor-requires
 actor-requires c κs = search needs
 
--- src/choices.rt:61:9
 returns : tie.Need-returns
 returns c =
     let a = c .before .before .before .before .args in
     λ memory. sym (and-false (permitted (setBy (now (a .set)) (a .layout)) (stateOf (a .t3) memory) (a .choice)) (lt-leb _ _ (c .if1 .taken)))
 
--- src/choices.rt:64:9
 returns-2 : tie.Need-returns-2
 returns-2 c =
     let t = c .before .before .before .before in
     let a = t .before .before .args in
     λ memory. sym (few (c .before .before) memory ∙ no-thread (setBy (now (a .set)) (a .layout)) (stateOf (a .t3) memory) (a .choice) (omega (arith, t .actor .ensures, c .if2 .taken)))
 
--- src/choices.rt:66:14
 cast-at : tie.Need-cast-at
 cast-at c = search needs
 
--- src/choices.rt:67:13
 mul-x : tie.Need-mul-x
 mul-x c = search needs
 
--- src/choices.rt:67:13
 element-copy-out-x : tie.Need-element-copy-out-x
 element-copy-out-x c = search needs
 
--- src/choices.rt:69:16
 mul-mark : tie.Need-mul-mark
 mul-mark c = search needs
 
--- src/choices.rt:69:16
 array-copy-out-mark : tie.Need-array-copy-out-mark
 array-copy-out-mark c = search needs
 
--- src/choices.rt:70:9
 fetch-requires : tie.Need-fetch-requires
 fetch-requires c κs = search needs
 
--- src/choices.rt:71:5
 may-requires : tie.Need-may-requires
 may-requires c κs = search needs
 
--- src/choices.rt:56:1
 returns-3 : tie.Need-returns-3
 unfolding waiting
 returns-3 c =

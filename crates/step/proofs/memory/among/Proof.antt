@@ -1,3 +1,4 @@
+-- `step::memory::among` meets its contract. Assumes nothing.
 use borrow.Author.Needs.{needs}
 use Rattle.step.proofs.Groups.{some-next}
 use Rattle.base.specs.Below.{some}
@@ -19,35 +20,28 @@ Inv-loop addresses a found₀ k₀ found k = (k ≤ length addresses) × (found 
 abbrev μ-loop : tie.MeasureT-loop
 μ-loop addresses a found₀ k₀ found k = length addresses - k
 
--- src/memory.rt:25:5
 loop-holds : tie.Need-loop-holds Inv-loop μ-loop
 unfolding some
 loop-holds c = (search needs, refl)
 
--- src/memory.rt:26:26
 mul-found : tie.Need-mul-found Inv-loop μ-loop
 mul-found c = search needs
 
--- src/memory.rt:26:26
 shared-slice-read-found : tie.Need-shared-slice-read-found Inv-loop μ-loop
 shared-slice-read-found c = search needs
 
--- src/memory.rt:27:9
 add-k : tie.Need-add-k Inv-loop μ-loop
 add-k c = search needs
 
--- src/memory.rt:25:5
 loop-less : tie.Need-loop-less Inv-loop μ-loop
 loop-less c = search needs
 
--- src/memory.rt:25:5
 loop-again : tie.Need-loop-again Inv-loop μ-loop
 loop-again c =
     let l = c .before .before .loop in
     let a = c .before .before .before .args in
     (search needs, ap (λ (b : Bool). b || eqb (getD (now (a .addresses)) (l .k) 0) (a .a)) (l .inv .1) ∙ sym (some-next (λ j. eqb (getD (now (a .addresses)) j 0) (a .a)) (l .k)))
 
--- src/memory.rt:20:1
 returns : tie.Need-returns Inv-loop μ-loop
 returns c =
     let e : c .before .loop .k ≡ length (now (c .before .before .args .addresses)) = omega arith in

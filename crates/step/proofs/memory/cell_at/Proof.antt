@@ -1,3 +1,4 @@
+-- `step::memory::cell_at` meets its contract. Assumes nothing.
 use Rattle.step.proofs.Groups.{least-group}
 use Rattle.records.specs.Maps.{cellAt}
 use Rattle.base.specs.Below.{least}
@@ -22,52 +23,40 @@ Inv-loop addresses a i₀ groups₀ i groups = (i + 16 * groups ≤ length addre
 abbrev μ-loop : tie.MeasureT-loop
 μ-loop addresses a i₀ groups₀ i groups = groups
 
--- src/memory.rt:53:5
 loop-holds : tie.Need-loop-holds Inv-loop μ-loop
 unfolding least
 loop-holds c = (search needs, refl)
 
--- src/memory.rt:54:19
 add-end : tie.Need-add-end Inv-loop μ-loop
 add-end c = search needs
 
--- src/memory.rt:55:18
 mul-among : tie.Need-mul-among Inv-loop μ-loop
 mul-among c = search needs
 
--- src/memory.rt:55:18
 sub-among : tie.Need-sub-among Inv-loop μ-loop
 sub-among c = search needs
 
--- src/memory.rt:55:18
 part-among-start : tie.Need-part-among-start Inv-loop μ-loop
 part-among-start c = search needs
 
--- src/memory.rt:55:18
 part-among-end : tie.Need-part-among-end Inv-loop μ-loop
 part-among-end c = search needs
 
--- src/memory.rt:55:12
 among-requires : tie.Need-among-requires Inv-loop μ-loop
 among-requires c κs = search needs
 
--- src/memory.rt:56:13
 cell-from-requires : tie.Need-cell-from-requires Inv-loop μ-loop
 cell-from-requires c κs = let l = c .before .before .before .before .loop in (omega (arith, l .inv .0), l .inv .1)
 
--- src/memory.rt:56:13
 returns : tie.Need-returns Inv-loop μ-loop
 returns c = c .cell-from .ensures
 
--- src/memory.rt:59:9
 sub-groups : tie.Need-sub-groups Inv-loop μ-loop
 sub-groups c = search needs
 
--- src/memory.rt:53:5
 loop-less : tie.Need-loop-less Inv-loop μ-loop
 loop-less c = search needs
 
--- src/memory.rt:53:5
 loop-again : tie.Need-loop-again Inv-loop μ-loop
 loop-again c =
     let l = c .before .before .before .before .loop in
@@ -86,11 +75,9 @@ loop-again c =
           ∙ e,
     )
 
--- src/memory.rt:61:5
 cell-from-requires-2 : tie.Need-cell-from-requires-2 Inv-loop μ-loop
 cell-from-requires-2 c κs = let l = c .before .loop in (omega (arith, l .inv .0), l .inv .1)
 
--- src/memory.rt:48:1
 returns-2 : tie.Need-returns-2 Inv-loop μ-loop
 returns-2 c = c .cell-from2 .ensures
 

@@ -1,3 +1,4 @@
+-- `step::memory::cell_from` meets its contract. Assumes nothing.
 use borrow.Author.Needs.{needs}
 use Prim.Native.Nat.{_≤_, _-_}
 use mathlib.Core.Path.{_≡_, sym}
@@ -18,35 +19,27 @@ Inv-loop addresses from a i₀ i = (i ≤ length addresses) × (cellAt (λ k. ge
 abbrev μ-loop : tie.MeasureT-loop
 μ-loop addresses from a i₀ i = length addresses - i
 
--- src/memory.rt:38:5
 loop-holds : tie.Need-loop-holds Inv-loop μ-loop
 loop-holds c = (c .pre .0, c .pre .1)
 
--- src/memory.rt:39:12
 mul-if1 : tie.Need-mul-if1 Inv-loop μ-loop
 mul-if1 c = search needs
 
--- src/memory.rt:39:12
 shared-slice-read-if1 : tie.Need-shared-slice-read-if1 Inv-loop μ-loop
 shared-slice-read-if1 c = search needs
 
--- src/memory.rt:40:13
 returns : tie.Need-returns Inv-loop μ-loop
 returns c = sym (least-hit _ _ _ (c .before .before .before .loop .inv .1) (eq-eqb _ _ (c .if1 .taken)) (c .before .before .loop-test .taken))
 
--- src/memory.rt:42:9
 add-i : tie.Need-add-i Inv-loop μ-loop
 add-i c = search needs
 
--- src/memory.rt:38:5
 loop-less : tie.Need-loop-less Inv-loop μ-loop
 loop-less c = search needs
 
--- src/memory.rt:38:5
 loop-again : tie.Need-loop-again Inv-loop μ-loop
 loop-again c = (search needs, least-more _ _ (c .before .before .before .loop .inv .1) (ne-eqb _ _ (c .if1 .left)))
 
--- src/memory.rt:33:1
 returns-2 : tie.Need-returns-2 Inv-loop μ-loop
 returns-2 c =
     let e : c .before .loop .i ≡ length (now (c .before .before .args .addresses)) = omega arith in

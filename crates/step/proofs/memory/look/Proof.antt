@@ -1,6 +1,7 @@
+-- `step::memory::look` meets its contract. Assumes nothing.
 use denote.Ref.{now}
 use lib.ListN.{List·getD-eq-default}
-use mathlib.Core.Path.{_≡_, _∙_, sym, ap, refl}
+use mathlib.Core.Path.{_∙_, sym, refl}
 use borrow.Author.Tests.{lt-ltb, le-ltb}
 use Rattle.base.proofs.Choice.{chosen, passed}
 use borrow.Author.Needs.{needs}
@@ -10,33 +11,27 @@ use Rattle.step.proofs.memory.look.Reads as reads
 use Rattle.step.proofs.memory.look.Lts as lts
 use Rattle.step.proofs.memory.cell_at.Reads as cell-at-reads
 
--- src/memory.rt:33:9
 cell-at-requires : tie.Need-cell-at-requires
 cell-at-requires c κs = search needs
 
--- src/memory.rt:35:9
 returns : tie.Need-returns
 returns c =
     let e = c .before .cell-at .ensures in
     let t = le-ltb _ _ (c .if1 .taken) in
     (rw (← e) (sym t), rw (← e) (sym (passed _ _ t)), refl)
 
--- src/memory.rt:43:20
 mul-t7 : tie.Need-mul-t7
 mul-t7 c = search needs
 
--- src/memory.rt:43:20
 shared-slice-read-t9 : tie.Need-shared-slice-read-t9
 shared-slice-read-t9 c = search needs
 
--- src/memory.rt:41:9
 returns-2 : tie.Need-returns-2
 returns-2 c =
     let e = c .before .before .before .cell-at .ensures in
     let t = lt-ltb _ _ (c .before .before .if1 .left) in
     (rw (← e) (sym t), rw (← e) (sym (chosen _ _ t)), refl)
 
--- src/memory.rt:29:1
 returns-3 : tie.Need-returns-3
 returns-3 c =
     let e = c .before .before .cell-at .ensures in

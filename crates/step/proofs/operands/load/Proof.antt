@@ -1,3 +1,4 @@
+-- `step::operands::load` meets its contract. Assumes nothing.
 use lib.Dec.{eqb}
 use mathlib.Core.Bool.{false}
 use Rattle.step.specs.Machine.{forwards}

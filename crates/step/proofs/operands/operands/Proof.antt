@@ -1,10 +1,10 @@
+-- `step::operands::operands` meets its contract. Assumes nothing.
 use Rattle.records.specs.Instructions.{isMemory}
 use denote.Ref.{now}
-use lib.Dec.{eqb}
-use mathlib.Core.Path.{_≡_, _∙_, sym, ap, refl}
-use mathlib.Core.Bool.{Bool, true, false, not, _&&_}
+use mathlib.Core.Path.{_≡_, _∙_, sym, ap}
+use mathlib.Core.Bool.{true, false, not}
 use borrow.Author.Tests.{eq-eqb, ne-eqb}
-use Rattle.base.proofs.Choice.{and-true, and-false, and-right-false, and-yes}
+use Rattle.base.proofs.Choice.{and-true, and-right-false, and-yes}
 use Rattle.step.specs.Machine.{takesWord}
 use Rattle.step.specs.Held.{memoryIn, knownIn}
 use Rattle.step.proofs.Loads.{knows-from, cells-word, cells-none, word-none, plain}

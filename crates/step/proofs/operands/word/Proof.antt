@@ -1,5 +1,6 @@
+-- `step::operands::word` meets its contract. Assumes nothing.
 use denote.Ref.{now}
-use mathlib.Core.Path.{_≡_, _∙_}
+use mathlib.Core.Path.{_∙_}
 use Rattle.step.specs.Held.{memoryIn, knownIn}
 use Rattle.step.proofs.Loads.{word-cas, word-load}
 use borrow.Author.Needs.{needs}

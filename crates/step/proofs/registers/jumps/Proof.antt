@@ -1,9 +1,10 @@
+-- `step::registers::jumps` meets its contract. Assumes nothing.
 use borrow.Author.Tests.{ne-eqb, lt-leb, le-leb}
 use lib.Dec.{eqb}
 use Prim.Native.Nat.{ℕ}
 use mathlib.Core.Bool.{Bool, not, _&&_}
 use mathlib.Core.Path.{_≡_, _∙_, sym, ap}
-use Rattle.base.proofs.Choice.{ltb-not, and-true, and-false}
+use Rattle.base.proofs.Choice.{ltb-not}
 use Rattle.step.specs.Machine.{jumps}
 use Rattle.step.proofs.registers.jumps.Statement.{statement}
 use Rattle.step.proofs.registers.jumps.Tie as tie

@@ -1,3 +1,4 @@
+-- `step::registers::row` meets its contract. Assumes nothing.
 use borrow.Author.Tests.{ne-eqb}
 use Prim.Native.Nat.{ℕ}
 use mathlib.Core.Path.{_≡_, _∙_, sym, ap}

@@ -1,3 +1,4 @@
+-- `text::drafts::count` meets its contract. Assumes nothing.
 use lib.ListN.{length, List·getD-eq-default}
 use native.Mathlib.Omega.{arith}
 use mathlib.Core.Path.{_≡_, sym}
@@ -8,19 +9,15 @@ use Rattle.text.proofs.drafts.count.Tie as tie
 use Rattle.text.proofs.drafts.count.Reads as reads
 use Rattle.text.proofs.drafts.count.Lts as lts
 
--- src/threads.rt:125:16
 mul-result : tie.Need-mul-result
 mul-result c = search needs
 
--- src/threads.rt:125:16
 array-read-result : tie.Need-array-read-result
 array-read-result c = search needs
 
--- src/threads.rt:125:9
 returns : tie.Need-returns
 returns c = search needs
 
--- src/threads.rt:120:1
 returns-2 : tie.Need-returns-2
 returns-2 c = let n : length (c .before .args .t1) ≡ 4 = search needs in
     let h : length (c .before .args .t1) ≤ c .before .args .t = omega arith in

@@ -1,8 +1,7 @@
+-- `text::drafts::put` meets its contract. Assumes nothing.
 use lib.ListN.{length}
 use mathlib.Core.Path.{_≡_}
-use Prim.Native.Nat.{ℕ}
 use Rattle.text.proofs.Blocks.{put-length, put-block}
-use mathlib.Core.Path.{_∙_, sym, ap}
 use borrow.Author.Needs.{needs}
 use Rattle.text.proofs.drafts.put.Statement.{statement}
 use Rattle.text.proofs.drafts.put.Tie as tie
@@ -10,55 +9,42 @@ use Rattle.text.proofs.drafts.put.Reads as reads
 use Rattle.text.proofs.drafts.put.Lts as lts
 use Rattle.base.proofs.place.Reads as place-reads
 
--- src/drafts.rt:67:14
 mul-at : tie.Need-mul-at
 mul-at c = search needs
 
--- src/drafts.rt:73:9
 cast-t10 : tie.Need-cast-t10
 cast-t10 c = search needs
 
--- src/drafts.rt:74:9
 cast-t12 : tie.Need-cast-t12
 cast-t12 c = search needs
 
--- src/drafts.rt:76:28
 slice-aggregate-place : tie.Need-slice-aggregate-place
 slice-aggregate-place c = search needs
 
--- src/drafts.rt:76:5
 place-requires : tie.Need-place-requires
 place-requires c κs = search needs
 
--- src/drafts.rt:77:24
 add-place : tie.Need-add-place
 add-place c = search needs
 
--- src/drafts.rt:77:32
 slice-aggregate-place-2 : tie.Need-slice-aggregate-place-2
 slice-aggregate-place-2 c = search needs
 
--- src/drafts.rt:77:5
 place-requires-2 : tie.Need-place-requires-2
 place-requires-2 c κs = search needs
 
--- src/drafts.rt:78:24
 add-place-2 : tie.Need-add-place-2
 add-place-2 c = search needs
 
--- src/drafts.rt:78:33
 slice-aggregate-place-3 : tie.Need-slice-aggregate-place-3
 slice-aggregate-place-3 c = search needs
 
--- src/drafts.rt:78:5
 place-requires-3 : tie.Need-place-requires-3
 place-requires-3 c κs = search needs
 
--- src/drafts.rt:63:1
 same-length : tie.Need-same-length
 same-length c = search needs
 
--- src/drafts.rt:63:1
 returns : tie.Need-returns
 returns c = let d = c .before .before .before .before .before .before .before .before .before .before .before .before .before .before .before .before .before .before .before .before in
     let e₁ = c .before .before .before .before .before .before .before .before .before .before .before .before .place .ensures in

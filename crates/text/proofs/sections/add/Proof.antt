@@ -1,15 +1,14 @@
+-- `text::sections::add` meets its contract. Assumes nothing.
 use Rattle.text.specs.Drafts.{threadsIn}
 use Rattle.text.proofs.Kept.{added-kept, bounded-more}
 use Rattle.base.proofs.Choice.{and-left, and-right, clash}
 use borrow.Author.Tests.{ltb-true}
 use denote.Ref.{now}
-use lib.ListN.{length, getD, set}
 use lib.Dec.{ltb}
 use native.Mathlib.Omega.{arith}
-use mathlib.Core.List.{List}
-use mathlib.Core.Bool.{Bool, true, _&&_}
-use mathlib.Core.Path.{_≡_, refl, sym, ap, _∙_}
-use Prim.Native.Nat.{ℕ, _+_, _*_, _≤_, _<_}
+use mathlib.Core.Bool.{_&&_}
+use mathlib.Core.Path.{refl, sym, ap, _∙_}
+use Prim.Native.Nat.{ℕ}
 use borrow.Author.Needs.{needs}
 use Rattle.text.proofs.sections.add.Statement.{statement}
 use Rattle.text.proofs.sections.add.Tie as tie
@@ -19,47 +18,37 @@ use Rattle.text.proofs.drafts.count.Reads as count-reads
 use Rattle.text.proofs.drafts.put.Reads as put-reads
 use Rattle.text.proofs.sections.with_count.Reads as with-count-reads
 
--- src/sections.rt:32:9
 count-requires : tie.Need-count-requires
 count-requires c κs = search needs
 
--- src/sections.rt:35:34
 cast-put : tie.Need-cast-put
 cast-put c = search needs
 
--- src/sections.rt:35:28
 mul-put : tie.Need-mul-put
 mul-put c = search needs
 
--- src/sections.rt:35:47
 cast-put-2 : tie.Need-cast-put-2
 cast-put-2 c = search needs
 
--- src/sections.rt:35:28
 add-put : tie.Need-add-put
 add-put c = search needs
 
--- src/sections.rt:35:9
 put-requires : tie.Need-put-requires
 put-requires c κs = search needs
 
--- src/sections.rt:37:43
 add-with-count : tie.Need-add-with-count
 add-with-count c = let r = c .before .before .before .before .before .before .before .before .before .args .r in
     let n = c .before .before .before .before .before .before .count .result in
     let h = ltb-true n 32 (and-right (r .fits && ltb (r .ended) 4) (ltb n 32) (c .before .before .before .before .if1 .taken)) in omega (arith, h)
 
--- src/sections.rt:37:21
 with-count-requires : tie.Need-with-count-requires
 with-count-requires c κs = let r = c .before .before .before .before .before .before .before .before .before .args .r in
     let n = c .before .before .before .before .before .before .count .result in
     ltb-true (r .ended) 4 (and-right (r .fits) (ltb (r .ended) 4) (and-left (r .fits && ltb (r .ended) 4) (ltb n 32) (c .before .before .before .before .if1 .taken)))
 
--- src/sections.rt:36:9
 same-length : tie.Need-same-length
 same-length c = search needs
 
--- src/sections.rt:36:9
 returns : tie.Need-returns
 returns c = let s = c .before .before .before .before .before .before .before .before .before .before in
     let r = s .args .r in
@@ -79,7 +68,6 @@ returns c = let s = c .before .before .before .before .before .before .before .b
       threads = λ sound fits. ap (threadsIn (c .before .before .before .put .last .0) (r .ended)) (counts .0) ∙ added-kept (now (s .args .draft)) (c .before .before .before .put .last .0) (r .counts) (r .ended) (n .result) (s .args .x) (rw (counts .1) four) (n .ensures) few (sound .0) (λ j. put .1 j (omega (arith, four, few, sound .1)) (s .pre));
     }
 
--- src/sections.rt:26:1
 returns-2 : tie.Need-returns-2
 returns-2 c = let s = c .before .before .before .before .before .before in
     let r = s .args .r in

@@ -1,3 +1,4 @@
+-- `text::sections::close` meets its contract. Assumes nothing.
 use Rattle.lines.specs.declared.Stated.{Stated}
 use Rattle.text.specs.Sections.{added}
 use Rattle.text.specs.Readings.{threadsKept}
@@ -7,13 +8,11 @@ use Rattle.records.specs.Instructions.{isLast}
 use Rattle.base.proofs.Choice.{and-left, and-right, and-true, and-false, or-true, clash}
 use borrow.Author.Tests.{ltb-true}
 use denote.Ref.{now}
-use lib.ListN.{length, getD, set}
+use lib.ListN.{getD}
 use lib.Dec.{ltb}
-use native.Mathlib.Omega.{arith}
-use mathlib.Core.List.{List}
-use mathlib.Core.Bool.{Bool, true, false, _&&_, _||_}
-use mathlib.Core.Path.{_≡_, refl, sym, ap, ap₂, _∙_}
-use Prim.Native.Nat.{ℕ, _+_, _-_, _*_, _≤_, _<_}
+use mathlib.Core.Bool.{Bool, _&&_, _||_}
+use mathlib.Core.Path.{refl, sym, ap, ap₂, _∙_}
+use Prim.Native.Nat.{ℕ, _+_, _-_, _*_}
 use borrow.Author.Needs.{needs}
 use Rattle.text.proofs.sections.close.Statement.{statement}
 use Rattle.text.proofs.sections.close.Tie as tie
@@ -25,49 +24,38 @@ use Rattle.text.proofs.drafts.number.Reads as number-reads
 use Rattle.text.proofs.sections.add.Reads as add-reads
 use Rattle.text.proofs.sections.halt.Reads as halt-reads
 
--- src/sections.rt:65:9
 count-requires : tie.Need-count-requires
 count-requires c κs = search needs
 
--- src/sections.rt:68:48
 cast-number : tie.Need-cast-number
 cast-number c = search needs
 
--- src/sections.rt:68:42
 mul-number : tie.Need-mul-number
 mul-number c = search needs
 
--- src/sections.rt:68:62
 sub-number : tie.Need-sub-number
 sub-number c = let r = c .before .before .before .before .before .before .args .r in
     let n = c .before .before .before .count .result in
     ltb-true 0 n (and-right (r .fits && ltb (r .ended) 4) (ltb 0 n) (c .before .if1 .taken))
 
--- src/sections.rt:68:61
 cast-number-2 : tie.Need-cast-number-2
 cast-number-2 c = search needs
 
--- src/sections.rt:68:42
 add-number : tie.Need-add-number
 add-number c = search needs
 
--- src/sections.rt:68:20
 number-requires : tie.Need-number-requires
 number-requires c κs = search needs
 
--- src/sections.rt:68:12
 is-last-requires : tie.Need-is-last-requires
 is-last-requires c κs = search needs
 
--- src/sections.rt:69:37
 add-t20 : tie.Need-add-t20
 add-t20 c = search needs
 
--- src/sections.rt:69:13
 same-length : tie.Need-same-length
 same-length c = search needs
 
--- src/sections.rt:69:13
 returns : tie.Need-returns
 returns c = let s = c .before .before .before .before .before .before .before .before .before .before in
     let r = s .args .r in
@@ -84,23 +72,18 @@ returns c = let s = c .before .before .before .before .before .before .before .b
       threads = λ sound fits. closed-complete (now (s .args .draft)) (r .counts) (r .ended) (ltb-true 0 _ (and-right (r .fits && ltb (r .ended) 4) (ltb 0 (getD (r .counts) (r .ended) 0)) test)) last;
     }
 
--- src/sections.rt:71:31
 halt-requires : tie.Need-halt-requires
 halt-requires c κs = search needs
 
--- src/sections.rt:71:13
 add-requires : tie.Need-add-requires
 add-requires c κs = search needs
 
--- src/sections.rt:72:33
 add-t17 : tie.Need-add-t17
 add-t17 c = search needs
 
--- src/sections.rt:72:9
 same-length-2 : tie.Need-same-length-2
 same-length-2 c = search needs
 
--- src/sections.rt:72:9
 returns-2 : tie.Need-returns-2
 returns-2 c = let s = c .before .before .before .before .before .before .before .before .before .before .before .before .before .before .before in
     let r = s .args .r in
@@ -119,11 +102,9 @@ returns-2 c = let s = c .before .before .before .before .before .before .before 
           (ap (λ (e : ℕ). threadsIn (c .before .before .before .add .last .1 .0) e (c .before .before .before .add .result .counts)) (sym (add .ended)) ∙ add .threads sound fits ∙ ap (λ (x : Stated). added x (threadsKept r (now (s .args .draft)))) (c .before .before .before .before .halt .ensures));
     }
 
--- src/sections.rt:76:16
 add-t34 : tie.Need-add-t34
 add-t34 c = search needs
 
--- src/sections.rt:59:1
 returns-3 : tie.Need-returns-3
 returns-3 c = let s = c .before .before .before .before .before .before in
     let r = s .args .r in

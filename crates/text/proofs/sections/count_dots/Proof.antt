@@ -1,18 +1,16 @@
-use Rattle.text.proofs.Pieces.{test-counts, dots-next}
-use mir.Val.{boolByte}
+-- `text::sections::count_dots` meets its contract. Assumes nothing.
+use Rattle.text.proofs.Pieces.{test-counts, lines-next, lines-start, lines-end}
 use Rattle.text.specs.Sections.{dots}
 use Rattle.text.specs.Drafts.{linesFrom}
-use Rattle.text.proofs.Pieces.{lines-next, lines-start, lines-end}
-use Rattle.lines.specs.Lines.{lines, isDot}
+use Rattle.lines.specs.Lines.{lines}
 use Rattle.base.proofs.Choice.{cast-test}
-use lib.ListN.{length, take, drop}
+use lib.ListN.{length}
 use denote.Ref.{now}
 use borrow.Author.Needs.{needs}
-use native.Mathlib.Nat.{add-zero, add-assoc}
 use native.Mathlib.Omega.{arith}
 use mathlib.Core.Bool.{Bool, cond}
-use mathlib.Core.List.{List, [], _∷_}
-use mathlib.Core.Path.{_≡_, refl, sym, ap, ap₂, _∙_}
+use mathlib.Core.List.{List}
+use mathlib.Core.Path.{_≡_, sym, ap, _∙_}
 use Prim.Native.Nat.{ℕ, _+_, _-_, _≤_}
 use Rattle.text.proofs.sections.count_dots.Statement.{statement}
 use Rattle.text.proofs.sections.count_dots.Tie as tie
@@ -27,47 +25,36 @@ Inv-loop text found₀ i₀ found i = (found ≤ i) × (i ≤ length text + 1) �
 abbrev μ-loop : tie.MeasureT-loop
 μ-loop text found₀ i₀ found i = length text + 1 - i
 
--- src/sections.rt:137:5
 loop-holds : tie.Need-loop-holds Inv-loop μ-loop
 loop-holds c = let e = ap dots (sym (lines-start (c .before .args .text .now))) in (search needs, search needs, omega (arith, e))
 
--- src/sections.rt:138:13
 line-end-requires : tie.Need-line-end-requires Inv-loop μ-loop
 line-end-requires c κs = search needs
 
--- src/sections.rt:139:32
 sub-is-dot : tie.Need-sub-is-dot Inv-loop μ-loop
 sub-is-dot c = search needs
 
--- src/sections.rt:139:32
 part-is-dot-start : tie.Need-part-is-dot-start Inv-loop μ-loop
 part-is-dot-start c = search needs
 
--- src/sections.rt:139:32
 part-is-dot-end : tie.Need-part-is-dot-end Inv-loop μ-loop
 part-is-dot-end c = search needs
 
--- src/sections.rt:139:18
 is-dot-requires : tie.Need-is-dot-requires Inv-loop μ-loop
 is-dot-requires c κs = search needs
 
--- src/sections.rt:139:18
 cast-found : tie.Need-cast-found Inv-loop μ-loop
 cast-found c = search needs
 
--- src/sections.rt:139:9
 add-found : tie.Need-add-found Inv-loop μ-loop
 add-found c = let l = c .before .before .before .before .loop in omega (arith, test-counts (c .is-dot .result), l .inv .0, c .before .before .before .loop-test .taken, c .before .before .before .before .before .before .pre)
 
--- src/sections.rt:140:13
 add-i : tie.Need-add-i Inv-loop μ-loop
 add-i c = search needs
 
--- src/sections.rt:137:5
 loop-less : tie.Need-loop-less Inv-loop μ-loop
 loop-less c = search needs
 
--- src/sections.rt:137:5
 loop-again : tie.Need-loop-again Inv-loop μ-loop
 unfolding dots
 loop-again c = let l = c .before .before .before .before .loop in
@@ -78,7 +65,6 @@ loop-again c = let l = c .before .before .before .before .loop in
     let all = l .inv .2 ∙ ap (λ (ls : List (List ℕ)). l .found + dots ls) next in
     (omega (arith, test-counts (c .is-dot .result), l .inv .0, e .1), omega (arith, e .2), omega (arith, all, dot))
 
--- src/sections.rt:131:1
 returns : tie.Need-returns Inv-loop μ-loop
 unfolding dots
 returns c = let s = now (c .before .before .before .args .text) in

@@ -1,11 +1,12 @@
+-- `text::sections::line_end` meets its contract. Assumes nothing.
 use Rattle.text.proofs.Pieces.{run-below}
 use Rattle.lines.specs.Bytes.{isInLine, run}
 use Rattle.lines.proofs.Runs.{rest}
-use lib.ListN.{length, drop, length-drop}
+use lib.ListN.{drop, length-drop}
 use denote.Ref.{now}
 use native.Mathlib.Omega.{arith}
 use mathlib.Core.Path.{_≡_, ap, _∙_}
-use Prim.Native.Nat.{ℕ, _+_, _-_, _≤_}
+use Prim.Native.Nat.{ℕ, _+_, _-_}
 use borrow.Author.Needs.{needs}
 use Rattle.text.proofs.sections.line_end.Statement.{statement}
 use Rattle.text.proofs.sections.line_end.Tie as tie
@@ -13,30 +14,24 @@ use Rattle.text.proofs.sections.line_end.Reads as reads
 use Rattle.text.proofs.sections.line_end.Lts as lts
 use Rattle.lines.proofs.line_length.Reads as line-length-reads
 
--- src/sections.rt:127:28
 sub-line-length : tie.Need-sub-line-length
 sub-line-length c = search needs
 
--- src/sections.rt:127:28
 part-line-length-start : tie.Need-part-line-length-start
 part-line-length-start c = search needs
 
--- src/sections.rt:127:28
 part-line-length-end : tie.Need-part-line-length-end
 part-line-length-end c = search needs
 
--- src/sections.rt:127:9
 line-length-requires : tie.Need-line-length-requires
 line-length-requires c κs = search needs
 
--- src/sections.rt:127:5
 add-result : tie.Need-add-result
 add-result c = let a = c .before .before .before .args in
     let e : c .line-length .result ≡ run isInLine (drop (a .i) (now (a .text))) = c .line-length .ensures ∙ ap (run isInLine) (rest (a .i) (now (a .text))) in
     let h = run-below isInLine (drop (a .i) (now (a .text))) in
     omega (arith, e, h, length-drop (a .i) (now (a .text)), c .before .before .before .pre .0, c .before .before .before .pre .1)
 
--- src/sections.rt:123:1
 returns : tie.Need-returns
 returns c = let a = c .before .before .before .args in
     let e : c .line-length .result ≡ run isInLine (drop (a .i) (now (a .text))) = c .line-length .ensures ∙ ap (run isInLine) (rest (a .i) (now (a .text))) in

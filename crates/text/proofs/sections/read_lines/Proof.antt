@@ -1,19 +1,17 @@
-use Rattle.text.proofs.Loop.{turn, none}
+-- `text::sections::read_lines` meets its contract. Assumes nothing.
+use Rattle.text.proofs.Loop.{turn, At, begins, ends, stops, refused-here, next-at}
 use Rattle.text.specs.Sections.{dots}
-use Rattle.text.specs.Readings.{Takes}
 use Rattle.text.specs.Drafts.{linesFrom}
-use Rattle.text.proofs.Pieces.{lines-next, lines-start, lines-end}
-use Rattle.text.proofs.Loop.{At, begins, ends, stops, refused-here, next-at}
+use Rattle.text.proofs.Pieces.{lines-start, lines-end}
 use Rattle.lines.specs.Lines.{lines}
-use lib.ListN.{length, take, drop}
+use lib.ListN.{length}
 use lib.Dec.{ltb, leb}
 use denote.Ref.{now}
 use borrow.Author.Needs.{needs}
 use native.Mathlib.Omega.{arith}
-use mathlib.Core.Bool.{Bool, _&&_}
-use mathlib.Core.List.{List, [], _∷_}
-use mathlib.Core.Path.{_≡_, refl, sym, ap, ap₂, _∙_, subst}
-use Prim.Native.Nat.{ℕ, _+_, _-_, _≤_, _<_}
+use mathlib.Core.Bool.{_&&_}
+use mathlib.Core.Path.{_≡_, refl, sym, ap, _∙_, subst}
+use Prim.Native.Nat.{ℕ, _+_, _-_, _≤_}
 use Rattle.text.proofs.sections.read_lines.Statement.{statement}
 use Rattle.text.proofs.sections.read_lines.Tie as tie
 use Rattle.text.proofs.sections.read_lines.Reads as reads
@@ -28,49 +26,38 @@ Inv-loop text draft₀ keys₀ total r₀ i₀ draft keys r i = (i ≤ length te
 abbrev μ-loop : tie.MeasureT-loop
 μ-loop text draft₀ keys₀ total r₀ i₀ draft keys r i = length text + 1 - i
 
--- src/sections.rt:150:9
 count-dots-requires : tie.Need-count-dots-requires Inv-loop μ-loop
 count-dots-requires c κs = search needs
 
--- src/sections.rt:160:5
 loop-holds : tie.Need-loop-holds Inv-loop μ-loop
 loop-holds c = let s = c .before .before .before .before in let e = c .count-dots .ensures .0 in
     (search needs, search needs, e, refl, refl, refl, subst (At (s .args .text .now) _ (s .args .draft .now) (s .args .keys .now)) (sym (lines-start (s .args .text .now))) (begins (s .args .text .now) (s .args .draft .now) (s .args .keys .now) _ (ap (λ (n : ℕ). ltb 0 n && leb n 4) e) refl refl refl refl (s .pre .1) (s .pre .2)))
 
--- src/sections.rt:161:13
 line-end-requires : tie.Need-line-end-requires Inv-loop μ-loop
 line-end-requires c κs = search needs
 
--- src/sections.rt:162:20
 sub-left : tie.Need-sub-left Inv-loop μ-loop
 sub-left c = let l = c .before .before .before .loop in omega (arith, l .inv .2, l .inv .6 .ended)
 
--- src/sections.rt:163:23
 sub-take-line : tie.Need-sub-take-line Inv-loop μ-loop
 sub-take-line c = search needs
 
--- src/sections.rt:163:23
 part-take-line-start : tie.Need-part-take-line-start Inv-loop μ-loop
 part-take-line-start c = search needs
 
--- src/sections.rt:163:23
 part-take-line-end : tie.Need-part-take-line-end Inv-loop μ-loop
 part-take-line-end c = search needs
 
--- src/sections.rt:163:9
 take-line-requires : tie.Need-take-line-requires Inv-loop μ-loop
 take-line-requires c κs = let l = c .before .before .before .before .before .before .loop in let s = c .before .before .before .before .before .before .before .before .before .before .before in
     (omega (arith, l .inv .6 .ended, l .inv .2, c .before .before .before .before .before .before .before .count-dots .ensures .1), omega (arith, l .inv .1, l .inv .0, s .pre .0))
 
--- src/sections.rt:165:13
 same-length : tie.Need-same-length Inv-loop μ-loop
 same-length c = search needs
 
--- src/sections.rt:165:13
 same-length-2 : tie.Need-same-length-2 Inv-loop μ-loop
 same-length-2 c = search needs
 
--- src/sections.rt:165:13
 returns : tie.Need-returns Inv-loop μ-loop
 returns c = let s = c .before .before .before .before .before .before .before .before .before .before .before .before .before .before .before .before .before .before in
     let l = c .before .before .before .before .before .before .before .before .before .before .before .before .before .loop in
@@ -80,15 +67,12 @@ returns c = let s = c .before .before .before .before .before .before .before .b
     let at = two .0 in let took = two .1 in
     stops (s .args .text .now) (t .result) (t .last .1 .1 .1 .0) (t .last .1 .1 .1 .1 .0) (c .if1 .taken) (took .sound (at .sound)) (refused-here (s .args .text .now) (l .r) (l .draft) (l .keys) _ _ at (t .result) (t .last .1 .1 .1 .0) (t .last .1 .1 .1 .1 .0) took (c .if1 .taken))
 
--- src/sections.rt:167:13
 add-i : tie.Need-add-i Inv-loop μ-loop
 add-i c = search needs
 
--- src/sections.rt:160:5
 loop-less : tie.Need-loop-less Inv-loop μ-loop
 loop-less c = search needs
 
--- src/sections.rt:160:5
 loop-again : tie.Need-loop-again Inv-loop μ-loop
 loop-again c = let s = c .before .before .before .before .before .before .before .before .before .before .before .before .before .before .before .before .before .before in
     let l = c .before .before .before .before .before .before .before .before .before .before .before .before .before .loop in
@@ -100,15 +84,12 @@ loop-again c = let s = c .before .before .before .before .before .before .before
     let next = next-at (s .args .text .now) (l .r) (l .draft) (l .keys) _ _ at (t .result) (t .last .1 .1 .1 .0) (t .last .1 .1 .1 .1 .0) took good in
     (omega (arith, e .2), omega (arith, took .line, l .inv .1, e .1), l .inv .2, good, next .sound .1 ∙ sym (s .pre .1), next .room ∙ sym (s .pre .2), next)
 
--- src/sections.rt:146:1
 same-length-3 : tie.Need-same-length-3 Inv-loop μ-loop
 same-length-3 c = search needs
 
--- src/sections.rt:146:1
 same-length-4 : tie.Need-same-length-4 Inv-loop μ-loop
 same-length-4 c = search needs
 
--- src/sections.rt:146:1
 returns-2 : tie.Need-returns-2 Inv-loop μ-loop
 returns-2 c = let s = c .before .before .before .before .before .before in let l = c .before .loop in
     ends (s .args .text .now) (l .r) (l .draft) (l .keys) (subst (At (s .args .text .now) (l .r) (l .draft) (l .keys)) (lines-end (s .args .text .now) (l .i) (c .loop-test .left)) (l .inv .6)) (l .inv .3)

@@ -1,10 +1,10 @@
+-- `text::threads::argument` meets its contract. Assumes nothing.
 use Rattle.text.proofs.Labels.{argument-named, argument-plain}
 use Rattle.base.specs.Bytes.{wordAt}
 use denote.Ref.{now}
 use lib.ListN.{take, drop}
 use Prim.Native.Nat.{ℕ, _+_, _*_}
-use mathlib.Core.List.{List}
-use mathlib.Core.Path.{_≡_, sym, ap, _∙_}
+use mathlib.Core.Path.{sym, ap, _∙_}
 use borrow.Author.Needs.{needs}
 use Rattle.text.proofs.threads.argument.Statement.{statement}
 use Rattle.text.proofs.threads.argument.Tie as tie
@@ -16,33 +16,26 @@ use Rattle.text.proofs.threads.block.Reads as block-reads
 use Rattle.text.proofs.threads.find.Reads as find-reads
 use Rattle.text.proofs.threads.is_named.Reads as is-named-reads
 
--- src/threads.rt:49:9
 block-requires : tie.Need-block-requires
 block-requires c κs = search needs
 
--- src/threads.rt:50:9
 target-requires : tie.Need-target-requires
 target-requires c κs = search needs
 
--- src/threads.rt:51:8
 is-named-requires : tie.Need-is-named-requires
 is-named-requires c κs = search needs
 
--- src/threads.rt:52:9
 find-requires : tie.Need-find-requires
 find-requires c κs = search needs
 
--- src/threads.rt:52:9
 returns : tie.Need-returns
 returns c = let a = c .before .before .before .before .before .before .args in
     let e = c .before .before .before .target .ensures ∙ ap (λ (k : ℕ). take 16 (drop (36 * k + 20) (now (a .draft)))) (c .before .before .before .before .block .ensures) in
     c .find .ensures ∙ argument-named (now (a .draft)) (a .t) (a .n) (a .p) (search needs) _ e (sym (c .before .before .is-named .ensures) ∙ c .before .if1 .taken)
 
--- src/threads.rt:54:5
 argument-requires : tie.Need-argument-requires
 argument-requires c κs = search needs
 
--- src/threads.rt:45:1
 returns-2 : tie.Need-returns-2
 returns-2 c = let a = c .before .before .before .before .before .before .args in
     let e = c .before .before .before .target .ensures ∙ ap (λ (k : ℕ). take 16 (drop (36 * k + 20) (now (a .draft)))) (c .before .before .before .before .block .ensures) in

@@ -1,10 +1,11 @@
+-- `text::threads::bytes_of` meets its contract. Assumes nothing.
 use Rattle.text.specs.Records.{statementBytes}
 use Rattle.text.proofs.Labels.{drafted-at}
 use denote.Ref.{now}
 use lib.ListN.{getD}
 use Prim.Native.Nat.{ℕ, _+_, _*_, _/_, _%_}
-use mathlib.Core.List.{List, [], _∷_}
-use mathlib.Core.Path.{_≡_, sym, ap, _∙_}
+use mathlib.Core.List.{[], _∷_}
+use mathlib.Core.Path.{sym, ap, _∙_}
 use borrow.Author.Needs.{needs}
 use Rattle.text.proofs.threads.bytes_of.Statement.{statement}
 use Rattle.text.proofs.threads.bytes_of.Tie as tie
@@ -15,43 +16,33 @@ use Rattle.text.proofs.drafts.number.Reads as number-reads
 use Rattle.text.proofs.threads.argument.Reads as argument-reads
 use Rattle.text.proofs.threads.block.Reads as block-reads
 
--- src/threads.rt:103:9
 block-requires : tie.Need-block-requires
 block-requires c κs = search needs
 
--- src/threads.rt:104:9
 argument-requires : tie.Need-argument-requires
 argument-requires c κs = search needs
 
--- src/threads.rt:106:9
 cast-t7 : tie.Need-cast-t7
 cast-t7 c = search needs
 
--- src/threads.rt:107:9
 number-requires : tie.Need-number-requires
 number-requires c κs = search needs
 
--- src/threads.rt:108:9
 mode-requires : tie.Need-mode-requires
 mode-requires c κs = search needs
 
--- src/threads.rt:110:9
 cast-t11 : tie.Need-cast-t11
 cast-t11 c = search needs
 
--- src/threads.rt:111:9
 cast-t13 : tie.Need-cast-t13
 cast-t13 c = search needs
 
--- src/threads.rt:112:9
 cast-t15 : tie.Need-cast-t15
 cast-t15 c = search needs
 
--- src/threads.rt:113:9
 cast-t17 : tie.Need-cast-t17
 cast-t17 c = search needs
 
--- src/threads.rt:99:1
 returns : tie.Need-returns
 unfolding statementBytes
 returns c = let a = c .before .before .before .before .before .args in

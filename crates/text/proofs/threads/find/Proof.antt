@@ -1,3 +1,4 @@
+-- `text::threads::find` meets its contract. Assumes nothing.
 use denote.Ref.{now}
 use lib.ListN.{take, drop}
 use mathlib.Core.List.{List}
@@ -23,38 +24,30 @@ Inv-loop draft t n label p₀ p = (p ≤ n) × (least p (λ q. same (blockAt dra
 abbrev μ-loop : tie.MeasureT-loop
 μ-loop draft t n label p₀ p = n - p
 
--- src/threads.rt:34:5
 loop-holds : tie.Need-loop-holds Inv-loop μ-loop
 unfolding least
 loop-holds c = (search needs, refl)
 
--- src/threads.rt:35:42
 block-requires : tie.Need-block-requires Inv-loop μ-loop
 block-requires c κs = search needs
 
--- src/threads.rt:35:13
 label-requires : tie.Need-label-requires Inv-loop μ-loop
 label-requires c κs = search needs
 
--- src/threads.rt:36:12
 same-label-requires : tie.Need-same-label-requires Inv-loop μ-loop
 same-label-requires c κs = search needs
 
--- src/threads.rt:37:13
 returns : tie.Need-returns Inv-loop μ-loop
 returns c = let a = c .before .before .before .before .before .before .before .before .args in let l = c .before .before .before .before .before .loop in
     sym (least-hit (λ q. same (blockAt (now (a .draft)) (32 * a .t + q) .label) (now (a .label))) (a .n) (l .p) (l .inv .1)
     (ap (λ (s : List ℕ). same s (now (a .label))) (sym (c .before .before .label .ensures ∙ ap (λ (k : ℕ). take 16 (drop (36 * k + 4) (now (a .draft)))) (c .before .before .before .block .ensures))) ∙ sym (c .before .same-label .ensures) ∙ c .if1 .taken) (c .before .before .before .before .loop-test .taken))
 
--- src/threads.rt:39:9
 add-p : tie.Need-add-p Inv-loop μ-loop
 add-p c = search needs
 
--- src/threads.rt:34:5
 loop-less : tie.Need-loop-less Inv-loop μ-loop
 loop-less c = search needs
 
--- src/threads.rt:34:5
 loop-again : tie.Need-loop-again Inv-loop μ-loop
 loop-again c = let a = c .before .before .before .before .before .before .before .before .args in let l = c .before .before .before .before .before .loop in (
   search needs,
@@ -62,7 +55,6 @@ loop-again c = let a = c .before .before .before .before .before .before .before
       (ap (λ (s : List ℕ). same s (now (a .label))) (sym (c .before .before .label .ensures ∙ ap (λ (k : ℕ). take 16 (drop (36 * k + 4) (now (a .draft)))) (c .before .before .before .block .ensures))) ∙ sym (c .before .same-label .ensures) ∙ c .if1 .left),
 )
 
--- src/threads.rt:30:1
 returns-2 : tie.Need-returns-2 Inv-loop μ-loop
 returns-2 c = let e : c .before .loop .p ≡ c .before .before .before .before .args .n = omega arith in
     rw e (sym (rw e at (c .before .loop .inv .1)))

@@ -1,3 +1,4 @@
+-- `text::threads::fits` meets its contract. Assumes nothing.
 use borrow.Author.Tests.{not-true, not-false}
 use Rattle.text.specs.Answers.{doubledAt, targetFits, threadFits}
 use Rattle.text.specs.Drafts.{drafted}
@@ -7,9 +8,9 @@ use Rattle.base.proofs.Below.{every-more, every-not}
 use denote.Ref.{now}
 use borrow.Author.Needs.{needs}
 use native.Mathlib.Omega.{arith}
-use mathlib.Core.Bool.{Bool, true, not, _&&_}
+use mathlib.Core.Bool.{true, not, _&&_}
 use mathlib.Core.Path.{_≡_, refl, sym, ap, _∙_}
-use Prim.Native.Nat.{_≤_, _-_, _+_, _*_, ℕ}
+use Prim.Native.Nat.{_≤_, _-_}
 use Rattle.text.proofs.threads.fits.Statement.{statement}
 use Rattle.text.proofs.threads.fits.Tie as tie
 use Rattle.text.proofs.threads.fits.Reads as reads
@@ -23,45 +24,36 @@ Inv-loop draft t n p₀ p = (p ≤ n) × (every p (λ q. not (doubledAt (drafted
 abbrev μ-loop : tie.MeasureT-loop
 μ-loop draft t n p₀ p = n - p
 
--- src/threads.rt:86:5
 loop-holds : tie.Need-loop-holds Inv-loop μ-loop
 unfolding every
 loop-holds c = (search needs, refl)
 
--- src/threads.rt:87:12
 is-doubled-requires : tie.Need-is-doubled-requires Inv-loop μ-loop
 is-doubled-requires c κs = search needs
 
--- src/threads.rt:88:13
 returns : tie.Need-returns Inv-loop μ-loop
 unfolding threadFits
 returns c = let a = c .before .before .before .before .before .args in let l = c .before .before .before .loop in
     sym (every-not (λ q. not (doubledAt (drafted (now (a .draft)) (a .t) (a .n)) q) && targetFits (a .n) (drafted (now (a .draft)) (a .t) (a .n)) q) (a .n) (l .p) (c .before .before .loop-test .taken) (and-false _ (ap not (sym (c .before .is-doubled .ensures) ∙ c .if1 .taken))))
 
--- src/threads.rt:90:13
 target-fits-requires : tie.Need-target-fits-requires Inv-loop μ-loop
 target-fits-requires c κs = search needs
 
--- src/threads.rt:91:13
 returns-2 : tie.Need-returns-2 Inv-loop μ-loop
 unfolding threadFits
 returns-2 c = let a = c .before .before .before .before .before .before .before .args in let l = c .before .before .before .before .before .loop in
     sym (every-not (λ q. not (doubledAt (drafted (now (a .draft)) (a .t) (a .n)) q) && targetFits (a .n) (drafted (now (a .draft)) (a .t) (a .n)) q) (a .n) (l .p) (c .before .before .before .before .loop-test .taken) (and-right-false (not (doubledAt (drafted (now (a .draft)) (a .t) (a .n)) (l .p))) (sym (c .before .target-fits .ensures) ∙ not-true _ (c .if2 .taken))))
 
--- src/threads.rt:93:9
 add-p : tie.Need-add-p Inv-loop μ-loop
 add-p c = search needs
 
--- src/threads.rt:86:5
 loop-less : tie.Need-loop-less Inv-loop μ-loop
 loop-less c = search needs
 
--- src/threads.rt:86:5
 loop-again : tie.Need-loop-again Inv-loop μ-loop
 loop-again c = let a = c .before .before .before .before .before .before .before .args in let l = c .before .before .before .before .before .loop in
     (search needs, every-more (λ q. not (doubledAt (drafted (now (a .draft)) (a .t) (a .n)) q) && targetFits (a .n) (drafted (now (a .draft)) (a .t) (a .n)) q) (l .p) (l .inv .1) (and-true (ap not (sym (c .before .before .before .is-doubled .ensures) ∙ c .before .before .if1 .left)) (sym (c .before .target-fits .ensures) ∙ not-false _ (c .if2 .left))))
 
--- src/threads.rt:82:1
 returns-3 : tie.Need-returns-3 Inv-loop μ-loop
 unfolding threadFits
 returns-3 c = let e : c .before .loop .p ≡ c .before .before .before .args .n = omega arith in

@@ -1,3 +1,4 @@
+-- `text::threads::is_named` meets its contract. Assumes nothing.
 use mathlib.Core.Path.{ap}
 use mathlib.Core.Bool.{not}
 use borrow.Author.Needs.{needs}
@@ -7,15 +8,12 @@ use Rattle.text.proofs.threads.is_named.Reads as reads
 use Rattle.text.proofs.threads.is_named.Lts as lts
 use Rattle.text.proofs.threads.same_label.Reads as same-label-reads
 
--- src/threads.rt:19:24
 slice-aggregate-same-label : tie.Need-slice-aggregate-same-label
 slice-aggregate-same-label c = search needs
 
--- src/threads.rt:19:6
 same-label-requires : tie.Need-same-label-requires
 same-label-requires c κs = search needs
 
--- src/threads.rt:15:1
 returns : tie.Need-returns
 returns c = ap not (c .same-label .ensures)
 

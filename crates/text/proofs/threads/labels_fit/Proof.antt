@@ -1,3 +1,4 @@
+-- `text::threads::labels_fit` meets its contract. Assumes nothing.
 use Rattle.text.specs.Drafts.{drafted}
 use Rattle.text.specs.Answers.{threadFits, labelsFit}
 use Rattle.base.proofs.Below.{every-more, every-not}
@@ -7,9 +8,9 @@ use denote.Ref.{now}
 use borrow.Author.Tests.{not-true, not-false}
 use borrow.Author.Needs.{needs}
 use native.Mathlib.Omega.{arith}
-use mathlib.Core.Bool.{Bool, true}
+use mathlib.Core.Bool.{true}
 use mathlib.Core.Path.{_≡_, refl, sym, ap, _∙_}
-use Prim.Native.Nat.{ℕ, _+_, _-_, _≤_}
+use Prim.Native.Nat.{ℕ, _-_, _≤_}
 use Rattle.text.proofs.threads.labels_fit.Statement.{statement}
 use Rattle.text.proofs.threads.labels_fit.Tie as tie
 use Rattle.text.proofs.threads.labels_fit.Reads as reads
@@ -23,41 +24,33 @@ Inv-loop draft ended counts t₀ t = (t ≤ ended) × (every t (λ u. threadFits
 abbrev μ-loop : tie.MeasureT-loop
 μ-loop draft ended counts t₀ t = ended - t
 
--- src/threads.rt:104:5
 loop-holds : tie.Need-loop-holds Inv-loop μ-loop
 unfolding every
 loop-holds c = (search needs, refl)
 
--- src/threads.rt:105:28
 count-requires : tie.Need-count-requires Inv-loop μ-loop
 count-requires c κs = search needs
 
--- src/threads.rt:105:13
 fits-requires : tie.Need-fits-requires Inv-loop μ-loop
 fits-requires c κs = search needs
 
--- src/threads.rt:106:13
 returns : tie.Need-returns Inv-loop μ-loop
 unfolding labelsFit
 returns c = let a = c .before .before .before .before .before .before .args in let l = c .before .before .before .before .loop in
     let e = ap (λ (n : ℕ). threadFits n (drafted (now (a .draft)) (l .t) n)) (sym (c .before .before .count .ensures)) ∙ sym (c .before .fits2 .ensures) ∙ not-true _ (c .if1 .taken) in
     sym (every-not (λ u. threadFits (getD (a .counts) u 0) (drafted (now (a .draft)) u (getD (a .counts) u 0))) (a .ended) (l .t) (c .before .before .before .loop-test .taken) e)
 
--- src/threads.rt:108:9
 add-t : tie.Need-add-t Inv-loop μ-loop
 add-t c = search needs
 
--- src/threads.rt:104:5
 loop-less : tie.Need-loop-less Inv-loop μ-loop
 loop-less c = search needs
 
--- src/threads.rt:104:5
 loop-again : tie.Need-loop-again Inv-loop μ-loop
 loop-again c = let a = c .before .before .before .before .before .before .args in let l = c .before .before .before .before .loop in
     let e = ap (λ (n : ℕ). threadFits n (drafted (now (a .draft)) (l .t) n)) (sym (c .before .before .count .ensures)) ∙ sym (c .before .fits2 .ensures) ∙ not-false _ (c .if1 .left) in
     (search needs, every-more (λ u. threadFits (getD (a .counts) u 0) (drafted (now (a .draft)) u (getD (a .counts) u 0))) (l .t) (l .inv .1) e)
 
--- src/threads.rt:100:1
 returns-2 : tie.Need-returns-2 Inv-loop μ-loop
 unfolding labelsFit
 returns-2 c = let e : c .before .loop .t ≡ c .before .before .before .args .ended = omega arith in

@@ -1,10 +1,10 @@
+-- `text::threads::target_fits` meets its contract. Assumes nothing.
 use Rattle.text.proofs.Labels.{target-jump, target-plain}
 use denote.Ref.{now}
 use lib.Dec.{ltb}
-use lib.ListN.{take, drop, getD}
-use Prim.Native.Nat.{ℕ, _+_, _*_}
-use mathlib.Core.List.{List}
-use mathlib.Core.Path.{_≡_, sym, ap, _∙_}
+use lib.ListN.{getD}
+use Prim.Native.Nat.{ℕ, _*_}
+use mathlib.Core.Path.{sym, ap, _∙_}
 use borrow.Author.Needs.{needs}
 use Rattle.text.proofs.threads.target_fits.Statement.{statement}
 use Rattle.text.proofs.threads.target_fits.Tie as tie
@@ -15,29 +15,23 @@ use Rattle.text.proofs.drafts.number.Reads as number-reads
 use Rattle.text.proofs.threads.argument.Reads as argument-reads
 use Rattle.text.proofs.threads.block.Reads as block-reads
 
--- src/threads.rt:74:40
 block-requires : tie.Need-block-requires
 block-requires c κs = search needs
 
--- src/threads.rt:74:9
 number-requires : tie.Need-number-requires
 number-requires c κs = search needs
 
--- src/threads.rt:75:8
 is-jump-requires : tie.Need-is-jump-requires
 is-jump-requires c κs = search needs
 
--- src/threads.rt:76:16
 argument-requires : tie.Need-argument-requires
 argument-requires c κs = search needs
 
--- src/threads.rt:76:9
 returns : tie.Need-returns
 returns c = let a = c .before .before .before .before .before .before .args in
     let e = c .before .before .before .number .ensures ∙ ap (λ (k : ℕ). getD (now (a .draft)) (36 * k) 0) (c .before .before .before .before .block .ensures) in
     ap (λ (k : ℕ). ltb k (a .n)) (c .argument .ensures) ∙ target-jump (now (a .draft)) (a .t) (a .n) (a .p) (search needs) _ e (sym (c .before .before .is-jump .ensures) ∙ c .before .if1 .taken)
 
--- src/threads.rt:70:1
 returns-2 : tie.Need-returns-2
 returns-2 c = let a = c .before .before .before .before .before .args in
     let e = c .before .before .number .ensures ∙ ap (λ (k : ℕ). getD (now (a .draft)) (36 * k) 0) (c .before .before .before .block .ensures) in

@@ -1,3 +1,4 @@
+-- `text::threads::write` meets its contract. Assumes nothing.
 use Rattle.text.specs.Records.{joined, statementBytes}
 use Rattle.text.specs.Drafts.{drafted}
 use Rattle.text.proofs.Following.{joined-more}
@@ -8,7 +9,7 @@ use denote.Ref.{now}
 use borrow.Author.Needs.{needs}
 use native.Mathlib.Nat.{add-zero}
 use native.Mathlib.Omega.{arith}
-use mathlib.Core.List.{List, _++_, append-nil}
+use mathlib.Core.List.{_++_, append-nil}
 use mathlib.Core.Path.{_≡_, refl, sym, ap, _∙_}
 use Prim.Native.Nat.{_≤_, _-_, _+_, _*_, ℕ}
 use Rattle.text.proofs.threads.write.Statement.{statement}
@@ -24,48 +25,37 @@ Inv-loop draft t n set₀ k start p₀ set p = (p ≤ n) × (length set ≡ leng
 abbrev μ-loop : tie.MeasureT-loop
 μ-loop draft t n set₀ k start p₀ set p = n - p
 
--- src/threads.rt:136:17
 mul-start : tie.Need-mul-start Inv-loop μ-loop
 mul-start c = search needs
 
--- src/threads.rt:138:5
 loop-holds : tie.Need-loop-holds Inv-loop μ-loop
 unfolding joined
 loop-holds c = let s = c .before .before .args .set .now in let k = c .before .before .args .k in (search needs, refl, ap (λ (i : ℕ). take i s) (add-zero (8 * k)) ∙ sym (append-nil (take (8 * k) s)))
 
--- src/threads.rt:139:21
 bytes-of-requires : tie.Need-bytes-of-requires Inv-loop μ-loop
 bytes-of-requires c κs = search needs
 
--- src/threads.rt:140:39
 cast-place : tie.Need-cast-place Inv-loop μ-loop
 cast-place c = search needs
 
--- src/threads.rt:140:34
 mul-place : tie.Need-mul-place Inv-loop μ-loop
 mul-place c = search needs
 
--- src/threads.rt:140:26
 add-place : tie.Need-add-place Inv-loop μ-loop
 add-place c = search needs
 
--- src/threads.rt:140:52
 slice-aggregate-place : tie.Need-slice-aggregate-place Inv-loop μ-loop
 slice-aggregate-place c = search needs
 
--- src/threads.rt:140:9
 place-requires : tie.Need-place-requires Inv-loop μ-loop
 place-requires c κs = search needs
 
--- src/threads.rt:141:9
 add-p : tie.Need-add-p Inv-loop μ-loop
 add-p c = search needs
 
--- src/threads.rt:138:5
 loop-less : tie.Need-loop-less Inv-loop μ-loop
 loop-less c = search needs
 
--- src/threads.rt:138:5
 loop-again : tie.Need-loop-again Inv-loop μ-loop
 unfolding statementBytes
 loop-again c = let a = c .before .before .before .before .before .before .before .before .before .before .args in
@@ -80,11 +70,9 @@ loop-again c = let a = c .before .before .before .before .before .before .before
           ∙ joined-more item (l .p) (take (8 * a .k) (a .set .now)) (l .set) (8 * a .k + 8 * l .p) 8 (l .inv .2) refl room),
     )
 
--- src/threads.rt:131:1
 same-length : tie.Need-same-length Inv-loop μ-loop
 same-length c = search needs
 
--- src/threads.rt:131:1
 returns : tie.Need-returns Inv-loop μ-loop
 returns c = let a = c .before .before .before .before .args in
     let l = c .before .loop in

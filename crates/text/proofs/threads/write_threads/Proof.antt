@@ -1,3 +1,4 @@
+-- `text::threads::write_threads` meets its contract. Assumes nothing.
 use Rattle.text.specs.Records.{joined, statementBytes, threadBytes, setBytes, statementsBefore}
 use Rattle.text.specs.Drafts.{drafted, threadsIn}
 use lib.ListN.{length, take, getD}
@@ -6,7 +7,7 @@ use borrow.Author.Needs.{needs}
 use native.Mathlib.Numerals.{add-one}
 use native.Mathlib.Omega.{arith}
 use mathlib.Core.List.{List, _++_}
-use mathlib.Core.Path.{_≡_, refl, sym, ap, _∙_}
+use mathlib.Core.Path.{_≡_, refl, ap, _∙_}
 use Prim.Native.Nat.{_≤_, _-_, _+_, _*_, ℕ}
 use Rattle.text.proofs.threads.write_threads.Statement.{statement}
 use Rattle.text.proofs.threads.write_threads.Tie as tie
@@ -21,38 +22,31 @@ Inv-loop draft ended counts set₀ k₀ t₀ set k t = (t ≤ ended) × (k ≤ 3
 abbrev μ-loop : tie.MeasureT-loop
 μ-loop draft ended counts set₀ k₀ t₀ set k t = ended - t
 
--- src/threads.rt:152:5
 loop-holds : tie.Need-loop-holds Inv-loop μ-loop
 unfolding joined statementsBefore
 loop-holds c = (search needs, search needs, refl, refl, refl)
 
--- src/threads.rt:153:13
 count-requires : tie.Need-count-requires Inv-loop μ-loop
 count-requires c κs = search needs
 
--- src/threads.rt:154:9
 write-requires : tie.Need-write-requires Inv-loop μ-loop
 write-requires c κs = let l = c .before .before .before .loop in
     let a = c .before .before .before .before .before .before in
     let few : c .before .count .result ≤ 32 = rw (c .before .count .ensures) (a .pre .1 (l .t)) in
     (search needs, omega (arith, few, l .inv .1, l .inv .2, a .pre .0, a .pre .2, c .before .before .loop-test .taken))
 
--- src/threads.rt:155:9
 add-k : tie.Need-add-k Inv-loop μ-loop
 add-k c = let l = c .before .before .before .before .before .before .loop in
     let a = c .before .before .before .before .before .before .before .before .before in
     let few : c .before .before .before .before .count .result ≤ 32 = rw (c .before .before .before .before .count .ensures) (a .pre .1 (l .t)) in
     omega (arith, few, l .inv .1, a .pre .0, c .before .before .before .before .before .loop-test .taken)
 
--- src/threads.rt:156:9
 add-t : tie.Need-add-t Inv-loop μ-loop
 add-t c = search needs
 
--- src/threads.rt:152:5
 loop-less : tie.Need-loop-less Inv-loop μ-loop
 loop-less c = search needs
 
--- src/threads.rt:152:5
 loop-again : tie.Need-loop-again Inv-loop μ-loop
 unfolding joined statementsBefore threadBytes
 loop-again c = let l = c .before .before .before .before .before .before .loop in
@@ -69,11 +63,9 @@ loop-again c = let l = c .before .before .before .before .before .before .loop i
       rw add-one (ap (λ (k : ℕ). take k (c .before .before .write .last .1 .1 .1 .0)) i ∙ w .0 ∙ ap (λ (s : List ℕ). s ++ joined (c .before .before .before .before .count .result) (statementBytes (l .t) (c .before .before .before .before .count .result) (drafted (a .args .draft .now) (l .t) (c .before .before .before .before .count .result)))) (l .inv .4) ∙ ap (λ (m : ℕ). joined (l .t) (threadBytes T) ++ joined m (statementBytes (l .t) m (drafted (a .args .draft .now) (l .t) m))) n),
     )
 
--- src/threads.rt:146:1
 same-length : tie.Need-same-length Inv-loop μ-loop
 same-length c = search needs
 
--- src/threads.rt:146:1
 returns : tie.Need-returns Inv-loop μ-loop
 unfolding setBytes
 returns c = let l = c .before .loop in let a = c .before .before .before .before in
