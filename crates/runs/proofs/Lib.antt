@@ -2,4 +2,3 @@
 pub mod MapCells
 pub mod Tests
 pub mod Steps
-pub mod Layouts

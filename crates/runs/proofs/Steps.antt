@@ -2,17 +2,17 @@
 use Prim.Native.Nat.{ℕ, zero, suc, _+_, _-_, _*_, _/_, _%_, _≤_, _<_}
 use mathlib.Core.Path.{_≡_, refl, ap, ap₂, sym, subst, subst⁻¹, _∙_}
 use mathlib.Core.Bool.{Bool, true, false, cond, not, _&&_, _||_}
-use mathlib.Core.List.{List, _∷_, _++_, append-assoc}
+use mathlib.Core.List.{List, [], _∷_, _++_, append-assoc}
 use native.Mathlib.Numerals.{add-one}
 use native.Mathlib.Omega.{arith}
-use borrow.Author.Tests.{le-leb, lt-ltb, ltb-true}
+use borrow.Author.Tests.{le-leb, lt-ltb, ltb-true, eqb-true}
 use lib.Dec.{eqb, leb, ltb}
 use lib.ListN.{length, getD, set, take, drop, drop-of-length-le}
-use lib.Seq.{drop-cons}
+use lib.Seq.{drop-cons, take-at, take-nil, length-take-le}
 use Rattle.base.specs.Below.{every}
 use Rattle.base.specs.Bytes.{placed}
 use Rattle.base.proofs.Bytes.{take-placed}
-use Rattle.base.proofs.Choice.{chosen, and-true}
+use Rattle.base.proofs.Choice.{chosen, passed, and-true}
 use Rattle.records.specs.Instructions.{EXIT}
 use Rattle.records.specs.Maps.{cells, addressAt, valueAt, holds, content}
 use Rattle.records.specs.Sets.{Set}
@@ -22,9 +22,9 @@ use Rattle.step.proofs.Four.{stored}
 use Rattle.step.proofs.Runs.{length-traceStep, takes-actor, taken-takes}
 use Rattle.step.proofs.Settled.{outcome-by, written-by, shown-by, stateBy, stepped, quiet-state}
 use Rattle.step.specs.Held.{stateOf, memoryOf, knownOf, heldOf, canStep, waits, statementBy, threadBy, writtenBy, outcomeBy, quiet, marksSettled, threadsSettled, onTaken, Advances}
-use Rattle.step.specs.Machine.{State, fresh, unmarked, actor, start, step, written, noWrite, memoryAfter}
-use Rattle.step.specs.Maps.{Held, begin, outcome, advanced, knownAfter, onOutcome, follow}
-use Rattle.step.specs.Runs.{choiceOf, choices, somePermitted, endOf}
+use Rattle.step.specs.Machine.{State, fresh, unmarked, actor, start, step, written, noWrite, memoryAfter, reads}
+use Rattle.step.specs.Maps.{Held, begin, outcome, advanced, knowsAll, knownAfter, onOutcome, follow}
+use Rattle.step.specs.Runs.{choiceOf, choices, takes, somePermitted, endOf}
 use Rattle.step.specs.Traces.{stepBytes, traceStep, trace}
 use Rattle.step.specs.declared.Answer.{Answer}
 use Rattle.step.specs.declared.Answer.the-variants.{Refused}
@@ -46,9 +46,56 @@ pub on-refused : (n i : ℕ) (rest : Answer) → (n ≡ 0 → ⊥) → onRefusal
 on-refused zero i rest f = absurd (f refl)
 on-refused (suc n) i rest f = refl
 
--- nothing is asked of the bytes of a refused run
-pub refused-begins : (a : Answer) (number place : ℕ) (trace bytes : List ℕ) → a ≡ Refused number place → Begins a trace bytes
-refused-begins a number place trace bytes e = subst⁻¹ (λ (z : Answer). Begins z trace bytes) e tt
+-- nothing is asked of the bytes of a refused run, 14 apart
+pub refused-begins : (a : Answer) (number place : ℕ) (trace bytes : List ℕ) → a ≡ Refused number place →
+    (number ≡ 14 → take (length (take (24 * suc place) trace)) bytes ≡ take (24 * suc place) trace) → Begins a trace bytes
+refused-begins a number place trace bytes e lacking = subst⁻¹ (λ (z : Answer). Begins z trace bytes) e (go (eqb number 14) refl)
+  where
+    go : (b : Bool) → eqb number 14 ≡ b → Begins (Refused number place) trace bytes
+    go true p = subst⁻¹ (λ (xs : List ℕ). take (length xs) bytes ≡ xs) (chosen (take (24 * suc place) trace) [] p) (lacking (eqb-true number 14 p))
+    go false p = subst⁻¹ (λ (xs : List ℕ). take (length xs) bytes ≡ xs) (passed (take (24 * suc place) trace) [] p) refl
+
+-- a trace that a part of the bytes begins
+pub begins-part : (n m : ℕ) (trace bytes more : List ℕ) → n ≡ m → n ≤ length bytes → trace ≡ take m bytes ++ more → take (length (take n trace)) bytes ≡ take n trace
+begins-part n m trace bytes more p h e =
+    let long = length-take-le n bytes h in
+    let same : take n trace ≡ take n bytes = ap (take n) (e ∙ ap (λ (k : ℕ). take k bytes ++ more) (sym p)) ∙ take-at (take n bytes) more n long in
+    ap (λ (k : ℕ). take k bytes) (ap length same ∙ long) ∙ sym same
+
+begins-none : (n : ℕ) (bytes : List ℕ) → take (length {A = ℕ} (take n [])) bytes ≡ take n []
+begins-none n bytes = subst⁻¹ (λ (xs : List ℕ). take (length xs) bytes ≡ xs) (take-nil n) refl
+
+-- what a refused run leaves of a schedule's trace; none is asked where one is replayed
+pub begins-traced : (replaying : Bool) (n : ℕ) (bytes trace : List ℕ) → (replaying ≡ false → take (length (take n trace)) bytes ≡ take n trace) →
+    take (length (take n (cond replaying [] trace))) bytes ≡ take n (cond replaying [] trace)
+begins-traced true n bytes trace f = begins-none n bytes
+begins-traced false n bytes trace f = f refl
+
+-- a step that lacks a cell can be taken, and reads one that is not known
+module _ (S : Set) (h : Held) (c : Choice) where
+  pub lacking-takes : outcome S h c ≡ Lacking → takes S (h .state) c ≡ true
+  unfolding outcome
+  lacking-takes = go (takes S (h .state) c) (knowsAll (h .known) (reads S (h .state) c))
+    where
+      go : (a b : Bool) → cond a (cond b Taken Lacking) NotPermitted ≡ Lacking → a ≡ true
+      go true b e = refl
+      go false b e = cc
+
+  pub lacking-knows : outcome S h c ≡ Lacking → knowsAll (h .known) (reads S (h .state) c) ≡ false
+  unfolding outcome
+  lacking-knows = go (takes S (h .state) c) (knowsAll (h .known) (reads S (h .state) c))
+    where
+      go : (a b : Bool) → cond a (cond b Taken Lacking) NotPermitted ≡ Lacking → b ≡ false
+      go a false e = refl
+      go true true e = cc
+      go false true e = cc
+
+-- a step refused for a first cell could be taken
+pub lacks : (o : Outcome) (agreed : Bool) → refusalOf o agreed ≡ 14 → o ≡ Lacking
+lacks Taken true e = absurd (omega arith)
+lacks Taken false e = absurd (omega arith)
+lacks NotPermitted agreed e = absurd (omega arith)
+lacks Lacking agreed e = refl
 
 -- a step that is not refused is taken
 pub stands : (o : Outcome) (agreed : Bool) → refusalOf o agreed ≡ 0 → o ≡ Taken
@@ -109,7 +156,7 @@ module _ (S : Set) (m : Machine) (memory : ℕ → ℕ) (known : ℕ → Bool) (
         ∙ by-slot (ltb (actor c) (S .threads)) (not (m .ended)) there ∙ sym (outcome-by S m memory known c)
 
     -- the bytes of a step that a thread makes are its trace step's
-    shown-bytes : actor c < S .threads → (w : Written) → stepBytes (actor c) (r .statement) (getD (m .threads) slot fresh) w ≡ traceStep S (stateOf m memory) w c
+    pub shown-bytes : actor c < S .threads → (w : Written) → stepBytes (actor c) (r .statement) (getD (m .threads) slot fresh) w ≡ traceStep S (stateOf m memory) w c
     unfolding traceStep
     shown-bytes l w =
         ap (λ (j : Statement). stepBytes (actor c) j (getD (m .threads) slot fresh) w) (a .stated)
@@ -130,14 +177,14 @@ module _ (S : Set) (m : Machine) (memory : ℕ → ℕ) (known : ℕ → Bool) (
             ap (λ (o : Outcome). refusalOf o (agreed (stepBytes (actor c) (r .statement) (getD (m .threads) slot fresh) w))) (came-out ∙ no)
             ∙ sym (ap (λ (o : Outcome). refusalOf o (agreed (traceStep S (stateOf m memory) w c))) no)
 
+    pub lacking-acts : r .outcome ≡ Lacking → actor c < S .threads
+    lacking-acts e = takes-actor S (stateOf m memory) c (lacking-takes S held c (sym came-out ∙ e))
+
     -- ---- where it was taken
 
     module _ (t : r .outcome ≡ Taken) where
       pub acting : actor c < S .threads
       acting = takes-actor S (stateOf m memory) c (taken-takes S held c (sym came-out ∙ t))
-
-      pub bytes-so : (w : Written) → stepBytes (actor c) (r .statement) (getD (m .threads) slot fresh) w ≡ traceStep S (stateOf m memory) w c
-      bytes-so w = shown-bytes acting w
 
       told : Told can (actor c) filled r later knows
       told = subst (λ (k : ℕ). Told can k filled r later knows) (slot-is acting) a

@@ -3,7 +3,7 @@ use Prim.Native.Nat.{ℕ, zero, suc, _*_, _/_}
 use mathlib.Core.Path.{_≡_}
 use mathlib.Core.Bool.{Bool, true, cond, _&&_, _||_}
 use mathlib.Core.List.{List, []}
-use lib.Dec.{leb}
+use lib.Dec.{eqb, leb}
 use lib.ListN.{length, getD, take, drop}
 use Rattle.base.specs.Bytes.{same}
 use Rattle.records.specs.Maps.{cells}
@@ -71,7 +71,11 @@ walkedOver S map replaying input room =
 abbrev pub traced : Set → Bool → State → List ℕ → List ℕ
 traced S replaying s input = cond replaying [] (trace S s noWrite (choices input))
 
--- bytes begin with a trace, where the answer has one
+-- what an answer leaves of a trace: all of it where it ran, and the records up to a step that lacks a first cell
+abbrev pub shownBy : Answer → List ℕ → List ℕ
+shownBy (Ran steps end) trace = trace
+shownBy (Refused number place) trace = cond (eqb number 14) (take (24 * suc place) trace) []
+
+-- bytes begin with it
 abbrev pub Begins : Answer → (trace bytes : List ℕ) → Type 0
-Begins (Ran steps end) trace bytes = take (length trace) bytes ≡ trace
-Begins (Refused number place) trace bytes = Unit {0}
+Begins answer trace bytes = take (length (shownBy answer trace)) bytes ≡ shownBy answer trace

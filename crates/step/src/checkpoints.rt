@@ -44,7 +44,7 @@ fn checks(i: Statement, c: u16) -> bool
 }
 
 // Whether thread t contains CHECK c.
-fn contains(set: &[u8], layout: Layout, t: u8, c: u16) -> bool
+pub fn contains(set: &[u8], layout: Layout, t: u8, c: u16) -> bool
     ensures { λ r. ⌜ r ≡ containsOf (setBy (now (set .entry)) layout) t c ⌝ }
 {
     let n = count(layout, t);

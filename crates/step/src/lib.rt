@@ -6,6 +6,7 @@ mod memory;
 mod operands;
 mod registers;
 
+pub use checkpoints::contains;
 ghost use mathlib.Core.Path.{_≡_};
 ghost use Rattle.step.specs.Machine.{fresh};
 use records::Statement;

@@ -3,7 +3,7 @@ use Rattle.replay.specs.Replay.{limitedTrace, replayed}
 use denote.Ref.{now}
 use mathlib.Core.Path.{_≡_, sym, ap, _∙_}
 use mathlib.Core.Bool.{true}
-use Rattle.runs.proofs.Layouts.{no-threads, some-threads, few-threads, set-read}
+use Rattle.records.proofs.Layouts.{no-threads, some-threads, few-threads, set-read}
 use Rattle.records.proofs.Maps.{few-cells}
 use Rattle.records.specs.Sets.{Set, setAccepted}
 use Rattle.records.specs.Maps.{mapAccepted}

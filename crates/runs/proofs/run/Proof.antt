@@ -1,5 +1,5 @@
 -- `runs::run` meets its contract. Assumes nothing.
-use Prim.Native.Nat.{ℕ, _+_, _-_, _*_, _%_, _≤_, _<_}
+use Prim.Native.Nat.{ℕ, suc, _+_, _-_, _*_, _%_, _≤_, _<_}
 use mathlib.Core.Bool.{Bool, true, false, cond, not, _&&_}
 use mathlib.Core.List.{List, [], _++_, append-nil}
 use mathlib.Core.Path.{_≡_, refl, ap, ap₂, sym, subst, _∙_}
@@ -26,8 +26,8 @@ use Rattle.step.specs.declared.Mark.{Mark}
 use Rattle.step.specs.declared.Outcome.the-variants.{Taken}
 use Rattle.step.specs.declared.Stepped.{Stepped}
 use Rattle.step.specs.declared.Written.{Written}
-use Rattle.runs.specs.Walks.{countOf, agrees, refusalOf, onRefusal, walked}
-use Rattle.runs.proofs.Steps.{on-refused, refused-begins, stands, rest, walked-next, Told, refused-so, bytes-so, wrote-so, quiet-held, loud-held, has-room, end-is, trace-more}
+use Rattle.runs.specs.Walks.{countOf, agrees, refusalOf, onRefusal, walked, traced}
+use Rattle.runs.proofs.Steps.{on-refused, refused-begins, stands, lacks, begins-traced, begins-part, rest, walked-next, Told, refused-so, shown-bytes, lacking-acts, acting, wrote-so, quiet-held, loud-held, has-room, end-is, trace-more}
 use Rattle.runs.proofs.run.Statement.{statement}
 use Rattle.runs.proofs.run.Tie as tie
 use Rattle.runs.proofs.run.Reads as reads
@@ -156,12 +156,9 @@ judged x =
     ∙ walked-next (set-of x) (replaying-of x) (input-of x) (held-of x) (wrote-of x) (steps-of x) (choice-of x) (x .before .before .before .before .before .before .before .before .before .before .before .before .before .before .before .before .before .before .before .before .before .made .ensures) (l .budget) (goes x)
     ∙ ap (λ (n : ℕ). onRefusal n (steps-of x) (rest-of x)) (sym (refusal-is x))
 
--- ---- a turn that is not refused
+-- ---- a turn of a thread of the set
 
-module _ (x : Turn) (zero : x .refusal-of .result ≡ 0) where
-  taken : result-of x .outcome ≡ Taken
-  taken = stands (result-of x .outcome) (x .before .agrees .result) (sym (x .refusal-of .ensures) ∙ zero)
-
+module _ (x : Turn) (acts : actor (choice-of x) < set-of x .threads) where
   -- a schedule's trace so far has one step more
   traced-on : replaying-of x ≡ false →
       let a = x .before .before .before .before .before .before .before .before .before .before .before .before .before .before .before .before .before .before .before .before .before .before .before .before .before .before .before .before .before .args in
@@ -180,8 +177,30 @@ module _ (x : Turn) (zero : x .refusal-of .result ≡ 0) where
         more .1
             ∙ trace-more (set-of x) (input-of x) i left (choice-of x) (x .before .before .before .before .before .before .before .before .before .before .before .before .before .before .before .before .before .before .before .before .before .made .ensures ∙ passed _ _ f) s (wrote-of x) (l .trace) (omega (arith, more .0, goes x, l .inv .6 .0))
             ∙ ap (λ (bytes : List ℕ). take (24 * (i + 1)) bytes ++ trace (set-of x) (step (set-of x) s (choice-of x)) (written (set-of x) s (choice-of x)) (choices (drop (i + 1) (input-of x))))
-            (sym (x .before .before .before .before .place .ensures ∙ ap (placed (l .trace) (24 * i)) (bytes-at x ∙ bytes-so (set-of x) (machine-of x) (memory-of x) (known-of x) (choice-of x) (few x) (told x) (room x) taken (wrote-of x)))),
+            (sym (x .before .before .before .before .place .ensures ∙ ap (placed (l .trace) (24 * i)) (bytes-at x ∙ shown-bytes (set-of x) (machine-of x) (memory-of x) (known-of x) (choice-of x) (few x) (told x) (room x) acts (wrote-of x)))),
       )
+
+-- ---- a turn that lacks a first cell
+
+left-of : (x : Turn) → x .refusal-of .result ≡ 14 →
+    let a = x .before .before .before .before .before .before .before .before .before .before .before .before .before .before .before .before .before .before .before .before .before .before .before .before .before .before .before .before .before .args in
+    let shown = take (24 * suc (steps-of x)) (traced (set-of x) (replaying-of x) (stateOf (a .first) (memoryOf (now (a .addresses)) (now (a .values)) (a .cells))) (input-of x)) in
+    take (length shown) (x .before .before .before .before .place .last .0) ≡ shown
+left-of x e =
+    let l = x .before .before .before .before .before .before .before .before .before .before .before .before .before .before .before .before .before .before .before .before .before .before .before .loop in
+    let lacking = lacks (result-of x .outcome) (x .before .agrees .result) (sym (x .refusal-of .ensures) ∙ e) in
+    let acts = lacking-acts (set-of x) (machine-of x) (memory-of x) (known-of x) (choice-of x) (few x) (told x) (room x) lacking in
+    let bytes = x .before .before .before .before .place .last .0 in
+    let one : 24 * suc (steps-of x) ≡ 24 * (steps-of x + 1) = omega arith in
+    begins-traced (replaying-of x) (24 * suc (steps-of x)) bytes _
+    (λ f. let t = traced-on x acts f in
+    begins-part (24 * suc (steps-of x)) (24 * (steps-of x + 1)) _ bytes _ one (omega (arith, t .0, goes x, l .inv .6 .0)) (t .1))
+
+-- ---- a turn that is not refused
+
+module _ (x : Turn) (zero : x .refusal-of .result ≡ 0) where
+  taken : result-of x .outcome ≡ Taken
+  taken = stands (result-of x .outcome) (x .before .agrees .result) (sym (x .refusal-of .ensures) ∙ zero)
 
   -- the loop goes on with a machine that the step made
   goes-on : (n : Machine) → length (n .threads) ≡ 4 → length (n .marks) ≡ 4 → record { state = stateOf n (later-of x); known = knows-of x } ≡ advanced (set-of x) (held-of x) (choice-of x) →
@@ -200,7 +219,7 @@ module _ (x : Turn) (zero : x .refusal-of .result ≡ 0) where
         omega (arith, goes x, l .inv .6 .2, k .1 .1 .1 .1 .1 .1 .1 .0, more),
         judged x ∙ ap (λ (n : ℕ). onRefusal n i (rest-of x)) zero
             ∙ ap₂ (λ (k : Held) (w : Written). walked (set-of x) (replaying-of x) (input-of x) k w (i + 1) (l .budget - 1)) (sym h) (sym w),
-        λ f. let t = traced-on f in
+        λ f. let t = traced-on x (acting (set-of x) (machine-of x) (memory-of x) (known-of x) (choice-of x) (few x) (told x) (room x) taken) f in
             (t .0, t .1 ∙ ap₂ (λ (s : State) (w : Written). take (24 * (i + 1)) (x .before .before .before .before .place .last .0) ++ trace (set-of x) s w (choices (drop (i + 1) (input-of x)))) (ap (λ (k : Held). k .state) (sym h)) (sym w)),
         threads,
         marks,
@@ -279,7 +298,7 @@ same-length-3 c = let x = c .before .before in x .before .before .before .before
 returns : tie.Need-returns Inv-loop μ-loop
 returns c =
     let x = c .before .before in
-    (c .refused .ensures ∙ sym (judged x ∙ on-refused _ _ _ (c .before .if1 .taken)), refused-begins _ _ _ _ _ (c .refused .ensures))
+    (c .refused .ensures ∙ sym (judged x ∙ on-refused _ _ _ (c .before .if1 .taken)), refused-begins _ _ _ _ _ (c .refused .ensures) (left-of x))
 
 mul-y : tie.Need-mul-y Inv-loop μ-loop
 mul-y c = search needs

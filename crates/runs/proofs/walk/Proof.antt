@@ -142,7 +142,7 @@ refused-requires c κs = search needs
 
 returns-2 : tie.Need-returns-2
 unfolding walkedOver
-returns-2 c = (c .refused .ensures ∙ sym (passed _ _ (tested (c .before .before) ∙ c .before .if1 .left)), refused-begins _ _ _ _ _ (c .refused .ensures))
+returns-2 c = (c .refused .ensures ∙ sym (passed _ _ (tested (c .before .before) ∙ c .before .if1 .left)), refused-begins _ _ _ _ _ (c .refused .ensures) (λ (e : _≡_ {A = ℕ} 17 14). absurd (omega arith)))
 
 pub walk-spec : {M : Type 1} → statement M
 walk-spec =

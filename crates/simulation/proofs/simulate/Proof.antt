@@ -8,7 +8,7 @@ use Rattle.simulation.specs.Simulation.{limited, simulated, scheduleTrac
 use denote.Ref.{now}
 use mathlib.Core.Path.{_≡_, refl, sym, ap, _∙_}
 use mathlib.Core.Bool.{true}
-use Rattle.runs.proofs.Layouts.{no-threads, some-threads, few-threads, set-read}
+use Rattle.records.proofs.Layouts.{no-threads, some-threads, few-threads, set-read}
 use Rattle.records.proofs.Maps.{few-cells}
 use Rattle.records.specs.Sets.{Set, setAccepted}
 use Rattle.base.proofs.Choice.{chosen, passed, and-true, and-false, and-right-false}

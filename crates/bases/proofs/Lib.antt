@@ -1,0 +1,2 @@
+-- Laws of trees of few records.
+mod Given

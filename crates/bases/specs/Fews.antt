@@ -1,0 +1,34 @@
+-- A tree of at most four records as the code gives it: its records, and the index of its own. Assumes nothing.
+use Prim.Native.Nat.{ℕ, _+_, _≤_}
+use mathlib.Core.Path.{_≡_}
+use mathlib.Core.List.{List, [], _∷_}
+use lib.ListN.{take}
+use Rattle.table.specs.declared.Formula.{Formula}
+use Rattle.table.specs.Programs.{next, root, records}
+use Rattle.encoding.specs.Slots.{Slot, Term}
+use Rattle.bases.specs.declared.Few.{Few}
+
+abbrev pub formulas : Few → List Formula
+formulas few = take (few .count) (few .first ∷ few .second ∷ few .third ∷ few .fourth ∷ [])
+
+-- these are a tree's records from index n on
+pub record Gives (given : Few) (places : Slot → ℕ) (n : ℕ) (t : Term) : Type 0 where
+  pub formulasAre : formulas given ≡ records places n t []
+  pub rootIs : given .root ≡ root places n t
+  pub countIs : n + given .count ≡ next n t
+  pub few : given .count ≤ 4
+
+-- ---- what the code's parts give
+
+-- a record without a constant
+abbrev pub plain : (operation sort a b c : ℕ) → Formula
+plain operation sort a b c = record { operation = operation; sort = sort; constant = 0; a = a; b = b; c = c }
+
+-- one record at index n
+abbrev pub One : Few → ℕ → Formula → Type 0
+One few n first = (few .count ≡ 1) × ((few .root ≡ n) × (few .first ≡ first))
+
+-- three records, the last at index n + 2
+abbrev pub Three : Few → ℕ → (first second third : Formula) → Type 0
+Three few n first second third =
+    (few .count ≡ 3) × ((few .root ≡ n + 2) × ((few .first ≡ first) × ((few .second ≡ second) × (few .third ≡ third))))

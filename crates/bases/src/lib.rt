@@ -1,0 +1,121 @@
+// The bases of a table's trees (crate encoding, `base`): at most four records each.
+ghost use mathlib.Core.List.{List};
+ghost use Prim.Native.Nat.{ℕ};
+ghost use Rattle.records.specs.Sets.{setBy};
+ghost use Rattle.encoding.specs.Slots.{kindAt};
+ghost use Rattle.encoding.specs.Steps.{base as baseOf};
+ghost use Rattle.places.specs.Places.{placeOf};
+ghost use Rattle.bases.specs.Fews.{Gives};
+
+mod choices;
+mod operations;
+mod state;
+mod statements;
+mod trees;
+
+use choices::choice_base;
+use choices::fit_base;
+use choices::none_base;
+use operations::AND;
+use operations::OR;
+use places::kinds;
+use records::Layout;
+use state::flush_value_base;
+use state::full_base;
+use state::heap_base;
+use state::may_base;
+use state::shut_base;
+use statements::active_base;
+use statements::address_base;
+use statements::argument_base;
+use statements::flag_base;
+use statements::loaded_base;
+use statements::result_base;
+use statements::swaps_base;
+use statements::test_base;
+use statements::untest_base;
+use table::Formula;
+use trees::constant;
+use trees::joined;
+use trees::previous;
+use trees::same;
+
+// At most four records from one index on, and the index of the tree they are of: the last, or a record that is there already.
+pub struct Few {
+    pub count: u8,
+    pub root: u64,
+    pub first: Formula,
+    pub second: Formula,
+    pub third: Formula,
+    pub fourth: Formula,
+}
+
+// The base of a kind's tree for a and b, its records from index n on.
+pub fn base(
+    set: &[u8],
+    layout: Layout,
+    slots: &[u32],
+    step: u8,
+    kind: u8,
+    a: u8,
+    b: u16,
+    n: u32,
+) -> Few
+    ensures { λ r. ⌜ ((cs : List ℕ) → Gives r (placeOf (now (slots .entry))) n (baseOf (setBy (now (set .entry)) layout) cs step (kindAt kind) a b)) ⌝ }
+{
+    let threads = layout.threads;
+    match kind {
+        kinds::CHOICE => choice_base(threads, step, b, n),
+        kinds::ACTIVE => active_base(slots, a, b, n),
+        kinds::OPENING => same(slots, kinds::YES, 0, 0, 1),
+        kinds::SHUT => shut_base(slots, b, n),
+        kinds::BARRED => same(slots, kinds::NO, 0, 0, 0),
+        kinds::HELD => joined(slots, AND, kinds::MARK, a, b, kinds::SHUT, 0, b, n),
+        kinds::WAITS => same(slots, kinds::HALTED, a, 0, 0),
+        kinds::MAY => may_base(slots, a, n),
+        kinds::NONE => none_base(slots, b, n),
+        kinds::FIT => fit_base(slots, threads, b, n),
+        kinds::ONE => same(slots, kinds::NO, 0, 0, 0),
+        kinds::ADDRESS => address_base(set, layout, slots, a, b, n),
+        kinds::LOADED => loaded_base(set, layout, slots, a, b, n),
+        kinds::SWAPS => swaps_base(set, layout, slots, a, b, n),
+        kinds::RESULT => result_base(set, layout, slots, a, b, n),
+        kinds::TEST => test_base(set, layout, slots, a, b, n),
+        kinds::UNTEST => untest_base(set, layout, slots, a, b, n),
+        kinds::FLUSH_TO => same(slots, kinds::NOUGHT, 0, 0, 2),
+        kinds::WRITE_TO => previous(slots, kinds::WRITE_TO, kinds::FLUSH_TO, b, 2),
+        kinds::FLUSH_VALUE => flush_value_base(slots, threads, n),
+        kinds::WRITE_VALUE => previous(slots, kinds::WRITE_VALUE, kinds::FLUSH_VALUE, b, 2),
+        kinds::RAISED => same(slots, kinds::MARK, a, b, 0),
+        kinds::EXITS => previous(slots, kinds::EXITS, kinds::ENDED, b, 0),
+        kinds::CODES => previous(slots, kinds::CODES, kinds::CODE, b, 2),
+        kinds::HEAP => heap_base(slots, threads, n),
+        kinds::VAL => same(slots, kinds::VAL, a, 0, 2),
+        kinds::ADR => same(slots, kinds::ADR, a, 0, 2),
+        kinds::MEM => same(slots, kinds::MEM, a, 0, 2),
+        kinds::ACCU => same(slots, kinds::ACCU, a, 0, 2),
+        kinds::FULL => full_base(slots, threads, a, n),
+        kinds::HALTED => same(slots, kinds::HALTED, a, 0, 0),
+        kinds::FLAG => flag_base(set, layout, slots, a, b, n),
+        kinds::MARK => joined(slots, AND, kinds::SHUT, 0, b, kinds::RAISED, a, b, n),
+        kinds::HALTS => same(slots, kinds::YES, 0, 0, 1),
+        kinds::ENDED => joined(
+            slots,
+            OR,
+            kinds::HALTS,
+            0,
+            0,
+            kinds::EXITS,
+            0,
+            threads as u16,
+            n,
+        ),
+        kinds::CODE => same(slots, kinds::CODES, 0, threads as u16, 2),
+        kinds::NO => same(slots, kinds::NO, 0, 0, 0),
+        kinds::YES => same(slots, kinds::YES, 0, 0, 1),
+        kinds::NOUGHT => same(slots, kinds::NOUGHT, 0, 0, 2),
+        kinds::UNIT => constant(n, 1),
+        kinds::ARGUMENT => argument_base(set, layout, slots, a, b, n),
+        _ => choice_base(threads, step, b, n),
+    }
+}

@@ -1,0 +1,76 @@
+-- What acceptance gives the code: limits, checkpoints, and the table as the definition has it. Assumes nothing.
+use Prim.Native.Nat.{ℕ, _≤_, _<_}
+use mathlib.Core.Path.{_≡_, ap, sym, _∙_, subst}
+use mathlib.Core.Bool.{true, false}
+use mathlib.Core.List.{List}
+use native.Mathlib.Decide.{decLt}
+use native.Mathlib.Omega.{arith}
+use borrow.Author.Tests.{lt-ltb, le-ltb, lt-leb, le-leb}
+use lib.Dec.{ltb, leb}
+use lib.ListN.{length, take, replicate, length-replicate}
+use lib.Seq.{take-all}
+use Rattle.base.proofs.Choice.{chosen, passed, and-true, and-false, and-right-false}
+use Rattle.records.specs.Maps.{mapAccepted}
+use Rattle.records.specs.Sets.{Set, setOf, setBy, setAccepted, layoutOf}
+use Rattle.records.specs.declared.Layout.{Layout}
+use Rattle.records.proofs.Sets.{well-formed}
+use Rattle.records.proofs.Layouts.{few-threads, set-read}
+use Rattle.encoding.specs.Checkpoints.{checkpoints}
+use Rattle.encoding.specs.Encodings.{encoded, tableOf}
+use Rattle.encoding.specs.Slots.{Slot}
+use Rattle.encoding.proofs.Begun.{start-below}
+use Rattle.encoding.proofs.Listed.{few}
+use Rattle.places.specs.Places.{listed, size}
+use Rattle.places.specs.declared.Points.{Points}
+use Rattle.places.proofs.Starts.{place-replicate}
+use Rattle.encoder.specs.Answers.{checked}
+use Rattle.encoder.specs.Pieces.{Limits}
+use Rattle.encoder.specs.declared.Answer.{Answer}
+use Rattle.encoder.specs.declared.Answer.the-variants.{Refused}
+
+module _ (set : List ℕ) (layout : Layout) (points : Points) (ok : setAccepted set ≡ true) (l : layout ≡ layoutOf set)
+    (p : listed points ≡ take 8 (checkpoints (setBy set layout))) where
+  read : setBy set layout ≡ setOf set
+  read = set-read set layout l ok
+
+  pub points-are : listed points ≡ checkpoints (setOf set)
+  points-are = p ∙ (ap (λ (S : Set). take 8 (checkpoints S)) read ∙ take-all 8 (checkpoints (setOf set)) (few set ok))
+
+  counts : (t : ℕ) → setOf set .count t ≤ 32
+  counts t = elim (decLt t (setOf set .threads)) [
+    | yes h ↦ well-formed set ok .fewStatements t h
+    | no h ↦ let e = well-formed set ok .noThread t (omega (arith, h)) in omega arith
+  ]
+
+  -- before a record is written every slot lies at its start
+  pub limits-start : Limits layout points (replicate size 0) 4
+  limits-start = record {
+    fourThreads = few-threads set layout l ok;
+    fewStatements = λ (t : ℕ). subst (λ (S : Set). S .count t ≤ 32) (sym read) (counts t);
+    fewPoints = let e = ap length points-are in let f = few set ok in omega arith;
+    allPlaces = length-replicate {A = ℕ} size 0;
+    below = λ (s : Slot). subst (λ (places : Slot → ℕ). places s < 4) (sym (place-replicate size)) (start-below s);
+  }
+
+  pub table-is : (map : List ℕ) (bound : ℕ) → encoded (setBy set layout) (listed points) map bound ≡ tableOf set map bound
+  unfolding tableOf
+  table-is map bound = λ i. encoded (read i) (points-are i) map bound
+
+-- ---- the refusals before the table
+
+module _ (set map : List ℕ) (bound : ℕ) (rest : Answer) where
+  pub set-refused : setAccepted set ≡ false → checked set map bound rest ≡ Refused 9 0
+  set-refused e = passed _ _ (and-false (mapAccepted 128 map) e)
+
+  pub map-refused : mapAccepted 128 map ≡ false → checked set map bound rest ≡ Refused 9 0
+  map-refused e = passed _ _ (and-right-false (setAccepted set) e)
+
+  module _ (ok : setAccepted set ≡ true) (mapped : mapAccepted 128 map ≡ true) where
+    pub bound-zero : bound ≡ 0 → checked set map bound rest ≡ Refused 10 0
+    bound-zero e = chosen _ _ (and-true ok mapped) ∙ passed _ _ (and-false (leb bound 64) (le-ltb 0 bound (omega arith)))
+
+    pub bound-large : 64 < bound → checked set map bound rest ≡ Refused 10 0
+    bound-large h = chosen _ _ (and-true ok mapped) ∙ passed _ _ (and-right-false (ltb 0 bound) (lt-leb bound 64 h))
+
+    pub bound-fits : (bound ≡ 0 → ⊥) → bound ≤ 64 → checked set map bound rest ≡ rest
+    bound-fits f h = chosen _ _ (and-true ok mapped) ∙ chosen _ _ (and-true (lt-ltb 0 bound (omega (arith, f))) (le-leb bound 64 h))

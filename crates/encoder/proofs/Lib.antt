@@ -1,0 +1,9 @@
+-- Laws of trees, pieces and sizes.
+pub mod Records
+pub mod Trees
+pub mod Pieces
+pub mod Entries
+pub mod Noted
+pub mod Parts
+pub mod Sizes
+pub mod Accepted

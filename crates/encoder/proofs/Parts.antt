@@ -1,0 +1,59 @@
+-- The parts of a table as the code writes them: the constraint of a step, the constraint of a map cell, the goal. Assumes nothing.
+use Prim.Native.Nat.{ℕ, suc, _+_}
+use mathlib.Core.Path.{_≡_, refl, _∙_}
+use mathlib.Core.List.{List, [], _∷_}
+use native.Mathlib.Omega.{arith}
+use Rattle.records.specs.Maps.{addressAt, valueAt}
+use Rattle.records.specs.Sets.{Set}
+use Rattle.table.specs.Formulas.{writtenAt}
+use Rattle.table.specs.Programs.{leafFormula, unaryFormula, binaryFormula, ternaryFormula, constraint, goal, constantWord, not1, equal2, read2, if3, next, root, records, needs, aims, compiled, nextAfter, placesAfter}
+use Rattle.encoding.specs.Encodings.{mapDemand, goalTree}
+use Rattle.encoding.specs.Slots.{slot, none, one, ended, heap, code}
+use Rattle.encoding.specs.Steps.{only, word0, ruled}
+use Rattle.places.specs.Places.{placeOf}
+use Rattle.encoder.specs.Pieces.{Writes}
+use Rattle.encoder.proofs.Records.{recordAt, written-2, written-3, written-5}
+
+module _ (out slots : List ℕ) (n : ℕ) where
+  pub rule-writes : (S : Set) (cs : List ℕ) (k : ℕ) (after : List ℕ) →
+      after ≡ recordAt (n + 1) (constraint n) (recordAt n (ternaryFormula (if3 1) (placeOf slots (only ended)) (placeOf slots (slot none 0 (S .threads + S .threads))) (placeOf slots (only one))) out) →
+      Writes (needs (ruled S cs k) ∷ []) out slots n after slots (n + 2)
+  unfolding compiled placesAfter nextAfter records root next
+  rule-writes S cs k after e = record {
+    written = e ∙ written-2 out n _ _;
+    places = refl;
+    next = omega arith;
+    slotsStay = refl;
+  }
+
+  pub demand-writes : (map : List ℕ) (j : ℕ) (after : List ℕ) →
+      after ≡ recordAt (n + 4) (constraint (n + 3)) (recordAt (n + 3) (binaryFormula equal2 (n + 1) (n + 2)) (recordAt (n + 2) (leafFormula (constantWord (valueAt map j)))
+      (recordAt (n + 1) (binaryFormula read2 (placeOf slots (only heap)) n) (recordAt n (leafFormula (constantWord (addressAt map j))) out)))) →
+      Writes (mapDemand map j) out slots n after slots (n + 5)
+  unfolding compiled placesAfter nextAfter records root next
+  demand-writes map j after e =
+      let one : n + 1 ≡ suc n = omega arith in
+      let two : n + 2 ≡ suc (suc n) = omega arith in
+      let three : n + 3 ≡ suc (suc (suc n)) = omega arith in
+      record {
+        written = e ∙ (written-5 out n _ _ _ _ _
+            ∙ λ i. writtenAt out n (leafFormula (constantWord (addressAt map j)) ∷ binaryFormula read2 (placeOf slots (only heap)) n ∷ leafFormula (constantWord (valueAt map j))
+            ∷ binaryFormula equal2 (one i) (two i) ∷ constraint (three i) ∷ []));
+        places = refl;
+        next = omega arith;
+        slotsStay = refl;
+      }
+
+  pub goal-writes : (after : List ℕ) →
+      after ≡ recordAt (n + 2) (goal (n + 1)) (recordAt (n + 1) (unaryFormula not1 n) (recordAt n (binaryFormula equal2 (placeOf slots (only code)) (placeOf slots word0)) out)) →
+      Writes (aims goalTree ∷ []) out slots n after slots (n + 3)
+  unfolding compiled placesAfter nextAfter records root next
+  goal-writes after e =
+      let one : n + 1 ≡ suc n = omega arith in
+      record {
+        written = e ∙ (written-3 out n _ _ _
+            ∙ λ i. writtenAt out n (binaryFormula equal2 (placeOf slots (only code)) (placeOf slots word0) ∷ unaryFormula not1 n ∷ goal (one i) ∷ []));
+        places = refl;
+        next = omega arith;
+        slotsStay = refl;
+      }

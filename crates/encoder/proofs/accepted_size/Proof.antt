@@ -1,0 +1,50 @@
+-- `encoder::accepted_size` meets its contract. Assumes nothing.
+use lib.ListN.{length}
+use denote.Ref.{now}
+use native.Mathlib.Omega.{arith}
+use mathlib.Core.Path.{ap, sym, _∙_}
+use borrow.Author.Needs.{needs}
+use Rattle.records.proofs.Maps.{few-cells}
+use Rattle.encoder.proofs.Accepted.{bound-zero, bound-large, bound-fits, limits-start, table-is}
+use Rattle.encoder.specs.declared.Answer.the-variants.{Encoded}
+use Rattle.encoder.specs.Answers.{sizeAnswer}
+use Rattle.encoder.proofs.accepted_size.Statement.{statement}
+use Rattle.encoder.proofs.accepted_size.Tie as tie
+
+returns : tie.Need-returns
+unfolding sizeAnswer
+returns c =
+    let a = c .before .before .before .args in
+    let p = c .before .before .before .pre in
+    sym (bound-zero (now (a .set)) (now (a .map)) (a .bound) _ (p .0) (p .1) (c .if1 .taken))
+
+returns-2 : tie.Need-returns-2
+unfolding sizeAnswer
+returns-2 c =
+    let a = c .before .before .before .before .args in
+    let p = c .before .before .before .before .pre in
+    sym (bound-large (now (a .set)) (now (a .map)) (a .bound) _ (p .0) (p .1) (c .if2 .taken))
+
+points-requires : tie.Need-points-requires
+points-requires c κs = search needs
+
+cast-size : tie.Need-cast-size
+cast-size c = search needs
+
+size-requires : tie.Need-size-requires
+size-requires c κs =
+    let a = c .before .before .before .before .before .args in
+    let p = c .before .before .before .before .before .pre in
+    (limits-start (now (a .set)) (a .layout) (c .points .result) (p .0) (p .2) (c .points .ensures), few-cells 128 (now (a .map)) (p .1), omega arith)
+
+returns-3 : tie.Need-returns-3
+unfolding sizeAnswer
+returns-3 c =
+    let a = c .before .before .before .before .before .before .args in
+    let p = c .before .before .before .before .before .before .pre in
+    ap Encoded (c .size .ensures .0 ∙ ap length (table-is (now (a .set)) (a .layout) (c .before .points .result) (p .0) (p .2) (c .before .points .ensures) (now (a .map)) (a .bound)))
+    ∙ sym (bound-fits (now (a .set)) (now (a .map)) (a .bound) _ (p .0) (p .1) (c .before .before .before .if1 .left) (c .before .before .if2 .left))
+
+pub accepted-size-spec : {M : Type 1} → statement M
+accepted-size-spec =
+    tie.close (tie.spec returns returns-2 points-requires cast-size size-requires returns-3)

@@ -1,0 +1,75 @@
+-- Links as places, and how a statement leads to another: which way each test sends it. Assumes nothing.
+use Prim.Native.Nat.{ℕ}
+use mathlib.Core.Path.{_≡_, refl, sym, ap, _∙_}
+use mathlib.Core.Bool.{Bool, true, false, cond, not, _&&_, _||_}
+use lib.Dec.{eqb}
+use Rattle.base.proofs.Choice.{cond-ap, chosen, passed}
+use Rattle.records.specs.Instructions.{JMP}
+use Rattle.records.specs.declared.Statement.{Statement}
+use Rattle.table.specs.Formulas.{bitSort, AND, OR}
+use Rattle.encoding.specs.Slots.{active, test, untest, yes, Slot, slot}
+use Rattle.encoding.specs.Steps.{Link as ChainLink, skip, ifThen, andWith, orWith, only, isConditional, isPlain, rests}
+use Rattle.links.specs.Placed.{placedLink, noLink, ifLink, bitLink}
+
+-- a link that is there where a test holds
+module _ (places : Slot → ℕ) {b d : Bool} (same : b ≡ d) where
+  pub if-placed : (sort : ℕ) (x y : Slot) → cond b (ifLink sort (places x) (places y)) noLink ≡ placedLink places (cond d (ifThen sort x y) skip)
+  if-placed sort x y = ap (λ (t : Bool). cond t (ifLink sort (places x) (places y)) noLink) same ∙ sym (cond-ap (placedLink places) d (ifThen sort x y) skip)
+
+  pub and-placed : (s : Slot) → cond b (bitLink AND (places s)) noLink ≡ placedLink places (cond d (andWith s) skip)
+  and-placed s = ap (λ (t : Bool). cond t (bitLink AND (places s)) noLink) same ∙ sym (cond-ap (placedLink places) d (andWith s) skip)
+
+  pub or-placed : (s : Slot) → cond b (bitLink OR (places s)) noLink ≡ placedLink places (cond d (orWith s) skip)
+  or-placed s = ap (λ (t : Bool). cond t (bitLink OR (places s)) noLink) same ∙ sym (cond-ap (placedLink places) d (orWith s) skip)
+
+-- how a statement leads to j; `after` is the number after its own
+abbrev pub leadsBy : Statement → (t j i after : ℕ) → ChainLink
+leadsBy s t j i after =
+    let n = s .number in
+    cond (rests n) skip
+    (cond (eqb n JMP || isConditional n && eqb (s .argument) after) (cond (eqb (s .argument) j) (ifThen bitSort (slot active t i) (only yes)) skip)
+    (cond (isConditional n)
+    (cond (eqb (s .argument) j) (ifThen bitSort (slot active t i) (slot (cond (isPlain n) test untest) t i))
+    (cond (eqb after j) (ifThen bitSort (slot active t i) (slot (cond (isPlain n) untest test) t i)) skip))
+    (cond (eqb after j) (ifThen bitSort (slot active t i) (only yes)) skip)))
+
+-- a choice between things that are the same
+cond-same : {A : Type 0} (b : Bool) {x y z : A} → x ≡ z → y ≡ z → cond b x y ≡ z
+cond-same true p q = p
+cond-same false p q = q
+
+-- which way each test sends a statement
+module _ (s : Statement) (t j i after : ℕ) where
+  -- it neither names j nor stands before it
+  pub leads-none : eqb (s .argument) j ≡ false → eqb after j ≡ false → leadsBy s t j i after ≡ skip
+  leads-none hit next =
+      cond-same (rests (s .number)) refl
+      (cond-same (eqb (s .number) JMP || isConditional (s .number) && eqb (s .argument) after) (passed _ _ hit)
+      (cond-same (isConditional (s .number)) (passed _ _ hit ∙ passed _ _ next) (passed _ _ next)))
+
+  pub leads-rests : rests (s .number) ≡ true → leadsBy s t j i after ≡ skip
+  leads-rests rest = chosen _ _ rest
+
+  module _ (goes : rests (s .number) ≡ false) where
+    -- one way only
+    pub leads-always : (eqb (s .number) JMP || isConditional (s .number) && eqb (s .argument) after) ≡ true →
+        leadsBy s t j i after ≡ cond (eqb (s .argument) j) (ifThen bitSort (slot active t i) (only yes)) skip
+    leads-always always = passed _ _ goes ∙ chosen _ _ always
+
+    module _ (ways : (eqb (s .number) JMP || isConditional (s .number) && eqb (s .argument) after) ≡ false) where
+      pub leads-on : isConditional (s .number) ≡ false →
+          leadsBy s t j i after ≡ cond (eqb after j) (ifThen bitSort (slot active t i) (only yes)) skip
+      leads-on plain = passed _ _ goes ∙ passed _ _ ways ∙ passed _ _ plain
+
+      pub leads-taken : isConditional (s .number) ≡ true → eqb (s .argument) j ≡ true →
+          leadsBy s t j i after ≡ ifThen bitSort (slot active t i) (slot (cond (isPlain (s .number)) test untest) t i)
+      leads-taken conditional hit = passed _ _ goes ∙ passed _ _ ways ∙ chosen _ _ conditional ∙ chosen _ _ hit
+
+      pub leads-missed : isConditional (s .number) ≡ true → eqb (s .argument) j ≡ false → eqb after j ≡ true →
+          leadsBy s t j i after ≡ ifThen bitSort (slot active t i) (slot (cond (isPlain (s .number)) untest test) t i)
+      leads-missed conditional hit next = passed _ _ goes ∙ passed _ _ ways ∙ chosen _ _ conditional ∙ passed _ _ hit ∙ chosen _ _ next
+
+-- the contrary of a test names the other kind
+pub contrary : (b : Bool) → cond (not b) test untest ≡ cond b untest test
+contrary true = refl
+contrary false = refl

@@ -1,0 +1,18 @@
+// The links of a table's chains, and what there is of each kind (crate encoding: `link`, `links`, `rows`, `columns`, `kept`).
+pub mod chains;
+mod edges;
+mod parts;
+mod shapes;
+mod statements;
+
+pub use shapes::columns;
+pub use shapes::kept;
+pub use shapes::rows;
+
+// A link over what stands so far; operation 0 is none.
+pub struct Link {
+    pub operation: u8,
+    pub sort: u8,
+    pub a: u64,
+    pub b: u64,
+}

@@ -1,0 +1,206 @@
+// The links of a chain but those of flags: over statements, threads, checkpoints and choices.
+ghost use mathlib.Core.Path.{_≡_};
+ghost use mathlib.Core.Bool.{cond};
+ghost use Prim.Native.Nat.{_+_};
+ghost use lib.Dec.{eqb};
+ghost use lib.ListN.{getD};
+ghost use Rattle.records.specs.Sets.{setBy};
+ghost use Rattle.step.specs.Machine.{contains};
+ghost use Rattle.places.specs.Places.{placeFrom, listed};
+ghost use Rattle.links.specs.Placed.{noLink, ifLink, bitLink};
+use crate::Link;
+use crate::statements::number;
+use places::Points;
+use places::kinds;
+use places::place;
+use records::Layout;
+use records::instructions::CAS;
+
+pub const BIT: u8 = 1;
+
+const WORD: u8 = 2;
+
+pub const AND: u8 = 5;
+
+pub const OR: u8 = 6;
+
+pub const IF: u8 = 8;
+
+// Where bits 0 and 1 and the word 0 lie at the start.
+pub const BIT0: u64 = 0;
+
+const BIT1: u64 = 1;
+
+const WORD0: u64 = 2;
+
+// No link.
+pub fn none() -> Link
+    ensures { λ r. ⌜ r ≡ noLink ⌝ }
+{
+    Link {
+        operation: 0,
+        sort: 0,
+        a: 0,
+        b: 0,
+    }
+}
+
+// Where statement i of thread t counts: if it executes then bit 1.
+pub fn bit_if(slots: &[u32], counts: bool, t: u8, i: u16) -> Link
+    ensures { λ r. ⌜ r ≡ cond counts (ifLink 1 (placeFrom (now (slots .entry)) 1 t i 0) (placeFrom (now (slots .entry)) 37 0 0 1)) noLink ⌝ }
+{
+    if counts {
+        return Link {
+            operation: IF,
+            sort: BIT,
+            a: place(slots, kinds::ACTIVE, t, i, BIT0),
+            b: place(slots, kinds::YES, 0, 0, BIT1),
+        };
+    }
+    none()
+}
+
+// The same where it is instruction n.
+pub fn bit_by(set: &[u8], layout: Layout, slots: &[u32], n: u8, t: u8, i: u16) -> Link
+    ensures { λ r. ⌜ r ≡ cond (eqb (setBy (now (set .entry)) layout .statement t i .number) n) (ifLink 1 (placeFrom (now (slots .entry)) 1 t i 0) (placeFrom (now (slots .entry)) 37 0 0 1)) noLink ⌝ }
+{
+    bit_if(slots, number(set, layout, t, i) == n, t, i)
+}
+
+// Where statement i of thread t counts: if it executes then its thread's word of kind `effect` for `column`.
+pub fn word_if(slots: &[u32], counts: bool, t: u8, i: u16, effect: u8, column: u16) -> Link
+    ensures { λ r. ⌜ r ≡ cond counts (ifLink 2 (placeFrom (now (slots .entry)) 1 t i 0) (placeFrom (now (slots .entry)) effect t column 2)) noLink ⌝ }
+{
+    if counts {
+        return Link {
+            operation: IF,
+            sort: WORD,
+            a: place(slots, kinds::ACTIVE, t, i, BIT0),
+            b: place(slots, effect, t, column, WORD0),
+        };
+    }
+    none()
+}
+
+// The same where it is instruction n.
+pub fn word_by(
+    set: &[u8],
+    layout: Layout,
+    slots: &[u32],
+    n: u8,
+    t: u8,
+    i: u16,
+    effect: u8,
+    column: u16,
+) -> Link
+    ensures { λ r. ⌜ r ≡ cond (eqb (setBy (now (set .entry)) layout .statement t i .number) n) (ifLink 2 (placeFrom (now (slots .entry)) 1 t i 0) (placeFrom (now (slots .entry)) effect t column 2)) noLink ⌝ }
+{
+    word_if(slots, number(set, layout, t, i) == n, t, i, effect, column)
+}
+
+// Where statement i of thread t is a CAS: if it executes and matches then its thread's word of kind `effect` for `column`.
+pub fn written(
+    set: &[u8],
+    layout: Layout,
+    slots: &[u32],
+    t: u8,
+    i: u16,
+    effect: u8,
+    column: u16,
+) -> Link
+    ensures { λ r. ⌜ r ≡ cond (eqb (setBy (now (set .entry)) layout .statement t i .number) 16) (ifLink 2 (placeFrom (now (slots .entry)) 13 t i 0) (placeFrom (now (slots .entry)) effect t column 2)) noLink ⌝ }
+{
+    if number(set, layout, t, i) == CAS {
+        return Link {
+            operation: IF,
+            sort: WORD,
+            a: place(slots, kinds::SWAPS, t, i, BIT0),
+            b: place(slots, effect, t, column, WORD0),
+        };
+    }
+    none()
+}
+
+// The record of a kind's value for thread t and b, which lies at `start` where there is no such thread.
+fn thread_place(slots: &[u32], kind: u8, t: u16, b: u16, start: u64) -> u64
+    ensures { λ r. ⌜ r ≡ placeFrom (now (slots .entry)) kind t b start ⌝ }
+{
+    if t < 4 {
+        return place(slots, kind, t as u8, b, start);
+    }
+    start
+}
+
+// The record of the bit by which thread t flushes.
+fn flush_place(slots: &[u32], layout: Layout, t: u16) -> u64
+    ensures { λ r. ⌜ r ≡ placeFrom (now (slots .entry)) 0 0 (layout .threads + t) 0 ⌝ }
+{
+    if t < 32 {
+        return place(slots, kinds::CHOICE, 0, (layout.threads as u16) + t, BIT0);
+    }
+    BIT0
+}
+
+// If thread t flushes then its word of kind `effect`.
+pub fn flushed(layout: Layout, slots: &[u32], effect: u8, t: u16) -> Link
+    ensures { λ r. ⌜ r ≡ ifLink 2 (placeFrom (now (slots .entry)) 0 0 (layout .threads + t) 0) (placeFrom (now (slots .entry)) effect t 0 2) ⌝ }
+{
+    Link {
+        operation: IF,
+        sort: WORD,
+        a: flush_place(slots, layout, t),
+        b: thread_place(slots, effect, t, 0, WORD0),
+    }
+}
+
+// Where thread t contains checkpoint p: the operation with its bit of a kind for p.
+pub fn contained(
+    set: &[u8],
+    layout: Layout,
+    points: Points,
+    slots: &[u32],
+    operation: u8,
+    kind: u8,
+    t: u16,
+    p: u16,
+) -> Link
+    ensures { λ r. ⌜ r ≡ cond (contains (setBy (now (set .entry)) layout) t (getD (listed points) p 0)) (bitLink operation (placeFrom (now (slots .entry)) kind t p 0)) noLink ⌝ }
+{
+    if 4 <= t {
+        return none();
+    }
+    let thread = t as u8;
+    if step::contains(set, layout, thread, places::checkpoint(points, p)) {
+        return Link {
+            operation: operation,
+            sort: BIT,
+            a: place(slots, kind, thread, p, BIT0),
+            b: 0,
+        };
+    }
+    none()
+}
+
+// If choice j is taken then whether it is permitted and none before it is taken.
+pub fn one(slots: &[u32], j: u16) -> Link
+    ensures { λ r. ⌜ r ≡ ifLink 1 (placeFrom (now (slots .entry)) 0 0 j 0) (placeFrom (now (slots .entry)) 9 0 j 0) ⌝ }
+{
+    Link {
+        operation: IF,
+        sort: BIT,
+        a: place(slots, kinds::CHOICE, 0, j, BIT0),
+        b: place(slots, kinds::FIT, 0, j, BIT0),
+    }
+}
+
+// And thread t has halted.
+pub fn halts(slots: &[u32], t: u16) -> Link
+    ensures { λ r. ⌜ r ≡ bitLink 5 (placeFrom (now (slots .entry)) 30 t 0 0) ⌝ }
+{
+    Link {
+        operation: AND,
+        sort: BIT,
+        a: thread_place(slots, kinds::HALTED, t, 0, BIT0),
+        b: 0,
+    }
+}

@@ -1,0 +1,128 @@
+// Statements as the links of a table see them: their instruction and its classes, and the thread before.
+ghost use mathlib.Core.Path.{_≡_};
+ghost use mathlib.Core.Bool.{cond, _&&_};
+ghost use Prim.Native.Nat.{_-_};
+ghost use lib.Dec.{eqb, ltb};
+ghost use lib.ListN.{getD};
+ghost use Rattle.records.specs.Instructions.{CHECK as check};
+ghost use Rattle.records.specs.Sets.{setBy};
+ghost use Rattle.step.specs.Machine.{needsEmpty};
+ghost use Rattle.encoding.specs.Steps.{setsAccu, isConditional, isPlain, rests as restsOf};
+ghost use Rattle.places.specs.Places.{listed};
+use places::Points;
+use records::Layout;
+use records::instructions::ADD;
+use records::instructions::ADDI;
+use records::instructions::CAS;
+use records::instructions::CHECK;
+use records::instructions::EXIT;
+use records::instructions::FENCE;
+use records::instructions::HALT;
+use records::instructions::JMP;
+use records::instructions::JS;
+use records::instructions::JZ;
+use records::instructions::LOAD;
+use records::instructions::MEM;
+use records::instructions::MUL;
+use records::instructions::MULI;
+use records::instructions::STORE;
+use records::instructions::SUB;
+use records::instructions::SUBI;
+use records::instructions::is_jump;
+
+// The instruction of statement i of thread t.
+pub fn number(set: &[u8], layout: Layout, t: u8, i: u16) -> u8
+    ensures { λ r. ⌜ r ≡ setBy (now (set .entry)) layout .statement t i .number ⌝ }
+{
+    let s = records::fetch(set, layout, t, i);
+    s.number
+}
+
+// How many statements thread t has.
+pub fn count(layout: Layout, t: u8) -> u16
+    ensures { λ r. ⌜ r ≡ getD (layout .counts) t 0 ⌝ }
+{
+    let thread = t as usize;
+    if thread < 4 {
+        return layout.counts[thread];
+    }
+    0
+}
+
+// The thread before t, 0 where t is 0 and 4 where it is none of a set.
+pub fn thread_before(t: u16) -> u8
+    ensures { λ r. ⌜ r ≡ cond (ltb t 5) (t - 1) 4 ⌝ }
+{
+    if t == 0 {
+        return 0;
+    }
+    if t < 5 {
+        return (t - 1) as u8;
+    }
+    4
+}
+
+// How many statements the thread before t has, 0 where t is 0.
+pub fn count_before(layout: Layout, t: u16) -> u16
+    ensures { λ r. ⌜ r ≡ cond (eqb t 0) 0 (getD (layout .counts) (t - 1) 0) ⌝ }
+{
+    if t == 0 {
+        return 0;
+    }
+    count(layout, thread_before(t))
+}
+
+// Words that need an empty buffer.
+pub fn needs_empty(n: u8) -> bool
+    ensures { λ r. ⌜ r ≡ needsEmpty n ⌝ }
+{
+    (n == STORE) | (n == FENCE) | (n == CAS) | (n == HALT)
+}
+
+// Words that change accu.
+pub fn sets_accu(n: u8) -> bool
+    ensures { λ r. ⌜ r ≡ setsAccu n ⌝ }
+{
+    (n == LOAD)
+        | (n == ADD)
+        | (n == SUB)
+        | (n == MUL)
+        | (n == MEM)
+        | (n == ADDI)
+        | (n == SUBI)
+        | (n == MULI)
+        | (n == CAS)
+}
+
+// Conditional jumps.
+pub fn is_conditional(n: u8) -> bool
+    ensures { λ r. ⌜ r ≡ isConditional n ⌝ }
+{
+    is_jump(n) & (n != JMP)
+}
+
+// Jumps that are taken where their test holds; the others where it does not.
+pub fn is_plain(n: u8) -> bool
+    ensures { λ r. ⌜ r ≡ isPlain n ⌝ }
+{
+    (n == JZ) | (n == JS)
+}
+
+// HALT and EXIT, whose pc stays.
+pub fn rests(n: u8) -> bool
+    ensures { λ r. ⌜ r ≡ restsOf n ⌝ }
+{
+    (n == HALT) | (n == EXIT)
+}
+
+// Whether statement i of thread t is a CHECK of checkpoint p.
+pub fn raises(set: &[u8], layout: Layout, points: Points, t: u8, p: u16, i: u16) -> bool
+    ensures { λ r. ⌜ r ≡ (eqb (setBy (now (set .entry)) layout .statement t i .number) check
+        && eqb (setBy (now (set .entry)) layout .statement t i .argument) (getD (listed points) p 0)) ⌝ }
+{
+    let s = records::fetch(set, layout, t, i);
+    if s.number == CHECK {
+        return s.argument == places::checkpoint(points, p);
+    }
+    false
+}

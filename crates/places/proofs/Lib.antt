@@ -1,0 +1,3 @@
+-- Laws of places.
+pub mod Stores
+pub mod Starts

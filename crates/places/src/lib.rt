@@ -1,0 +1,80 @@
+// The places of a table's values in an array, and the kinds by number.
+ghost use mathlib.Core.Path.{_≡_};
+ghost use Prim.Native.Nat.{_<_};
+ghost use lib.ListN.{length, getD};
+ghost use Rattle.table.specs.Programs.{put};
+ghost use Rattle.encoding.specs.Slots.{slot, same, kindAt};
+ghost use Rattle.places.specs.Places.{keptAt, placeFrom, placeOf, listed, size};
+
+pub mod kinds;
+
+// The checkpoints of a set, in the order of their first CHECK.
+pub struct Points {
+    pub count: u8,
+    pub numbers: [u16; 8],
+}
+
+// How many checkpoints there are.
+pub fn points_count(points: Points) -> u16
+    ensures { λ r. ⌜ r ≡ length (listed points) ⌝ }
+{
+    if points.count < 8 {
+        return points.count as u16;
+    }
+    8
+}
+
+// Checkpoint p, 0 past the last.
+pub fn checkpoint(points: Points, p: u16) -> u16
+    ensures { λ r. ⌜ r ≡ getD (listed points) p 0 ⌝ }
+{
+    let i = p as usize;
+    if i < (points.count as usize) {
+        if i < 8 {
+            return points.numbers[i];
+        }
+    }
+    0
+}
+
+// The number kept for a kind's value for a and b.
+fn kept(slots: &[u32], kind: u8, a: u8, b: u16) -> u32
+    ensures { λ r. ⌜ r ≡ keptAt (now (slots .entry)) kind a b ⌝ }
+{
+    if a < 4 {
+        if b < 32 {
+            let i = 128 * (kind as usize) + (32 * (a as usize) + (b as usize));
+            if i < slots.len() {
+                return slots[i];
+            }
+        }
+    }
+    0
+}
+
+// The record of a kind's value for a and b, which lies at `start` unless it was set.
+pub fn place(slots: &[u32], kind: u8, a: u8, b: u16, start: u64) -> u64
+    ensures { λ r. ⌜ r ≡ placeFrom (now (slots .entry)) kind a b start ⌝ }
+{
+    let number = kept(slots, kind, a, b);
+    if number == 0 {
+        return start;
+    }
+    (number as u64) - 1
+}
+
+// Sets the record of a kind's value for a and b, if there is a place for it.
+pub fn set_place(slots: &mut [u32], kind: u8, a: u8, b: u16, index: u64)
+    ensures { λ _. ⌜ (length (now (slots .exit)) ≡ length (now (slots .entry)))
+        × (length (now (slots .entry)) ≡ size → kind < 41 → a < 4 → b < 32 → index < 4294967295
+        → placeOf (now (slots .exit)) ≡ put same (placeOf (now (slots .entry))) (slot (kindAt kind) a b) index) ⌝ }
+{
+    if a < 4 {
+        if b < 32 {
+            let i = 128 * (kind as usize) + (32 * (a as usize) + (b as usize));
+            if i < slots.len() {
+                slots[i] = (index % 4294967295) as u32 + 1;
+            }
+        }
+    }
+}

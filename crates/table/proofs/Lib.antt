@@ -1,0 +1,12 @@
+-- Laws of tables and programs, which the crates above cite.
+pub mod Sequences
+pub mod Renamed
+pub mod Meaning
+pub mod Written
+pub mod Copied
+mod Stored
+pub mod Sorted
+pub mod Counted
+pub mod Ordered
+pub mod Read
+pub mod Loads

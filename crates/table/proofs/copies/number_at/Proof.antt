@@ -1,0 +1,27 @@
+-- `table::copies::number_at` meets its contract. Assumes nothing.
+use mathlib.Core.Path.{sym}
+use native.Mathlib.Omega.{arith}
+use lib.ListN.{List·getD-eq-default}
+use denote.Ref.{now}
+use borrow.Author.Needs.{needs}
+use Rattle.table.proofs.copies.number_at.Statement.{statement}
+use Rattle.table.proofs.copies.number_at.Tie as tie
+
+-- src/copies.rt:16:16
+mul-result : tie.Need-mul-result
+mul-result c = search needs
+
+-- src/copies.rt:16:16
+shared-slice-read-result : tie.Need-shared-slice-read-result
+shared-slice-read-result c = search needs
+
+-- src/copies.rt:16:9
+returns : tie.Need-returns
+returns c = search needs
+
+-- src/copies.rt:12:1
+returns-2 : tie.Need-returns-2
+returns-2 c = sym (List·getD-eq-default (now (c .before .args .numbers)) 0 (omega arith))
+
+pub number-at-spec : {M : Type 1} → statement M
+number-at-spec = tie.close (tie.spec mul-result shared-slice-read-result returns returns-2)

@@ -1,0 +1,6 @@
+-- Formula records, tables of them and their values (document 01, "Records"), and the programs that tables are written from.
+pub mod Formulas
+pub mod Programs
+pub mod Tables
+pub mod Values
+pub mod Copies

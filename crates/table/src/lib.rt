@@ -1,0 +1,47 @@
+// Formula records: one record's 16 bytes, written at its place in a table.
+ghost use mathlib.Core.Path.{_≡_};
+ghost use Prim.Native.Nat.{_*_};
+ghost use Rattle.base.specs.Bytes.{placed};
+ghost use Rattle.table.specs.Formulas.{formulaBytes};
+
+pub mod copies;
+
+// A formula record; operands that an operation does not use are 0. A record holds 32 bits of each operand; the fields are wider, so
+// that the sum of an index and a small number has room.
+pub struct Formula {
+    pub operation: u8,
+    pub sort: u8,
+    pub constant: u16,
+    pub a: u64,
+    pub b: u64,
+    pub c: u64,
+}
+
+// Writes record n of a table, if it fits there.
+pub fn put(out: &mut [u8], n: u32, formula: Formula)
+    ensures { λ _. ⌜ now (out .exit) ≡ placed (now (out .entry)) (16 * n) (formulaBytes formula) ⌝ }
+{
+    let k = formula.constant;
+    let a = formula.a;
+    let b = formula.b;
+    let c = formula.c;
+    let bytes: [u8; 16] = [
+        formula.operation,
+        formula.sort,
+        (k % 256) as u8,
+        (k / 256 % 256) as u8,
+        (a % 256) as u8,
+        (a / 256 % 256) as u8,
+        (a / 65536 % 256) as u8,
+        (a / 16777216 % 256) as u8,
+        (b % 256) as u8,
+        (b / 256 % 256) as u8,
+        (b / 65536 % 256) as u8,
+        (b / 16777216 % 256) as u8,
+        (c % 256) as u8,
+        (c / 256 % 256) as u8,
+        (c / 65536 % 256) as u8,
+        (c / 16777216 % 256) as u8,
+    ];
+    base::place(out, 16 * (n as usize), &bytes);
+}
