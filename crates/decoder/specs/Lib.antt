@@ -1,0 +1,2 @@
+-- The model check and decoding: their answers, and the lent memory afterwards.
+pub mod Answers

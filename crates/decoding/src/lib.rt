@@ -1,0 +1,1 @@
+// No code: models, and what decoding gives, as definitions (specs/), with their laws (proofs/).

@@ -1,0 +1,9 @@
+-- Evaluation finds what the definition of a table's values says.
+mod Backwards
+pub mod Choices
+pub mod Evaluated
+mod Parsed
+pub mod Tables
+mod Turns
+pub mod Views
+mod Words

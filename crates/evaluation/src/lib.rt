@@ -1,0 +1,220 @@
+// The values of a table's records under the assignment of a model, in work memory behind the table's bytes: each record's as a word.
+ghost use mathlib.Core.Path.{_≡_};
+ghost use mathlib.Core.Bool.{cond};
+ghost use Prim.Native.Nat.{_+_, _*_, _≤_, _<_};
+ghost use lib.ListN.{length};
+ghost use Rattle.base.specs.Bytes.{wordAt};
+ghost use Rattle.records.specs.Maps.{mapValue};
+ghost use Rattle.decoding.specs.Models.{assigned};
+ghost use Rattle.evaluation.specs.Evaluations.{longAt, formulaIn, valueIn, stored, memoryBehind, cellBack, wordIn, isFalse, givenBy, falseIn};
+use table::Formula;
+
+// The word whose two bytes stand from index at on.
+fn word(s: &[u8], at: usize) -> u16
+    requires { ⌜ at + 1 < length (now s) ⌝ }
+    ensures { λ r. ⌜ r ≡ wordAt (now (s .entry)) at ⌝ }
+{
+    (s[at] as u16) + 256 * (s[at + 1] as u16)
+}
+
+// An operand: the number whose four bytes stand from index at on.
+fn operand(s: &[u8], at: usize) -> u64
+    requires { ⌜ at + 3 < length (now s) ⌝ }
+    ensures { λ r. ⌜ r ≡ longAt (now (s .entry)) at ⌝ }
+{
+    (s[at] as u64)
+        + 256 * (s[at + 1] as u64)
+        + 65536 * (s[at + 2] as u64)
+        + 16777216 * (s[at + 3] as u64)
+}
+
+// Record i, no operation past the last.
+fn formula(work: &[u8], n: u32, i: u64) -> Formula
+    requires { ⌜ 32 * n ≤ length (now work) ⌝ }
+    ensures { λ r. ⌜ r ≡ formulaIn (now (work .entry)) n i ⌝ }
+{
+    if i < (n as u64) {
+        let at = 16 * (i as usize);
+        return Formula {
+            operation: work[at],
+            sort: work[at + 1],
+            constant: word(work, at + 2),
+            a: operand(work, at + 4),
+            b: operand(work, at + 8),
+            c: operand(work, at + 12),
+        };
+    }
+    Formula {
+        operation: 0,
+        sort: 0,
+        constant: 0,
+        a: 0,
+        b: 0,
+        c: 0,
+    }
+}
+
+// The word of record i's value, 0 past the last.
+fn value(work: &[u8], n: u32, i: u64) -> u16
+    requires { ⌜ 32 * n ≤ length (now work) ⌝ }
+    ensures { λ r. ⌜ r ≡ valueIn (now (work .entry)) n i ⌝ }
+{
+    if i < (n as u64) {
+        return word(work, 16 * (n as usize) + 2 * (i as usize));
+    }
+    0
+}
+
+// Stores the word of record i's value.
+fn store(work: &mut [u8], n: u32, i: u32, word: u16)
+    requires { ⌜ (32 * n ≤ length (now work)) × (i < n) ⌝ }
+    ensures { λ _. ⌜ now (work .exit) ≡ stored (now (work .entry)) n i word ⌝ }
+{
+    let at = 16 * (n as usize) + 2 * (i as usize);
+    work[at] = (word % 256) as u8;
+    work[at + 1] = (word / 256) as u8;
+}
+
+// A choice bit of the model: step k, kind 0 to execute or 1 to flush, thread t.
+fn choice(model: &[u8], threads: u8, bound: u8, k: u64, kind: u64, t: u64) -> bool
+    ensures { λ r. ⌜ r ≡ assigned threads bound (now (model .entry)) .choice k kind t ⌝ }
+{
+    if k < (bound as u64) {
+        if kind < 2 {
+            if t < (threads as u64) {
+                let row = 2 * (threads as u64) * k;
+                let at = row + ((threads as u64) * kind + t);
+                return base::byte_at(model, at as usize) == 1;
+            }
+        }
+    }
+    false
+}
+
+// The first cell at address x: the model's, 0 where it is unlisted.
+fn first(cells: &[u8], x: u16) -> u16
+    ensures { λ r. ⌜ r ≡ mapValue (now (cells .entry)) x ⌝ }
+{
+    let n = cells.len() / 4;
+    let mut k: usize = 0;
+    while k < n {
+        if word(cells, 4 * k) == x {
+            return word(cells, 4 * k + 2);
+        }
+        k += 1;
+    }
+    0
+}
+
+// The memory behind a write, and the one that an if of memories chooses.
+fn behind(work: &[u8], n: u32, f: Formula) -> u64
+    requires { ⌜ 32 * n ≤ length (now work) ⌝ }
+    ensures { λ r. ⌜ r ≡ memoryBehind (valueIn (now (work .entry)) n) (f .operation) (f .a) (f .b) (f .c) ⌝ }
+{
+    if f.operation == 13 {
+        return f.a;
+    }
+    if value(work, n, f.a) == 1 {
+        return f.b;
+    }
+    f.c
+}
+
+// The cell at address x of memory m, from the last write back.
+fn read_back(work: &[u8], n: u32, cells: &[u8], m: u64, x: u16) -> u16
+    requires { ⌜ 32 * n ≤ length (now work) ⌝ }
+    ensures { λ r. ⌜ r ≡ cellBack (mapValue (now (cells .entry))) (formulaIn (now (work .entry)) n) (valueIn (now (work .entry)) n) n m x ⌝ }
+{
+    let mut left = n;
+    let mut memory = m;
+    while 0 < left {
+        let f = formula(work, n, memory);
+        let operation = f.operation;
+        if (operation == 13) & (x == value(work, n, f.b)) {
+            return value(work, n, f.c);
+        }
+        if !((operation == 13) | (operation == 8)) {
+            return first(cells, x);
+        }
+        memory = behind(work, n, f);
+        left -= 1;
+    }
+    0
+}
+
+// 1 where a test holds, else 0.
+fn bit(test: bool) -> u16
+    ensures { λ r. ⌜ r ≡ cond test 1 0 ⌝ }
+{
+    if test { 1 } else { 0 }
+}
+
+// The word of a record's value, from those of the records before it.
+fn word_of(
+    work: &[u8],
+    n: u32,
+    f: Formula,
+    model: &[u8],
+    cells: &[u8],
+    threads: u8,
+    bound: u8,
+) -> u16
+    requires { ⌜ 32 * n ≤ length (now work) ⌝ }
+    ensures { λ r. ⌜ r ≡ wordIn (givenBy threads bound (now (model .entry)) (now (cells .entry))) n (now (work .entry)) f ⌝ }
+{
+    let operation = f.operation;
+    match operation {
+        1 => bit(choice(model, threads, bound, f.a, f.b, f.c)),
+        3 => f.constant,
+        4 => bit(value(work, n, f.a) == 0),
+        5 => bit((value(work, n, f.a) == 1) & (value(work, n, f.b) == 1)),
+        6 => bit((value(work, n, f.a) == 1) | (value(work, n, f.b) == 1)),
+        7 => bit(value(work, n, f.a) == value(work, n, f.b)),
+        8 => {
+            if value(work, n, f.a) == 1 {
+                value(work, n, f.b)
+            } else {
+                value(work, n, f.c)
+            }
+        }
+        9 => base::sum(value(work, n, f.a), value(work, n, f.b)),
+        10 => base::difference(value(work, n, f.a), value(work, n, f.b)),
+        11 => base::product(value(work, n, f.a), value(work, n, f.b)),
+        12 => read_back(work, n, cells, f.a, value(work, n, f.b)),
+        14 => bit(32768 <= value(work, n, f.a)),
+        _ => 0,
+    }
+}
+
+// Whether a record is a constraint or goal that is 0.
+fn is_false(work: &[u8], n: u32, f: Formula) -> bool
+    requires { ⌜ 32 * n ≤ length (now work) ⌝ }
+    ensures { λ r. ⌜ r ≡ isFalse (valueIn (now (work .entry)) n) (f .operation) (f .a) ⌝ }
+{
+    let operation = f.operation;
+    if (operation == 15) | (operation == 16) {
+        return value(work, n, f.a) != 1;
+    }
+    false
+}
+
+// The first constraint or goal that is 0 among n records, n where there is none. The table's bytes stand in work memory; the values of
+// its records go behind them.
+pub fn evaluate(work: &mut [u8], n: u32, model: &[u8], cells: &[u8], threads: u8, bound: u8) -> u32
+    ensures { λ r. ⌜ r ≡ falseIn (givenBy threads bound (now (model .entry)) (now (cells .entry))) n (now (work .entry)) ⌝ }
+{
+    if work.len() < 32 * (n as usize) {
+        return n;
+    }
+    let mut i: u32 = 0;
+    while i < n {
+        let f = formula(work, n, i as u64);
+        if is_false(work, n, f) {
+            return i;
+        }
+        let value = word_of(work, n, f, model, cells, threads, bound);
+        store(work, n, i, value);
+        i += 1;
+    }
+    n
+}

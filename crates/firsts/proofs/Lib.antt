@@ -1,0 +1,6 @@
+-- Laws of first cells: what a run lacks.
+pub mod Cells
+pub mod Lacking
+pub mod Order
+pub mod Records
+pub mod Turns

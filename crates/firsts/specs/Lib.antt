@@ -1,0 +1,3 @@
+-- First cells of a run, and how the code finds them.
+pub mod Firsts
+pub mod Searches
