@@ -1,8 +1,13 @@
 -- The proofs of the demands that specs/ states.
+pub mod Cases
 pub mod Cells
 pub mod Checkpoints
+pub mod Explored
+pub mod Formed
 pub mod Lines
+pub mod Models
 pub mod Rules
 pub mod Runs
 pub mod Sections
+pub mod Tables
 pub mod Texts
