@@ -6,6 +6,12 @@ use Rattle.step.specs.declared.End.{End}
 use Rattle.text.specs.declared.Answer.{Answer as Text}
 use Rattle.text.specs.declared.Answer.the-variants.{Read, Refused as Unread}
 use Rattle.step.specs.declared.End.the-variants.{Code, Stuck, Open}
+use Rattle.encoder.specs.declared.Answer.{Answer as Table}
+use Rattle.encoder.specs.declared.Answer.the-variants.{Encoded, Refused as Unencoded}
+use Rattle.decoder.specs.declared.Answer.{Answer as Check}
+use Rattle.decoder.specs.declared.Answer.the-variants.{Accepted, Refused as Unaccepted}
+use Rattle.decoder.specs.declared.Decoding.{Decoding}
+use Rattle.decoder.specs.declared.Decoding.the-variants.{Decoded, Refused as Undecoded}
 
 -- the end: 0 for a code, 1 stuck, 2 open
 abbrev pub endNumber : End → ℕ
@@ -29,3 +35,18 @@ packed (Refused number place) = number + 4294967296 * place
 abbrev pub packedRead : Text → ℕ
 packedRead (Read statements cells) = 65536 * statements + 4294967296 * cells
 packedRead (Unread number place) = number + 4294967296 * place
+
+-- On success bits 32 to 63 are the records of the table.
+abbrev pub packedTable : Table → ℕ
+packedTable (Encoded records) = 4294967296 * records
+packedTable (Unencoded number place) = number + 4294967296 * place
+
+-- On success no bit is 1.
+abbrev pub packedCheck : Check → ℕ
+packedCheck Accepted = 0
+packedCheck (Unaccepted number place) = number + 4294967296 * place
+
+-- On success bits 32 to 47 are the steps and 48 to 63 the map cells.
+abbrev pub packedDecoding : Decoding → ℕ
+packedDecoding (Decoded steps count) = 4294967296 * steps + 281474976710656 * count
+packedDecoding (Undecoded number place) = number + 4294967296 * place

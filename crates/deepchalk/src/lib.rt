@@ -4,7 +4,9 @@ ghost use lib.ListN.{length};
 ghost use Rattle.simulation.specs.Simulation.{simulated, traceOutput};
 ghost use Rattle.replay.specs.Replay.{replayed};
 ghost use Rattle.text.specs.Answers.{answer as answerOf, setOutput, mapOutput};
-ghost use Rattle.deepchalk.specs.Packed.{packed, packedRead};
+ghost use Rattle.encoder.specs.Answers.{sizeAnswer, encodeAnswer, tableOutput};
+ghost use Rattle.decoder.specs.Answers.{checkAnswer, workAfter, decodeAnswer, workLeft, traceLeft, mapLeft};
+ghost use Rattle.deepchalk.specs.Packed.{packed, packedRead, packedTable, packedCheck, packedDecoding};
 use step::Answer;
 use step::End;
 
@@ -34,6 +36,40 @@ fn pack_read(answer: text::Answer) -> u64
             65536 * (statements as u64) + 4294967296 * (cells as u64)
         }
         text::Answer::Refused { number, place } => (number as u64) + 4294967296 * (place as u64),
+    }
+}
+
+// The answer of the encoder as one number.
+fn pack_table(answer: encoder::Answer) -> u64
+    ensures { λ r. ⌜ r ≡ packedTable answer ⌝ }
+{
+    match answer {
+        encoder::Answer::Encoded { records } => 4294967296 * (records as u64),
+        encoder::Answer::Refused { number, place } => (number as u64) + 4294967296 * (place as u64),
+    }
+}
+
+// The answer of the model check as one number.
+fn pack_check(answer: decoder::Answer) -> u64
+    ensures { λ r. ⌜ r ≡ packedCheck answer ⌝ }
+{
+    match answer {
+        decoder::Answer::Accepted => 0,
+        decoder::Answer::Refused { number, place } => (number as u64) + 4294967296 * (place as u64),
+    }
+}
+
+// The answer of decoding as one number.
+fn pack_decoding(answer: decoder::Decoding) -> u64
+    ensures { λ r. ⌜ r ≡ packedDecoding answer ⌝ }
+{
+    match answer {
+        decoder::Decoding::Decoded { steps, cells } => {
+            4294967296 * (steps as u64) + 281474976710656 * (cells as u64)
+        }
+        decoder::Decoding::Refused { number, place } => {
+            (number as u64) + 4294967296 * (place as u64)
+        }
     }
 }
 
@@ -71,4 +107,63 @@ pub extern "C" fn deepchalk_replay(set: &[u8], map: &[u8], trace: &[u8]) -> u64
 {
     let answer = replay::replay(set, map, trace);
     pack(answer)
+}
+
+// How many records the table of a set, a map and a bound has.
+#[no_mangle]
+pub extern "C" fn deepchalk_table_size(set: &[u8], map: &[u8], bound: u64) -> u64
+    ensures { λ r. ⌜ r ≡ packedTable (sizeAnswer (now (set .entry)) (now (map .entry)) bound) ⌝ }
+{
+    let answer = encoder::table_size(set, map, bound);
+    pack_table(answer)
+}
+
+// Writes the table of a set, a map and a bound.
+#[no_mangle]
+pub extern "C" fn deepchalk_encode(set: &[u8], map: &[u8], bound: u64, table: &mut [u8]) -> u64
+    ensures { λ r. ⌜ (r ≡ packedTable (encodeAnswer (now (set .entry)) (now (map .entry)) bound (length (now (table .entry)))))
+        × (now (table .exit) ≡ tableOutput (encodeAnswer (now (set .entry)) (now (map .entry)) bound (length (now (table .entry))))
+        (now (set .entry)) (now (map .entry)) bound (now (table .entry))) ⌝ }
+{
+    let answer = encoder::encode(set, map, bound, table);
+    pack_table(answer)
+}
+
+// Checks a model against the table of a set, a map and a bound.
+#[no_mangle]
+pub extern "C" fn deepchalk_check(
+    set: &[u8],
+    map: &[u8],
+    bound: u64,
+    model: &[u8],
+    work: &mut [u8],
+) -> u64
+    ensures { λ r. ⌜ (r ≡ packedCheck (checkAnswer (now (set .entry)) (now (map .entry)) bound (now (model .entry)) (length (now (work .entry)))))
+        × (now (work .exit) ≡ workAfter (checkAnswer (now (set .entry)) (now (map .entry)) bound (now (model .entry)) (length (now (work .entry)))) (now (work .entry))) ⌝ }
+{
+    let answer = decoder::check(set, map, bound, model, work);
+    pack_check(answer)
+}
+
+// Decodes a model of the table of a set, a map and a bound, and writes its trace and its map.
+#[no_mangle]
+pub extern "C" fn deepchalk_decode(
+    set: &[u8],
+    map: &[u8],
+    bound: u64,
+    model: &[u8],
+    work: &mut [u8],
+    trace: &mut [u8],
+    found: &mut [u8],
+) -> u64
+    ensures { λ r. ⌜ (r ≡ packedDecoding (decodeAnswer (now (set .entry)) (now (map .entry)) bound (now (model .entry)) (length (now (work .entry))) (length (now (trace .entry))) (length (now (found .entry)))))
+        × (now (work .exit) ≡ workLeft (decodeAnswer (now (set .entry)) (now (map .entry)) bound (now (model .entry)) (length (now (work .entry))) (length (now (trace .entry))) (length (now (found .entry))))
+        (now (work .entry)))
+        × (now (trace .exit) ≡ traceLeft (decodeAnswer (now (set .entry)) (now (map .entry)) bound (now (model .entry)) (length (now (work .entry))) (length (now (trace .entry))) (length (now (found .entry))))
+        (now (set .entry)) bound (now (model .entry)) (now (trace .entry)))
+        × (now (found .exit) ≡ mapLeft (decodeAnswer (now (set .entry)) (now (map .entry)) bound (now (model .entry)) (length (now (work .entry))) (length (now (trace .entry))) (length (now (found .entry))))
+        (now (set .entry)) (now (map .entry)) bound (now (model .entry)) (now (found .entry))) ⌝ }
+{
+    let answer = decoder::decode(set, map, bound, model, work, trace, found);
+    pack_decoding(answer)
 }
