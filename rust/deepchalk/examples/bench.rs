@@ -1,4 +1,5 @@
-//! Time of the library's calls beside the second simulator's and the second reader's, in one run:
+//! Time of the library's calls beside the second simulator's, reader's, encoder's and decoder's, in
+//! one run:
 //! cargo run --release --example bench
 
 use reference::records::{map_bytes, set_bytes};
@@ -7,6 +8,8 @@ use reference::Instruction::{self, *};
 use reference::{Cell, Statement};
 use std::hint::black_box;
 use std::time::{Duration, Instant};
+#[cfg(feature = "check")]
+use testing::models::ModelInput;
 use testing::schedules::trace_of;
 
 /// Timings of each call; medians are reported.
@@ -58,9 +61,13 @@ fn cells(count: u16) -> Vec<u8> {
     map_bytes(&cells)
 }
 
-/// The choices in turn, each one taken where it is permitted, for 64 steps.
 fn in_turn(threads: &[Vec<Statement>], map: &[u8], turns: &[u8]) -> Vec<u8> {
-    let set = reference::accept_set(&set_bytes(threads)).expect("an accepted set");
+    in_turn_of(&set_bytes(threads), map, turns)
+}
+
+/// The choices in turn, each one taken where it is permitted, for 64 steps.
+fn in_turn_of(set: &[u8], map: &[u8], turns: &[u8]) -> Vec<u8> {
+    let set = reference::accept_set(set).expect("an accepted set");
     let map = reference::accept_map(map, 256).expect("an accepted map");
     let mut machine = reference::Machine::fresh(&set, map);
     let mut schedule = Vec::new();
@@ -307,6 +314,177 @@ fn replays(work: &Workload) -> Times {
     )
 }
 
+#[cfg(feature = "encode")]
+fn encodes(set: &[u8], map: &[u8], bound: u64) -> Times {
+    let size = reference::table_size(set, map, bound).expect("an accepted set and map");
+    let mut table = vec![0; size as usize * deepchalk::FORMULA_BYTES];
+    let mut second_table = table.clone();
+    assert_eq!(deepchalk::encode(set, map, bound, &mut table), Ok(size));
+    let second = reference::encode(set, map, bound, &mut second_table);
+    assert_eq!(second, Ok(size));
+    assert!(table == second_table);
+    side_by_side(
+        || {
+            let (set, map, bound) = black_box((set, map, bound));
+            let _ = black_box(deepchalk::encode(set, map, bound, &mut table));
+        },
+        || {
+            let (set, map, bound) = black_box((set, map, bound));
+            let _ = black_box(reference::encode(set, map, bound, &mut second_table));
+        },
+    )
+}
+
+#[cfg(feature = "encode")]
+fn sizes(set: &[u8], map: &[u8], bound: u64) -> Times {
+    side_by_side(
+        || {
+            let (set, map, bound) = black_box((set, map, bound));
+            let _ = black_box(deepchalk::table_size(set, map, bound));
+        },
+        || {
+            let (set, map, bound) = black_box((set, map, bound));
+            let _ = black_box(reference::table_size(set, map, bound));
+        },
+    )
+}
+
+/// Tables from the largest workload down to one step of a litmus test.
+#[cfg(feature = "encode")]
+fn print_encodings() {
+    let heavy = memory_heavy();
+    let litmus = reference::litmus::intel().swap_remove(2);
+    let bare = litmus.bare();
+    let (set, map) = (set_bytes(&bare.threads), map_bytes(&bare.map));
+    let bound = litmus.bound as u64;
+    for (name, set, map, bound) in [
+        (
+            "four threads of 32, map of 128, K 64",
+            &heavy.set,
+            &heavy.map,
+            64,
+        ),
+        (
+            "four threads of 32, map of 128, K 1",
+            &heavy.set,
+            &heavy.map,
+            1,
+        ),
+        ("litmus test at its bound, K 10", &set, &map, bound),
+        ("litmus test, K 1", &set, &map, 1),
+    ] {
+        print_row(name, "encode", encodes(set, map, bound));
+    }
+    print_row(heavy.name, "size", sizes(&heavy.set, &heavy.map, 64));
+}
+
+/// The model of a schedule that ends by a code other than 0.
+#[cfg(feature = "check")]
+fn model_input(set: &[u8], map: &[u8], bound: u64, schedule: &[u8]) -> ModelInput {
+    let run: Vec<reference::Choice> = schedule
+        .iter()
+        .map(|&byte| reference::Choice::from_schedule(byte))
+        .collect();
+    let accepted = reference::accept_set(set).expect("an accepted set");
+    let cells = reference::accept_map(map, 256).expect("an accepted map");
+    let model = reference::Model::of_run(&run, accepted.threads.len(), bound as usize, cells);
+    ModelInput {
+        set: set.to_vec(),
+        map: map.to_vec(),
+        bound,
+        model: model.bytes(),
+    }
+}
+
+#[cfg(feature = "check")]
+fn checks(input: &ModelInput) -> Times {
+    let mut work = vec![0; input.work_needed()];
+    let mut second_work = work.clone();
+    let mut library = |input: &ModelInput| {
+        let (set, map, model) = (&input.set, &input.map, &input.model);
+        deepchalk::check(set, map, input.bound, model, &mut work).is_ok()
+    };
+    let mut second = |input: &ModelInput| {
+        let (set, map, model) = (&input.set, &input.map, &input.model);
+        reference::check(set, map, input.bound, model, &mut second_work).is_ok()
+    };
+    assert!(library(input) && second(input));
+    side_by_side(
+        || {
+            black_box(library(black_box(input)));
+        },
+        || {
+            black_box(second(black_box(input)));
+        },
+    )
+}
+
+#[cfg(feature = "decode")]
+fn decodes(input: &ModelInput) -> Times {
+    let steps = input.bound as usize * STEP_BYTES;
+    let rooms = [input.work_needed(), steps, deepchalk::MAP_ROOM];
+    let mut outputs = rooms.map(|room| vec![0; room]);
+    let mut second_outputs = outputs.clone();
+    let mut library = |input: &ModelInput| {
+        let [work, trace, cells] = &mut outputs;
+        let (set, map, model) = (&input.set, &input.map, &input.model);
+        deepchalk::decode(set, map, input.bound, model, work, trace, cells).is_ok()
+    };
+    let mut second = |input: &ModelInput| {
+        let [work, trace, cells] = &mut second_outputs;
+        let (set, map, model) = (&input.set, &input.map, &input.model);
+        reference::decode(set, map, input.bound, model, work, trace, cells).is_ok()
+    };
+    assert!(library(input) && second(input));
+    side_by_side(
+        || {
+            black_box(library(black_box(input)));
+        },
+        || {
+            black_box(second(black_box(input)));
+        },
+    )
+}
+
+/// The memory workload with an EXIT, run for 63 steps before it, and a litmus test with its outcome.
+#[cfg(feature = "check")]
+fn print_models() {
+    let heavy = memory_heavy();
+    let mut exiting = heavy.set.clone();
+    // Thread 0's first statement becomes EXIT 1; the other threads run before it.
+    exiting[..8].copy_from_slice(&[0, 18, 0, 0, 1, 0, 0, 0]);
+    let mut turns = in_turn_of(&exiting, &heavy.map, &[1, 2, 3, 129, 130, 131]);
+    turns[63] = 0;
+    let litmus = reference::litmus::intel().swap_remove(2);
+    let judged = litmus.judged();
+    let (set, map) = (set_bytes(&judged.threads), map_bytes(&judged.map));
+    let accepted = reference::accept_set(&set).expect("an accepted set");
+    let outcome = reference::search::shortest_failing(&accepted, &judged.map, 64);
+    let outcome: Vec<u8> = outcome
+        .expect("an allowed outcome")
+        .iter()
+        .map(|choice| choice.schedule_byte())
+        .collect();
+    for (name, input) in [
+        (
+            "four threads of 32, map of 128, K 64",
+            model_input(&exiting, &heavy.map, 64, &turns),
+        ),
+        (
+            "four threads of 32, map of 128, K 1",
+            model_input(&exiting, &heavy.map, 1, &[0]),
+        ),
+        (
+            "litmus test with its outcome",
+            model_input(&set, &map, litmus.judged_bound() as u64, &outcome),
+        ),
+    ] {
+        print_row(name, "check", checks(&input));
+        #[cfg(feature = "decode")]
+        print_row(name, "decode", decodes(&input));
+    }
+}
+
 fn main() {
     println!(
         "{:<42} {:<9} {:>10} {:>10} {:>7}",
@@ -329,4 +507,8 @@ fn main() {
         print_row(work.name, "simulate", simulations(&work));
         print_row(work.name, "replay", replays(&work));
     }
+    #[cfg(feature = "encode")]
+    print_encodings();
+    #[cfg(feature = "check")]
+    print_models();
 }

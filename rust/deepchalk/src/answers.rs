@@ -26,6 +26,13 @@ pub struct Read {
     pub cells: u16,
 }
 
+/// A model that was decoded: how many trace steps and map records were written.
+#[derive(Clone, Copy, Debug, PartialEq, Eq)]
+pub struct Decoded {
+    pub steps: u16,
+    pub cells: u16,
+}
+
 /// A refusal by its number in document 01's table. `place` is a line from 1, a step from 0 or a
 /// record from 0, as the number has it, else 0.
 #[derive(Clone, Copy, Debug, PartialEq, Eq)]
@@ -110,6 +117,29 @@ pub(crate) fn run_answer(packed: u64) -> Result<Ran, Refusal> {
     })
 }
 
+/// The answer of encoding or of a table's size. On success bits 32 to 63 are the records.
+#[cfg(feature = "encode")]
+pub(crate) fn table_answer(packed: u64) -> Result<u32, Refusal> {
+    accepted(packed)?;
+    Ok((packed >> 32) as u32)
+}
+
+/// The answer of the model check. Nothing goes with a success.
+#[cfg(feature = "check")]
+pub(crate) fn check_answer(packed: u64) -> Result<(), Refusal> {
+    accepted(packed)
+}
+
+/// The answer of decoding. On success bits 32 to 47 are the steps, 48 to 63 the cells.
+#[cfg(feature = "decode")]
+pub(crate) fn decode_answer(packed: u64) -> Result<Decoded, Refusal> {
+    accepted(packed)?;
+    Ok(Decoded {
+        steps: (packed >> 32) as u16,
+        cells: (packed >> 48) as u16,
+    })
+}
+
 #[cfg(test)]
 mod tests {
     use super::*;
@@ -142,6 +172,33 @@ mod tests {
             read_answer(0x4001_0000_0002),
             Err(Refusal { number, place })
         );
+    }
+
+    #[cfg(feature = "encode")]
+    #[test]
+    fn packed_answers_of_encoding() {
+        assert_eq!(table_answer(0x0001_e748_0000_0000), Ok(124_744));
+        let (number, place) = (10, 0);
+        assert_eq!(table_answer(10), Err(Refusal { number, place }));
+    }
+
+    #[cfg(feature = "check")]
+    #[test]
+    fn packed_answers_of_the_model_check() {
+        assert_eq!(check_answer(0), Ok(()));
+        let (number, place) = (16, 19);
+        let refusal = Err(Refusal { number, place });
+        assert_eq!(check_answer(0x0013_0000_0010), refusal);
+    }
+
+    #[cfg(feature = "decode")]
+    #[test]
+    fn packed_answers_of_decoding() {
+        let (steps, cells) = (64, 254);
+        let decoded = Decoded { steps, cells };
+        assert_eq!(decode_answer(0x00fe_0040_0000_0000), Ok(decoded));
+        let (number, place) = (15, 0);
+        assert_eq!(decode_answer(15), Err(Refusal { number, place }));
     }
 
     #[test]

@@ -1,10 +1,10 @@
 //! Deepchalk for Rust: safe calls to the proved library.
-//! Set texts, records, trace steps, schedules and refusals are document 01's.
+//! Set texts, records, trace steps, schedules, formula tables, models and refusals are document 01's.
 
 mod answers;
 pub mod raw;
 
-pub use answers::{End, Ran, Read, Refusal};
+pub use answers::{Decoded, End, Ran, Read, Refusal};
 
 /// The most bytes of a set text.
 pub const MAX_TEXT: usize = 16_384;
@@ -18,8 +18,14 @@ pub const CELL_BYTES: usize = 4;
 pub const MAX_SET_MAP: usize = 128;
 /// Bytes of a trace step.
 pub const STEP_BYTES: usize = 24;
-/// The most steps of a schedule or a trace.
+/// The most steps of a schedule or a trace, and the largest bound.
 pub const MAX_STEPS: usize = 64;
+/// Bytes of a formula record.
+pub const FORMULA_BYTES: usize = 16;
+/// Bytes of work memory for each formula record.
+pub const WORK_BYTES: usize = 32;
+/// Bytes of output that a decoded map needs.
+pub const MAP_ROOM: usize = 1_024;
 
 /// Reads the set text and writes its statement records, 8 bytes each, to the front of `set` and its
 /// map records, 4 bytes each, to the front of `map`. A refusal leaves both as they were; a success
@@ -73,4 +79,96 @@ pub fn replay(set: &[u8], map: &[u8], trace: &[u8]) -> Result<Ran, Refusal> {
         )
     };
     answers::run_answer(packed)
+}
+
+/// How many formula records the table of the set, the map and the bound has.
+#[cfg(feature = "encode")]
+pub fn table_size(set: &[u8], map: &[u8], bound: u64) -> Result<u32, Refusal> {
+    // SAFETY: as in `read`.
+    let packed = unsafe {
+        raw::deepchalk_table_size(set.as_ptr(), set.len(), map.as_ptr(), map.len(), bound)
+    };
+    answers::table_answer(packed)
+}
+
+/// Writes the table of the set, the map and the bound, 16 bytes a record, to the front of `table`
+/// and gives the number of its records. A refusal leaves `table` as it was; a success leaves the
+/// bytes beyond the records.
+#[cfg(feature = "encode")]
+pub fn encode(set: &[u8], map: &[u8], bound: u64, table: &mut [u8]) -> Result<u32, Refusal> {
+    // SAFETY: as in `read`.
+    let packed = unsafe {
+        raw::deepchalk_encode(
+            set.as_ptr(),
+            set.len(),
+            map.as_ptr(),
+            map.len(),
+            bound,
+            table.as_mut_ptr(),
+            table.len(),
+        )
+    };
+    answers::table_answer(packed)
+}
+
+/// Whether the model satisfies the table of the set, the map and the bound. `work` needs 32 bytes for
+/// each record of the table. A refusal other than 16 leaves `work` as it was; else all of it is 0.
+#[cfg(feature = "check")]
+pub fn check(
+    set: &[u8],
+    map: &[u8],
+    bound: u64,
+    model: &[u8],
+    work: &mut [u8],
+) -> Result<(), Refusal> {
+    // SAFETY: as in `read`.
+    let packed = unsafe {
+        raw::deepchalk_check(
+            set.as_ptr(),
+            set.len(),
+            map.as_ptr(),
+            map.len(),
+            bound,
+            model.as_ptr(),
+            model.len(),
+            work.as_mut_ptr(),
+            work.len(),
+        )
+    };
+    answers::check_answer(packed)
+}
+
+/// Writes the trace of the model's run, 24 bytes a step, to the front of `trace` and the map that it
+/// replays over, 4 bytes a cell, to the front of `decoded_map`. `trace` needs 24 bytes for each step of
+/// the bound, `decoded_map` 1,024 bytes. A refusal leaves both as they were; a success leaves the bytes
+/// beyond. `work` is as in `check`.
+#[cfg(feature = "decode")]
+pub fn decode(
+    set: &[u8],
+    map: &[u8],
+    bound: u64,
+    model: &[u8],
+    work: &mut [u8],
+    trace: &mut [u8],
+    decoded_map: &mut [u8],
+) -> Result<Decoded, Refusal> {
+    // SAFETY: as in `read`.
+    let packed = unsafe {
+        raw::deepchalk_decode(
+            set.as_ptr(),
+            set.len(),
+            map.as_ptr(),
+            map.len(),
+            bound,
+            model.as_ptr(),
+            model.len(),
+            work.as_mut_ptr(),
+            work.len(),
+            trace.as_mut_ptr(),
+            trace.len(),
+            decoded_map.as_mut_ptr(),
+            decoded_map.len(),
+        )
+    };
+    answers::decode_answer(packed)
 }

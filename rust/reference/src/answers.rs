@@ -37,8 +37,12 @@ impl Refusal {
     pub const MAP: Refusal = Refusal::plain(8);
     /// Statement or map records not as document 01 has them.
     pub const RECORDS: Refusal = Refusal::plain(9);
-    /// Lent output too short.
+    /// Bound not 1 to 64.
+    pub const BOUND: Refusal = Refusal::plain(10);
+    /// Lent output or work memory too short.
     pub const ROOM: Refusal = Refusal::plain(11);
+    /// Model not as document 01 has it.
+    pub const MODEL: Refusal = Refusal::plain(15);
     /// Schedule or trace above 64 steps, or trace not whole records.
     pub const LENGTH: Refusal = Refusal::plain(17);
 
@@ -84,5 +88,14 @@ impl Refusal {
     /// First cell read that the map lacks.
     pub fn lacks_cell(step: usize) -> Refusal {
         Refusal::at_step(14, step)
+    }
+
+    /// First constraint or goal that is 0. Records count from 0.
+    pub fn not_satisfied(record: usize) -> Refusal {
+        Refusal {
+            number: 16,
+            // Tables have less than 2^17 records.
+            place: record as u32,
+        }
     }
 }

@@ -1,10 +1,20 @@
-//! Document 01's samples 4, 6, 7, 8 and 9 as far as simulation and replay reach them.
+//! Document 01's samples 4, 6, 7, 8 and 9, and document 002's litmus tests.
 //! The proved program runs the same cases and must print the same lines.
 
-use crate::records::{map_bytes, set_bytes};
+use crate::litmus::{amd, intel, Litmus};
+use crate::records::{map_bytes, set_bytes, CELL_BYTES, STATEMENT_BYTES};
+use crate::search::runs_to_halts;
 use crate::trace::STEP_BYTES;
 use crate::Instruction::{self, *};
-use crate::{replay, simulate, Cell, End, Ran, Refusal, Statement};
+use crate::{accept_set, read, replay, simulate, table_size};
+use crate::{Cell, End, Ran, Read, Refusal, Set, Statement};
+
+/// What the proved program prints.
+pub fn reports() -> String {
+    let samples: String = all().iter().map(Case::report).collect();
+    let litmus: String = litmus_cases().iter().map(LitmusCase::report).collect();
+    [samples, text_reports(), bound_reports(), litmus].concat()
+}
 
 /// Statements by word and argument, cells by address and value.
 pub struct Case {
@@ -35,20 +45,23 @@ impl Case {
         map_bytes(&cells)
     }
 
-    /// What simulation answers, the trace it writes, and, where it wrote one, what replay answers
-    /// to that trace.
     pub fn report(&self) -> String {
-        let (set, map) = (self.set(), self.map());
-        let mut trace = vec![0; self.schedule.len() * STEP_BYTES];
-        let answer = simulate(&set, &map, &self.schedule, &mut trace);
-        let mut lines = vec![format!("{}: {}", self.name, numbers(answer))];
-        if answer.is_ok() {
-            lines.extend(trace.chunks_exact(STEP_BYTES).map(blank_parted));
-            let answer = replay(&set, &map, &trace);
-            lines.push(format!("{} replay: {}", self.name, numbers(answer)));
-        }
-        lines.join("\n") + "\n"
+        run_report(self.name, &self.set(), &self.map(), &self.schedule)
     }
+}
+
+/// What simulation answers, the trace it writes, and, where it wrote one, what replay answers to that
+/// trace.
+fn run_report(name: &str, set: &[u8], map: &[u8], schedule: &[u8]) -> String {
+    let mut trace = vec![0; schedule.len() * STEP_BYTES];
+    let answer = simulate(set, map, schedule, &mut trace);
+    let mut lines = vec![format!("{name}: {}", numbers(answer))];
+    if answer.is_ok() {
+        lines.extend(trace.chunks_exact(STEP_BYTES).map(blank_parted));
+        let answer = replay(set, map, &trace);
+        lines.push(format!("{name} replay: {}", numbers(answer)));
+    }
+    lines.join("\n") + "\n"
 }
 
 /// Number, place, end (0 code, 1 stuck, 2 open), code, steps.
@@ -166,6 +179,112 @@ pub fn all() -> Vec<Case> {
     ]
 }
 
+// ---- sample 9, texts
+
+/// A thread of one HALT, and a comment up to this length.
+fn text(length: usize) -> Vec<u8> {
+    let mut text = b"HALT\n.\n#".to_vec();
+    text.resize(length, b'x');
+    text
+}
+
+/// Number, place, statements, cells.
+fn text_reports() -> String {
+    let report = |length: usize| {
+        let answer = read(&text(length), 64, 64);
+        let answer = match answer {
+            Err(Refusal { number, place }) => format!("{number} {place} 0 0"),
+            Ok(Read { set, map }) => {
+                let statements = set.len() / STATEMENT_BYTES;
+                format!("0 0 {statements} {}", map.len() / CELL_BYTES)
+            }
+        };
+        format!("sample 9 text of {length} bytes: {answer}\n")
+    };
+    report(16_384) + &report(16_385)
+}
+
+// ---- sample 9, bounds
+
+/// Of the table of JMP 0: number, place, records.
+fn bound_reports() -> String {
+    let set = set_bytes(&[vec![Statement::new(Jmp, 0)]]);
+    let report = |bound: u64| {
+        let answer = match table_size(&set, &[], bound) {
+            Err(Refusal { number, place }) => format!("{number} {place} 0"),
+            Ok(records) => format!("0 0 {records}"),
+        };
+        format!("sample 9 table for K {bound}: {answer}\n")
+    };
+    [64, 65, 0, 1].map(report).concat()
+}
+
+// ---- litmus tests
+
+/// A litmus test with all its runs.
+pub struct LitmusCase {
+    pub litmus: Litmus,
+    runs: usize,
+    /// The schedules that lead to the outcome, with the HALTs last by thread.
+    outcomes: Vec<Vec<u8>>,
+}
+
+impl LitmusCase {
+    fn new(litmus: Litmus) -> LitmusCase {
+        let bare = litmus.bare();
+        let set: Set = accept_set(&set_bytes(&bare.threads)).expect("an accepted set");
+        let runs = runs_to_halts(&set, &bare.map);
+        let halts = 0..set.threads.len() as u8;
+        let outcomes = runs
+            .iter()
+            .filter(|(_, threads)| litmus.holds(threads))
+            .map(|(run, _)| {
+                let choices = run.iter().map(|choice| choice.schedule_byte());
+                choices.chain(halts.clone()).collect()
+            })
+            .collect();
+        LitmusCase {
+            runs: runs.len(),
+            outcomes,
+            litmus,
+        }
+    }
+
+    pub fn set(&self) -> Vec<u8> {
+        set_bytes(&self.litmus.bare().threads)
+    }
+
+    pub fn map(&self) -> Vec<u8> {
+        map_bytes(&self.litmus.bare().map)
+    }
+
+    /// A run to the outcome.
+    pub fn schedule(&self) -> Option<&[u8]> {
+        self.outcomes.first().map(Vec::as_slice)
+    }
+
+    /// How many runs there are and how many lead to the outcome; and one of these.
+    fn report(&self) -> String {
+        let (runs, outcomes) = (self.runs, self.outcomes.len());
+        let line = format!(
+            "{}: {runs} runs, {outcomes} with the outcome\n",
+            self.litmus.name
+        );
+        match self.schedule() {
+            None => line,
+            Some(schedule) => {
+                let name = self.litmus.number();
+                line + &run_report(name, &self.set(), &self.map(), schedule)
+            }
+        }
+    }
+}
+
+pub fn litmus_cases() -> Vec<LitmusCase> {
+    let all = intel().into_iter().chain(amd());
+    all.map(LitmusCase::new).collect()
+}
+
 #[cfg(test)]
 mod tests {
     use super::*;
@@ -212,5 +331,51 @@ mod tests {
                 "sample 9 65 steps: 17 0 0 0 0",
             ]
         );
+    }
+
+    #[test]
+    fn texts_of_16_384_and_16_385_bytes() {
+        let reports = text_reports();
+        let lines: Vec<&str> = reports.lines().collect();
+        assert_eq!(
+            lines,
+            [
+                "sample 9 text of 16384 bytes: 0 0 1 0",
+                "sample 9 text of 16385 bytes: 1 0 0 0",
+            ]
+        );
+    }
+
+    // Each step has the same records.
+    #[test]
+    fn bounds_of_64_65_0_and_1() {
+        let reports = bound_reports();
+        let lines: Vec<&str> = reports.lines().collect();
+        assert_eq!(
+            lines,
+            [
+                "sample 9 table for K 64: 0 0 1481",
+                "sample 9 table for K 65: 10 0 0",
+                "sample 9 table for K 0: 10 0 0",
+                "sample 9 table for K 1: 0 0 32",
+            ]
+        );
+    }
+
+    #[test]
+    fn outcomes_are_document_002s() {
+        for case in litmus_cases() {
+            let name = case.litmus.name;
+            assert_eq!(!case.outcomes.is_empty(), case.litmus.allowed, "{name}");
+            let mut trace = vec![0; 64 * STEP_BYTES];
+            for schedule in &case.outcomes {
+                assert!(schedule.len() <= case.litmus.bound);
+                let answer = simulate(&case.set(), &case.map(), schedule, &mut trace);
+                assert!(
+                    matches!(answer, Ok(ran) if ran.end == End::Code(0)),
+                    "{name}"
+                );
+            }
+        }
     }
 }

@@ -3,7 +3,7 @@
 use crate::Instruction::{self, *};
 use crate::{Cell, End, Memory, Set, Statement};
 
-#[derive(Clone, Copy, Debug, PartialEq, Eq)]
+#[derive(Clone, Copy, Debug, PartialEq, Eq, Hash)]
 pub struct Thread {
     pub accu: u16,
     pub mem: u16,
@@ -185,13 +185,23 @@ pub struct Machine<'a> {
 impl<'a> Machine<'a> {
     /// Fresh threads, no marks and a first memory.
     pub fn fresh(set: &'a Set, map: Vec<Cell>) -> Machine<'a> {
+        Machine::start(set, Memory::first(map))
+    }
+
+    pub fn start(set: &'a Set, memory: Memory) -> Machine<'a> {
         Machine {
             set,
             threads: vec![Thread::fresh(); set.threads.len()],
-            memory: Memory::first(map),
+            memory,
             code: None,
             written: None,
         }
+    }
+
+    /// The same over a first memory of all 65,536 cells, by address: no cell is ever lacking.
+    pub fn over(set: &'a Set, first: &[u16]) -> Machine<'a> {
+        let cell = |(address, &value): (u16, &u16)| Cell { address, value };
+        Machine::fresh(set, (0..=u16::MAX).zip(first).map(cell).collect())
     }
 
     pub fn threads(&self) -> &[Thread] {

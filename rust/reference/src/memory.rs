@@ -1,4 +1,4 @@
-//! Shared memory as far as it is known: the map's cells and the cells written since.
+//! Shared memory: the cells of a map or of a model and the cells written since.
 
 #[derive(Clone, Copy, Debug, PartialEq, Eq)]
 pub struct Cell {
@@ -6,22 +6,36 @@ pub struct Cell {
     pub value: u16,
 }
 
-/// The known cells, by ascending address. A cell that is neither mapped nor written is free, so it
-/// cannot be read.
+/// The listed cells, by ascending address, and what the others hold: nothing that is known where they
+/// are free, so that they cannot be read.
 #[derive(Clone, Debug)]
 pub struct Memory {
     cells: Vec<Cell>,
+    others: Option<u16>,
 }
 
 impl Memory {
     /// First memory: what the map says. The map's addresses ascend.
     pub fn first(map: Vec<Cell>) -> Memory {
-        Memory { cells: map }
+        Memory {
+            cells: map,
+            others: None,
+        }
+    }
+
+    /// First memory of a model: "unlisted cells are 0". The cells' addresses ascend.
+    pub fn full(cells: Vec<Cell>) -> Memory {
+        Memory {
+            cells,
+            others: Some(0),
+        }
     }
 
     pub fn read(&self, address: u16) -> Option<u16> {
-        let index = self.find(address).ok()?;
-        Some(self.cells[index].value)
+        match self.find(address) {
+            Ok(index) => Some(self.cells[index].value),
+            Err(_) => self.others,
+        }
     }
 
     pub fn write(&mut self, cell: Cell) {
@@ -56,5 +70,17 @@ mod tests {
         }
         assert_eq!(memory.read(0), Some(1));
         assert_eq!(memory.read(6), None);
+    }
+
+    #[test]
+    fn unlisted_cells_of_a_model_are_0() {
+        let (address, value) = (4, 9);
+        let mut memory = Memory::full(vec![Cell { address, value }]);
+        assert_eq!([memory.read(4), memory.read(5)], [Some(9), Some(0)]);
+        memory.write(Cell {
+            address: 5,
+            value: 1,
+        });
+        assert_eq!([memory.read(5), memory.read(6)], [Some(1), Some(0)]);
     }
 }

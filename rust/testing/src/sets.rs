@@ -68,6 +68,37 @@ pub fn threads(random: &mut Random) -> Threads {
         .collect()
 }
 
+/// Some sets are as in the tests of simulation; others are short and end in EXIT, so that many runs
+/// fail.
+pub fn some_exiting(random: &mut Random) -> Threads {
+    if random.chance(60) {
+        exiting(random)
+    } else {
+        threads(random)
+    }
+}
+
+/// Short threads, many of which end in EXIT.
+pub fn exiting(random: &mut Random) -> Threads {
+    let mut threads = threads(random);
+    for thread in &mut threads {
+        let length = random.between(1, 7).min(thread.len());
+        thread.truncate(length);
+        for statement in thread.iter_mut() {
+            if statement.instruction.is_jump() {
+                statement.argument %= length as u16;
+            }
+        }
+        let code = random.pick(&[0, 1, 1, 7, 65_535]);
+        thread[length - 1] = match random.below(4) {
+            0 => Statement::new(Halt, 0),
+            1 => Statement::new(Jmp, random.below(length) as u16),
+            _ => Statement::new(Exit, code),
+        };
+    }
+    threads
+}
+
 fn address(random: &mut Random) -> u16 {
     match random.below(20) {
         0 => random.pick(&[8, 15, 16, 255, 256, 300, 32_768, 65_535]),
