@@ -3,6 +3,7 @@ pub mod Cells
 pub mod Four
 pub mod Groups
 pub mod Loads
+pub mod Local
 pub mod Runs
 pub mod Permitted
 pub mod Settled

@@ -11,7 +11,7 @@ use Rattle.records.specs.Instructions.{EXIT, CHECK}
 use Rattle.records.specs.Sets.{Set, nothing}
 use Rattle.records.specs.declared.Layout.{Layout}
 use Rattle.records.specs.declared.Statement.{Statement}
-use Rattle.step.specs.Machine.{State, fresh, unmarked, isEmpty, flushed, address, cellsRead, executed, casMatches, needsEmpty, actor, opened, cleared, memoryAfter, wrote, noWrite}
+use Rattle.step.specs.Machine.{State, fresh, unmarked, isEmpty, flushed, withPc, row, nextPc, address, cellsRead, executed, casMatches, needsEmpty, actor, opened, cleared, memoryAfter, wrote, noWrite}
 use Rattle.step.specs.declared.Mark.{Mark}
 use Rattle.step.specs.declared.Outcome.{Outcome}
 use Rattle.step.specs.declared.Outcome.the-variants.{Taken, NotPermitted, Lacking}
@@ -96,6 +96,11 @@ writtenBy (Flush t) i x memory = wrote (x .adr) (x .val)
 abbrev pub readsBy : Choice → Statement → Thread → (ℕ → ℕ) → List ℕ
 readsBy (Execute t) i x memory = cellsRead i x memory
 readsBy (Flush t) i x memory = []
+
+-- the registers afterwards, from the address and the word that the statement takes
+abbrev pub threadFrom : Choice → Statement → (a w : ℕ) → Thread → Thread
+threadFrom (Execute t) i a w x = withPc (nextPc i x) (row (i .number) (i .argument) a w x)
+threadFrom (Flush t) i a w x = flushed x
 
 -- the outcome, where the thread can step at all
 abbrev pub outcomeBy : Bool → Choice → Statement → Thread → Bool → (ℕ → ℕ) → (ℕ → Bool) → Outcome

@@ -8,7 +8,7 @@ ghost use lib.ListN.{length, getD};
 ghost use Rattle.base.specs.Below.{every};
 ghost use Rattle.records.specs.Instructions.{CAS as cas, EXIT as exit};
 ghost use Rattle.records.specs.Sets.{setBy};
-ghost use Rattle.step.specs.Held.{noRead, memoryOf, memoryIn, knownOf, knownIn, marksSettled, quiet as quietOf, canStep, waits, cellsOf, threadBy, statementBy, writtenBy, readsBy, notTaken, Advances};
+ghost use Rattle.step.specs.Held.{noRead, memoryOf, memoryIn, knownOf, knownIn, marksSettled, quiet as quietOf, canStep, waits, cellsOf, threadBy, threadFrom, statementBy, writtenBy, readsBy, notTaken, Advances};
 ghost use Rattle.step.specs.Machine.{fresh, unmarked, row as rowOf, nextPc, withPc, memoryAfter, wrote as wroteOf, address, cellsRead, executed as executedOf, casMatches, noWrite, flushed};
 ghost use Rattle.step.specs.Maps.{knowsAll, knownAfter};
 use crate::Choice;
@@ -185,8 +185,37 @@ pub struct Effect {
     pub read: Read,
 }
 
-// What executing statement i does.
-fn executing(i: Statement, x: Thread, addresses: &[u16], values: &[u16]) -> Effect
+// The registers after a choice.
+fn acted(x: Thread, choice: Choice, i: Statement, o: Operand) -> Thread
+    requires { ⌜ (i .number < 20 → x .pc < 65535) ⌝ }
+    ensures { λ r. ⌜ r ≡ threadFrom choice i (o .address) (o .word) x ⌝ }
+{
+    match choice {
+        Choice::Execute(_) => executed(i, o, x),
+        Choice::Flush(_) => Thread { full: false, ..x },
+    }
+}
+
+// Updates the acting thread's registers by its choice.
+fn update(x: &mut Thread, choice: Choice, i: Statement, o: Operand)
+    requires { ⌜ (i .number < 20 → now x .pc < 65535) ⌝ }
+    ensures { λ _. ⌜ now (x .exit) ≡ threadFrom choice i (o .address) (o .word) (now (x .entry)) ⌝ }
+{
+    *x = acted(*x, choice, i, o);
+}
+
+// A copy of the acting thread's registers, lent to `update`: a thread is not lent out of the array of a machine.
+fn updated(x: Thread, choice: Choice, i: Statement, o: Operand) -> Thread
+    requires { ⌜ (i .number < 20 → x .pc < 65535) ⌝ }
+    ensures { λ y. ⌜ y ≡ threadFrom choice i (o .address) (o .word) x ⌝ }
+{
+    let mut y = x;
+    update(&mut y, choice, i, o);
+    y
+}
+
+// What thread t's executing of statement i does.
+fn executing(t: u8, i: Statement, x: Thread, addresses: &[u16], values: &[u16]) -> Effect
     requires { ⌜ (i .number < 20 → x .pc < 65535) ⌝ }
     ensures { λ r. ⌜ (r .known ≡ knowsAll (knownIn (now (addresses .entry))) (cellsRead i x (memoryIn (now (addresses .entry)) (now (values .entry)))))
         × (r .thread ≡ executedOf i (memoryIn (now (addresses .entry)) (now (values .entry))) x)
@@ -194,7 +223,7 @@ fn executing(i: Statement, x: Thread, addresses: &[u16], values: &[u16]) -> Effe
         × (cellsOf (r .read) ≡ cellsRead i x (memoryIn (now (addresses .entry)) (now (values .entry)))) ⌝ }
 {
     let o = operands::operands(i, x, addresses, values);
-    let thread = executed(i, o, x);
+    let thread = updated(x, Choice::Execute(t), i, o);
     let read = o.read;
     let mut wrote = Written {
         done: false,
@@ -216,24 +245,21 @@ fn executing(i: Statement, x: Thread, addresses: &[u16], values: &[u16]) -> Effe
     }
 }
 
-// What flushing does.
-fn flushing(x: Thread) -> Effect
+// What thread t's flushing does; it takes nothing.
+fn flushing(t: u8, i: Statement, x: Thread) -> Effect
+    requires { ⌜ (i .number < 20 → x .pc < 65535) ⌝ }
     ensures { λ r. ⌜ (r .known ≡ true) × (r .thread ≡ flushed x) × (r .wrote ≡ wroteOf (x .adr) (x .val)) × (r .read ≡ noRead) ⌝ }
 {
-    let thread = Thread { full: false, ..x };
+    let o = operands::none();
+    let thread = updated(x, Choice::Flush(t), i, o);
+    let read = o.read;
     let wrote = Written {
         done: true,
         address: x.adr,
         value: x.val,
     };
-    let read = Read {
-        argument: false,
-        first: 0,
-        word: false,
-        second: 0,
-    };
     Effect {
-        known: true,
+        known: o.known,
         thread,
         wrote,
         read,
@@ -249,8 +275,8 @@ fn effect_of(choice: Choice, i: Statement, x: Thread, addresses: &[u16], values:
         × (cellsOf (r .read) ≡ readsBy choice i x (memoryIn (now (addresses .entry)) (now (values .entry)))) ⌝ }
 {
     match choice {
-        Choice::Execute(_) => executing(i, x, addresses, values),
-        Choice::Flush(_) => flushing(x),
+        Choice::Execute(t) => executing(t, i, x, addresses, values),
+        Choice::Flush(t) => flushing(t, i, x),
     }
 }
 

@@ -11,14 +11,14 @@ ghost use mathlib.Core.Path.{_≡_};
 ghost use Rattle.step.specs.Machine.{fresh};
 use records::Statement;
 
-// A thread's registers.
+// A thread's registers, words first: a gap between fields would be copied with them.
 pub struct Thread {
     pub accu: u16,
     pub mem: u16,
     pub adr: u16,
     pub val: u16,
-    pub full: bool,
     pub pc: u16,
+    pub full: bool,
     pub halted: bool,
 }
 
@@ -105,8 +105,8 @@ impl Thread {
             mem: 0,
             adr: 0,
             val: 0,
-            full: false,
             pc: 0,
+            full: false,
             halted: false,
         }
     }

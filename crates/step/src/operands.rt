@@ -2,7 +2,7 @@
 ghost use mathlib.Core.Path.{_≡_};
 ghost use mathlib.Core.Bool.{true, not, _||_};
 ghost use Rattle.records.specs.Instructions.{isMemory};
-ghost use Rattle.step.specs.Held.{memoryIn, knownIn, cellsOf};
+ghost use Rattle.step.specs.Held.{noRead, memoryIn, knownIn, cellsOf};
 ghost use Rattle.step.specs.Machine.{load as loadOf, forwards, address as addressOf, takesWord, wordTaken, cellsRead, readsArgument, readsAddress};
 ghost use Rattle.step.specs.Maps.{knowsAll};
 use crate::Read;
@@ -67,6 +67,24 @@ fn word(i: Statement, x: Thread, addresses: &[u16], values: &[u16], a: u16) -> C
     load(x, addresses, values, a)
 }
 
+// Nothing taken.
+pub fn none() -> Operand
+    ensures { λ r. ⌜ (r .known ≡ true) × (r .address ≡ 0) × (r .word ≡ 0) × (r .read ≡ noRead) ⌝ }
+{
+    let read = Read {
+        argument: false,
+        first: 0,
+        word: false,
+        second: 0,
+    };
+    Operand {
+        known: true,
+        address: 0,
+        word: 0,
+        read,
+    }
+}
+
 // What a statement takes: nothing but for memory words, and no word for STORE.
 pub fn operands(i: Statement, x: Thread, addresses: &[u16], values: &[u16]) -> Operand
     ensures { λ r. ⌜ (r .known ≡ knowsAll (knownIn (now (addresses .entry))) (cellsRead i x (memoryIn (now (addresses .entry)) (now (values .entry)))))
@@ -104,16 +122,5 @@ pub fn operands(i: Statement, x: Thread, addresses: &[u16], values: &[u16]) -> O
             read,
         };
     }
-    let read = Read {
-        argument: false,
-        first: 0,
-        word: false,
-        second: 0,
-    };
-    Operand {
-        known: true,
-        address: 0,
-        word: 0,
-        read,
-    }
+    none()
 }

@@ -4,34 +4,17 @@ use mathlib.Core.Path.{_≡_, refl, ap, ap₂, sym, _∙_}
 use mathlib.Core.List.{List}
 use mathlib.Core.Bool.{Bool, true, false, cond, _&&_, _||_}
 use native.Mathlib.Omega.{arith}
-use native.Mathlib.Nat.{le-of-eq}
-use native.Mathlib.Numerals.{add-one}
-use lib.Dec.{eqb, ltb}
-use lib.ListN.{length, getD, drop, drop-of-length-le}
+use lib.Dec.{ltb}
 use borrow.Author.Tests.{lt-ltb, le-ltb, ltb-true}
-use Rattle.base.specs.Below.{every, some, least}
+use Rattle.base.specs.Below.{some, least}
 use Rattle.base.specs.Bytes.{same}
 use Rattle.base.proofs.Below.{least-ext}
-use Rattle.base.proofs.Bytes.{same-next}
-use Rattle.base.proofs.Choice.{chosen, passed, and-false, and-yes}
-use Rattle.text.specs.Drafts.{blockAt, drafted}
+use Rattle.base.proofs.Choice.{chosen, passed, and-false}
+use Rattle.drafts.specs.Blocks.{blockAt}
+use Rattle.text.specs.Drafts.{drafted}
 use Rattle.text.specs.Records.{isNamed, pcOf, argumentOf}
 use Rattle.text.specs.Answers.{doubledAt, targetFits}
 use Rattle.records.specs.Instructions.{isJump}
-
--- two lists of n bytes are the same exactly where all n are
-pub same-every : (n : ℕ) (a b : List ℕ) → length a ≡ n → length b ≡ n → every n (λ k. eqb (getD a k 0) (getD b k 0)) ≡ same a b
-unfolding same every
-same-every n a b h k =
-    sym (and-yes (every n test)) ∙ ap₂ (λ (xs ys : List ℕ). every n test && same xs ys) (sym (drop-of-length-le a (le-of-eq h))) (sym (drop-of-length-le b (le-of-eq k)))
-    ∙ sym (upto n (omega arith) (omega arith))
-  where
-    test : ℕ → Bool
-    test i = eqb (getD a i 0) (getD b i 0)
-
-    upto : (i : ℕ) → i ≤ length a → i ≤ length b → same a b ≡ (every i test && same (drop i a) (drop i b))
-    upto zero p q = refl
-    upto (suc i) p q = upto i (omega arith) (omega arith) ∙ rw (← add-one) (same-next (every i test) a b i (omega arith) (omega arith))
 
 pub drafted-at : (d : List ℕ) (t n p : ℕ) → p < n → drafted d t n p ≡ blockAt d (32 * t + p)
 unfolding drafted

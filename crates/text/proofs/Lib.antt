@@ -2,7 +2,6 @@
 pub mod Accepted
 pub mod Answered
 pub mod Below
-mod Blocks
 mod Carried
 mod Final
 mod Fitting
@@ -13,8 +12,6 @@ mod Kept
 mod Labels
 mod Loop
 pub mod Maps
-mod Parts
-mod Pieces
 mod Samples
 pub mod Sets
 pub mod Statements

@@ -14,10 +14,10 @@ use Rattle.base.specs.Below.{every}
 use Rattle.base.proofs.Below.{every-not, every-all}
 use Rattle.base.proofs.Choice.{chosen, passed, and-true, and-false, and-left, and-right, and-right-false, clash}
 use Rattle.lines.specs.Lines.{lines, isDot, statementLine, mapLine}
-use Rattle.lines.specs.Bytes.{isInLine, run}
 use Rattle.lines.specs.declared.Cell.{Cell}
 use Rattle.text.specs.Answers.{refusalOf, refusalIn, inLines, threadsFit, statementsFit}
-use Rattle.text.specs.Drafts.{blockAt, drafted, threadsIn, linesFrom, cellsOf}
+use Rattle.drafts.specs.Blocks.{blockAt}
+use Rattle.text.specs.Drafts.{drafted, threadsIn, cellsOf}
 use Rattle.text.specs.Readings.{threadsKept, cellsKept, Sound, Takes, ReadsLines, threadsAfter, cellsAfter, misfits}
 use Rattle.text.specs.Sections.{Threads, noThreads, halt, dots, isGood, lineAdded, closed, threadsFrom, threads, inserted, cellAdded, cellsFrom, cells}
 use Rattle.text.specs.declared.Answer.{Answer}
@@ -26,7 +26,9 @@ use Rattle.text.specs.declared.Reading.{Reading}
 use Rattle.text.proofs.Carried.{cells-length}
 use Rattle.text.proofs.Final.{turned, Grows, grows-turned, grows-from, length-from}
 use Rattle.text.proofs.Inserted.{length-inserted}
-use Rattle.text.proofs.Pieces.{lines-next}
+use Rattle.reader.specs.Readers.{lineAt, linesFrom}
+use Rattle.reader.specs.declared.Line.{Line}
+use Rattle.reader.proofs.Pieces.{lines-next}
 
 -- the lines `rest` are still to come
 pub record At (text : List ℕ) (r : Reading) (draft keys : List ℕ) (rest : List (List ℕ)) : Type 0 where
@@ -324,14 +326,14 @@ stops text r draft keys bad sound refused = record {
 }
 
 -- the line at index i, which ends at e, as the first of those still to come
-pub turn : (text : List ℕ) (r : Reading) (draft keys : List ℕ) (i e left : ℕ) → i ≤ length text → e ≡ i + run isInLine (drop i text) →
+pub turn : (text : List ℕ) (r : Reading) (draft keys : List ℕ) (i : ℕ) (line : Line) (left : ℕ) → i ≤ length text → line ≡ lineAt text i →
     At text r draft keys (linesFrom text i) → left ≡ dots (lines text) - r .ended → (r′ : Reading) (draft′ keys′ : List ℕ) →
-    Takes (take (e - i) (drop i text)) left r draft keys r′ draft′ keys′ →
-    At text r draft keys (take (e - i) (drop i text) ∷ linesFrom text (e + 1))
-    × Takes (take (e - i) (drop i text)) (dots (take (e - i) (drop i text) ∷ linesFrom text (e + 1))) r draft keys r′ draft′ keys′
-turn text r draft keys i e left h end at count r′ draft′ keys′ took =
-    let next = lines-next text i e h end in
-    let k : left ≡ dots (take (e - i) (drop i text) ∷ linesFrom text (e + 1)) = (let m = ap dots next in omega (arith, count, at .ended, m)) in (
+    Takes (take (line .end - i) (drop i text)) left r draft keys r′ draft′ keys′ →
+    At text r draft keys (take (line .end - i) (drop i text) ∷ linesFrom text (line .next))
+    × Takes (take (line .end - i) (drop i text)) (dots (take (line .end - i) (drop i text) ∷ linesFrom text (line .next))) r draft keys r′ draft′ keys′
+turn text r draft keys i line left h end at count r′ draft′ keys′ took =
+    let next = lines-next text i line h end in
+    let k : left ≡ dots (take (line .end - i) (drop i text) ∷ linesFrom text (line .next)) = (let m = ap dots next in omega (arith, count, at .ended, m)) in (
       subst (At text r draft keys) next at,
-      subst (λ (n : ℕ). Takes (take (e - i) (drop i text)) n r draft keys r′ draft′ keys′) k took,
+      subst (λ (n : ℕ). Takes (take (line .end - i) (drop i text)) n r draft keys r′ draft′ keys′) k took,
     )

@@ -14,7 +14,8 @@ use Rattle.lines.specs.Lines.{isDot, statementLine, mapLine}
 use Rattle.lines.specs.declared.Stated.{Stated}
 use Rattle.records.specs.Instructions.{isLast}
 use Rattle.text.specs.Answers.{refusalOf}
-use Rattle.text.specs.Drafts.{blockAt, threadsIn}
+use Rattle.drafts.specs.Blocks.{blockAt}
+use Rattle.text.specs.Drafts.{threadsIn}
 use Rattle.text.specs.Readings.{threadsKept, cellsKept, openCount, Closes, States, Maps, Takes, misfits}
 use Rattle.text.specs.Sections.{Threads, halt, isGood, added, isComplete, gained, closed, lineAdded, cellAdded}
 use Rattle.text.specs.declared.Reading.{Reading}

@@ -3,24 +3,12 @@ use Prim.Native.Nat.{ℕ, _+_, _-_, _*_, _/_, _%_}
 use mathlib.Core.Bool.{Bool, cond, _&&_}
 use mathlib.Core.List.{List, [], _∷_, _++_}
 use lib.Dec.{ltb, leb}
-use lib.ListN.{length, getD, take, drop}
-use Rattle.base.specs.Bytes.{wordAt}
-use Rattle.lines.specs.Lines.{lines}
+use lib.ListN.{getD, take, drop}
 use Rattle.lines.specs.declared.Form.the-variants.{Good}
 use Rattle.lines.specs.declared.Stated.{Stated}
 use Rattle.lines.specs.declared.Cell.{Cell}
+use Rattle.drafts.specs.Blocks.{blockAt}
 use Rattle.text.specs.Sections.{Threads, halt, inserted}
-
--- the statement in block k, 36 bytes: instruction number, mode, argument (2), label (16), target (16)
-abbrev pub blockAt : List ℕ → ℕ → Stated
-blockAt draft k = record {
-  form = Good;
-  label = take 16 (drop (36 * k + 4) draft);
-  number = getD draft (36 * k) 0;
-  mode = getD draft (36 * k + 1) 0;
-  argument = wordAt draft (36 * k + 2);
-  target = take 16 (drop (36 * k + 20) draft);
-}
 
 -- the statements of thread t, which has n; its blocks start at 32 * t
 unfoldable pub drafted : List ℕ → ℕ → ℕ → ℕ → Stated
@@ -49,7 +37,3 @@ cellsOf (key ∷ keys) = cellOfKey key ∷ cellsOf keys
 -- the first n cells with one more, which has come to place i: those before it, and it put among the others
 abbrev pub carriedAt : ℕ → List ℕ → ℕ → ℕ → List Cell
 carriedAt n keys i carried = cellsOf (take i keys) ++ inserted (cellOfKey carried) (cellsOf (take (n - i) (drop i keys)))
-
--- the lines that start at index i or after it; none past the end
-unfoldable pub linesFrom : List ℕ → ℕ → List (List ℕ)
-linesFrom text i = cond (leb i (length text)) (lines (drop i text)) []

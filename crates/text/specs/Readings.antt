@@ -14,7 +14,8 @@ use Rattle.text.specs.Answers.{refusalOf, inLines, threadsFit, statement
 use Rattle.text.specs.Answers.{refused as refusedBy}
 use Rattle.text.specs.Records.{setBytes, statements, mapBytes}
 use Rattle.records.specs.Maps.{mapAccepted}
-use Rattle.text.specs.Drafts.{blockAt, threadsIn, cellsOf}
+use Rattle.drafts.specs.Blocks.{blockAt}
+use Rattle.text.specs.Drafts.{threadsIn, cellsOf}
 use Rattle.text.specs.declared.Answer.{Answer}
 use Rattle.text.specs.declared.Answer.the-variants.{Read, Refused}
 use Rattle.text.specs.declared.Reading.{Reading}

@@ -1,5 +1,4 @@
 // Reading a set text: its statement records and map records, or the refusal.
-mod drafts;
 mod map;
 mod sections;
 mod threads;

@@ -1,14 +1,12 @@
 // The sections of a text: a statement more, a section's end, and what a thread's line adds.
 ghost use mathlib.Core.Path.{_≡_};
-ghost use Prim.Native.Nat.{_+_, _≤_, _<_};
-ghost use lib.ListN.{length, drop, set};
-ghost use Rattle.lines.specs.Bytes.{isInLine, run};
+ghost use Prim.Native.Nat.{_≤_, _<_};
+ghost use lib.ListN.{length, set};
 ghost use Rattle.lines.specs.Lines.{lines};
 ghost use Rattle.lines.specs.declared.Form.{Form};
 ghost use Rattle.text.specs.Readings.{Adds, Closes, States, Takes, ReadsLines};
 ghost use Rattle.text.specs.Sections.{halt as haltOf, dots};
 use crate::Reading;
-use crate::drafts;
 use crate::map;
 use lines::Form;
 use lines::Stated;
@@ -119,14 +117,6 @@ fn take_line(l: &[u8], left: u16, r: Reading, draft: &mut [u8], keys: &mut [u32]
     Reading { line, ..s }
 }
 
-// Where the line ends that starts at index i.
-fn line_end(text: &[u8], i: usize) -> usize
-    requires { ⌜ (i ≤ length (now text)) × (length (now text) ≤ 16384) ⌝ }
-    ensures { λ r. ⌜ (r ≡ i + run isInLine (drop i (now (text .entry)))) × (i ≤ r) × (r ≤ length (now (text .entry))) ⌝ }
-{
-    i + lines::line_length(&text[i..])
-}
-
 // How many lines end a section.
 fn count_dots(text: &[u8]) -> u16
     requires { ⌜ length (now text) ≤ 16384 ⌝ }
@@ -135,9 +125,10 @@ fn count_dots(text: &[u8]) -> u16
     let mut found: u16 = 0;
     let mut i: usize = 0;
     while i <= text.len() {
-        let end = line_end(text, i);
+        let l = reader::line_from(text, i);
+        let end = l.end;
         found += lines::is_dot(&text[i..end]) as u16;
-        i = end + 1;
+        i = l.next;
     }
     found
 }
@@ -158,13 +149,14 @@ fn read_lines(text: &[u8], draft: &mut [u8], keys: &mut [u32]) -> Reading
     };
     let mut i: usize = 0;
     while i <= text.len() {
-        let end = line_end(text, i);
+        let l = reader::line_from(text, i);
+        let end = l.end;
         let left = total - r.ended;
         r = take_line(&text[i..end], left, r, draft, keys);
         if r.refusal != 0 {
             return r;
         }
-        i = end + 1;
+        i = l.next;
     }
     r
 }

@@ -6,59 +6,18 @@ ghost use lib.ListN.{length, drop, take, getD};
 ghost use Rattle.base.specs.Below.{least};
 ghost use Rattle.base.specs.Bytes.{same};
 ghost use Rattle.text.specs.Answers.{doubledAt, targetFits, threadFits, labelsFit, checkpointsFit};
-ghost use Rattle.text.specs.Drafts.{blockAt, drafted, threadsIn, fourFit};
+ghost use Rattle.drafts.specs.Blocks.{blockAt};
+ghost use Rattle.text.specs.Drafts.{drafted, threadsIn, fourFit};
 ghost use Rattle.text.specs.Records.{joined, isNamed, argumentOf, statementBytes, setBytes, statements};
-use crate::drafts;
 use lines::Stated;
 use records::instructions::is_jump;
-
-// Whether two labels of sixteen bytes are the same. Sixteen tests without a branch are one comparison of the machine.
-fn sixteen(a: &[u8], b: &[u8]) -> bool
-    requires { ⌜ (length (now a) ≡ 16) × (length (now b) ≡ 16) ⌝ }
-    ensures { λ r. ⌜ r ≡ same (now (a .entry)) (now (b .entry)) ⌝ }
-{
-    (a[0] == b[0])
-        & (a[1] == b[1])
-        & (a[2] == b[2])
-        & (a[3] == b[3])
-        & (a[4] == b[4])
-        & (a[5] == b[5])
-        & (a[6] == b[6])
-        & (a[7] == b[7])
-        & (a[8] == b[8])
-        & (a[9] == b[9])
-        & (a[10] == b[10])
-        & (a[11] == b[11])
-        & (a[12] == b[12])
-        & (a[13] == b[13])
-        & (a[14] == b[14])
-        & (a[15] == b[15])
-}
-
-// Whether two labels are the same.
-fn same_label(a: &[u8], b: &[u8]) -> bool
-    ensures { λ r. ⌜ r ≡ same (now (a .entry)) (now (b .entry)) ⌝ }
-{
-    let whole = (a.len() == Stated::LABEL) & (b.len() == Stated::LABEL);
-    if whole {
-        return sixteen(a, b);
-    }
-    base::same(a, b)
-}
 
 // Whether a label is there.
 fn is_named(label: &[u8]) -> bool
     ensures { λ r. ⌜ r ≡ isNamed (now (label .entry)) ⌝ }
 {
     let none = [0u8; Stated::LABEL];
-    !same_label(label, &none)
-}
-
-// The block of thread t's statement p.
-fn block(t: u16, p: u16) -> u32
-    ensures { λ r. ⌜ r ≡ 32 * t + p ⌝ }
-{
-    32 * (t as u32) + (p as u32)
+    !drafts::same_label(label, &none)
 }
 
 // The first of thread t's first n statements that has a label, n where none has.
@@ -67,8 +26,8 @@ fn find(draft: &[u8], t: u16, n: u16, label: &[u8]) -> u16
 {
     let mut p: u16 = 0;
     while p < n {
-        let other = drafts::label(draft, block(t, p));
-        if same_label(other, label) {
+        let other = drafts::label(draft, drafts::block(t, p));
+        if drafts::same_label(other, label) {
             return p;
         }
         p += 1;
@@ -81,7 +40,7 @@ fn argument(draft: &[u8], t: u16, n: u16, p: u16) -> u16
     requires { ⌜ p < n ⌝ }
     ensures { λ r. ⌜ r ≡ argumentOf n (drafted (now (draft .entry)) t n) p ⌝ }
 {
-    let k = block(t, p);
+    let k = drafts::block(t, p);
     let target = drafts::target(draft, k);
     if is_named(target) {
         return find(draft, t, n, target);
@@ -94,7 +53,7 @@ fn is_doubled(draft: &[u8], t: u16, n: u16, p: u16) -> bool
     requires { ⌜ p < n ⌝ }
     ensures { λ r. ⌜ r ≡ doubledAt (drafted (now (draft .entry)) t n) p ⌝ }
 {
-    let label = drafts::label(draft, block(t, p));
+    let label = drafts::label(draft, drafts::block(t, p));
     if is_named(label) {
         return find(draft, t, p, label) < p;
     }
@@ -106,7 +65,7 @@ fn target_fits(draft: &[u8], t: u16, n: u16, p: u16) -> bool
     requires { ⌜ p < n ⌝ }
     ensures { λ r. ⌜ r ≡ targetFits n (drafted (now (draft .entry)) t n) p ⌝ }
 {
-    let number = drafts::number(draft, block(t, p));
+    let number = drafts::number(draft, drafts::block(t, p));
     if is_jump(number) {
         return argument(draft, t, n, p) < n;
     }
@@ -149,7 +108,7 @@ fn bytes_of(draft: &[u8], t: u16, n: u16, p: u16) -> [u8; 8]
     requires { ⌜ (p < n) × (t < 256) ⌝ }
     ensures { λ r. ⌜ r ≡ statementBytes t n (drafted (now (draft .entry)) t n) p ⌝ }
 {
-    let k = block(t, p);
+    let k = drafts::block(t, p);
     let argument = argument(draft, t, n, p);
     [
         t as u8,

@@ -12,22 +12,22 @@ use Rattle.step.proofs.act.effect_of.Lts as lts
 use Rattle.step.proofs.act.executing.Reads as executing-reads
 use Rattle.step.proofs.act.flushing.Reads as flushing-reads
 
-enum-told : tie.Need-enum-told
-enum-told c = search needs
+enum-known-choice : tie.Need-enum-known-choice
+enum-known-choice c = search needs
 
 executing-requires : tie.Need-executing-requires
 executing-requires c κs = search needs
 
-enum-told-2 : tie.Need-enum-told-2
-enum-told-2 c = search needs
+enum-known-choice-2 : tie.Need-enum-known-choice-2
+enum-known-choice-2 c = search needs
 
 flushing-requires : tie.Need-flushing-requires
 flushing-requires c κs = search needs
 
 returns : tie.Need-returns
 returns c =
-    let a = c .before .before .before .before .before .args in
-    let q = sym (c .before .enum-told .given .1) in
+    let a = c .before .before .before .before .before .before .args in
+    let q = sym (c .before .before .choice .given .1) in
     let memory = memoryIn (now (a .addresses)) (now (a .values)) in
     let e = c .executing .ensures in (
       e .0 ∙ ap (λ (k : Choice). knowsAll (knownIn (now (a .addresses))) (readsBy k (a .i) (a .x) memory)) q,
@@ -38,8 +38,8 @@ returns c =
 
 returns-2 : tie.Need-returns-2
 returns-2 c =
-    let a = c .before .before .before .before .before .args in
-    let q = sym (c .before .enum-told2 .given .1) in
+    let a = c .before .before .before .before .before .before .args in
+    let q = sym (c .before .before .choice2 .given .1) in
     let memory = memoryIn (now (a .addresses)) (now (a .values)) in
     let e = c .flushing .ensures in (
       e .0 ∙ ap (λ (k : Choice). knowsAll (knownIn (now (a .addresses))) (readsBy k (a .i) (a .x) memory)) q,
@@ -51,4 +51,4 @@ returns-2 c =
 pub effect-of-spec : {M : Type 1} → statement M
 effect-of-spec =
     tie.close
-    (tie.spec enum-told executing-requires enum-told-2 flushing-requires returns returns-2)
+    (tie.spec enum-known-choice executing-requires enum-known-choice-2 flushing-requires returns returns-2)

@@ -15,8 +15,8 @@ use Rattle.step.proofs.act.executing.Statement.{statement}
 use Rattle.step.proofs.act.executing.Tie as tie
 use Rattle.step.proofs.act.executing.Reads as reads
 use Rattle.step.proofs.act.executing.Lts as lts
-use Rattle.step.proofs.act.executed.Reads as executed-reads
 use Rattle.step.proofs.act.matches.Reads as matches-reads
+use Rattle.step.proofs.act.updated.Reads as updated-reads
 use Rattle.step.proofs.operands.operands.Reads as operands-reads
 
 abbrev memory-of : tie.After-operands → ℕ → ℕ
@@ -29,14 +29,14 @@ abbrev thread-of : tie.After-operands → Thread
 thread-of c = c .before .before .before .args .x
 
 -- the registers afterwards
-registers : (c : tie.After-executed) →
-    c .executed .result ≡ executed (statement-of (c .before)) (memory-of (c .before)) (thread-of (c .before))
+registers : (c : tie.After-updated) →
+    c .updated .result ≡ executed (statement-of (c .before)) (memory-of (c .before)) (thread-of (c .before))
 unfolding executed
 registers c =
     let i = statement-of (c .before) in
     let x = thread-of (c .before) in
     let o = c .before .operands .ensures in
-    c .executed .ensures ∙ ap₂ (λ (a w : ℕ). withPc (nextPc i x) (row (i .number) (i .argument) a w x)) (o .1) (o .2)
+    c .updated .ensures ∙ ap₂ (λ (a w : ℕ). withPc (nextPc i x) (row (i .number) (i .argument) a w x)) (o .1) (o .2)
 
 -- whether a CAS matches
 cas : (c : tie.After-matches) →
@@ -58,8 +58,8 @@ wrote-cas c e =
 operands-requires : tie.Need-operands-requires
 operands-requires c κs = search needs
 
-executed-requires : tie.Need-executed-requires
-executed-requires c κs = search needs
+updated-requires : tie.Need-updated-requires
+updated-requires c κs = search needs
 
 matches-requires : tie.Need-matches-requires
 matches-requires c κs = search needs
@@ -78,4 +78,4 @@ returns-2 c =
 
 pub executing-spec : {M : Type 1} → statement M
 executing-spec =
-    tie.close (tie.spec operands-requires executed-requires matches-requires returns returns-2)
+    tie.close (tie.spec operands-requires updated-requires matches-requires returns returns-2)

@@ -6,7 +6,7 @@ use mathlib.Core.Bool.{true, false, not}
 use borrow.Author.Tests.{eq-eqb, ne-eqb}
 use Rattle.base.proofs.Choice.{and-true, and-right-false, and-yes}
 use Rattle.step.specs.Machine.{takesWord}
-use Rattle.step.specs.Held.{memoryIn, knownIn}
+use Rattle.step.specs.Held.{memoryIn, knownIn, cellsOf}
 use Rattle.step.proofs.Loads.{knows-from, cells-word, cells-none, word-none, plain}
 use borrow.Author.Needs.{needs}
 use Rattle.step.proofs.operands.operands.Statement.{statement}
@@ -15,6 +15,7 @@ use Rattle.step.proofs.operands.operands.Reads as reads
 use Rattle.step.proofs.operands.operands.Lts as lts
 use Rattle.records.proofs.is_memory.Reads as is-memory-reads
 use Rattle.step.proofs.operands.address.Reads as address-reads
+use Rattle.step.proofs.operands.none.Reads as none-reads
 use Rattle.step.proofs.operands.word.Reads as word-reads
 
 -- past the first test the statement is a memory word
@@ -58,10 +59,15 @@ returns-2 c =
       cells-word (a .i) (a .x) memory (knownIn (now (a .addresses))) _ _ _ (e .2) (rw (e .1) at (w .2)) (e .1),
     )
 
+none-requires : tie.Need-none-requires
+none-requires c κs = search needs
+
 returns-3 : tie.Need-returns-3
 returns-3 c =
-    let a = c .before .before .before .before .args in
-    plain (a .i) (a .x) (memoryIn (now (a .addresses)) (now (a .values))) (knownIn (now (a .addresses))) (sym (c .before .is-memory .ensures) ∙ c .if1 .left)
+    let a = c .before .before .before .before .before .args in
+    let n = c .none .ensures in
+    let p = plain (a .i) (a .x) (memoryIn (now (a .addresses)) (now (a .values))) (knownIn (now (a .addresses))) (sym (c .before .before .is-memory .ensures) ∙ c .before .if1 .left) in
+    (n .0 ∙ p .0, n .1 ∙ p .1, n .2 ∙ p .2, ap cellsOf (n .3) ∙ p .3)
 
 pub operands-spec : {M : Type 1} → statement M
 operands-spec =
@@ -72,4 +78,5 @@ operands-spec =
     returns
     word-requires
     returns-2
+    none-requires
     returns-3)

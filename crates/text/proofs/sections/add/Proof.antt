@@ -1,4 +1,5 @@
 -- `text::sections::add` meets its contract. Assumes nothing.
+use Rattle.drafts.proofs.Blocks.{stored-length, stored-block}
 use Rattle.text.specs.Drafts.{threadsIn}
 use Rattle.text.proofs.Kept.{added-kept, bounded-more}
 use Rattle.base.proofs.Choice.{and-left, and-right, clash}
@@ -8,14 +9,14 @@ use lib.Dec.{ltb}
 use native.Mathlib.Omega.{arith}
 use mathlib.Core.Bool.{_&&_}
 use mathlib.Core.Path.{refl, sym, ap, _∙_}
-use Prim.Native.Nat.{ℕ}
+use Prim.Native.Nat.{ℕ, _+_, _*_}
 use borrow.Author.Needs.{needs}
 use Rattle.text.proofs.sections.add.Statement.{statement}
 use Rattle.text.proofs.sections.add.Tie as tie
 use Rattle.text.proofs.sections.add.Reads as reads
 use Rattle.text.proofs.sections.add.Lts as lts
-use Rattle.text.proofs.drafts.count.Reads as count-reads
-use Rattle.text.proofs.drafts.put.Reads as put-reads
+use Rattle.drafts.proofs.count.Reads as count-reads
+use Rattle.drafts.proofs.put.Reads as put-reads
 use Rattle.text.proofs.sections.with_count.Reads as with-count-reads
 
 count-requires : tie.Need-count-requires
@@ -57,15 +58,17 @@ returns c = let s = c .before .before .before .before .before .before .before .b
     let yes₁ = and-left (r .fits && ltb (r .ended) 4) (ltb (n .result) 32) test in
     let few = ltb-true _ _ (and-right (r .fits && ltb (r .ended) 4) (ltb (n .result) 32) test) in
     let four = ltb-true _ _ (and-right (r .fits) (ltb (r .ended) 4) yes₁) in
-    let put = c .before .before .before .put .ensures in
+    let k = 32 * r .ended + n .result in
+    let put = c .before .before .before .put in
+    let block = stored-block (s .args .x) k (now (s .args .draft)) (put .last .0) (put .ensures .0) (put .ensures .1) (put .ensures .2) (s .pre) in
     let counts = c .with-count .ensures in
     record {
       fits = and-left (r .fits) (ltb (r .ended) 4) yes₁ ∙ sym (ap (λ (m : ℕ). r .fits && ltb (r .ended) 4 && ltb m 32) (sym (n .ensures)) ∙ test);
       ended = refl;
       cells = refl;
       line = refl;
-      sound = λ sound. ((λ t. rw (counts .0) (bounded-more (now (s .args .draft)) (c .before .before .before .put .last .0) (r .counts) (r .ended) (n .result) (s .args .x) (rw (counts .1) four) (n .ensures) few (sound .0) (λ j. put .1 j (omega (arith, four, few, sound .1)) (s .pre)) t)), put .0 ∙ sound .1);
-      threads = λ sound fits. ap (threadsIn (c .before .before .before .put .last .0) (r .ended)) (counts .0) ∙ added-kept (now (s .args .draft)) (c .before .before .before .put .last .0) (r .counts) (r .ended) (n .result) (s .args .x) (rw (counts .1) four) (n .ensures) few (sound .0) (λ j. put .1 j (omega (arith, four, few, sound .1)) (s .pre));
+      sound = λ sound. ((λ t. rw (counts .0) (bounded-more (now (s .args .draft)) (put .last .0) (r .counts) (r .ended) (n .result) (s .args .x) (rw (counts .1) four) (n .ensures) few (sound .0) (block (omega (arith, four, few, sound .1))) t)), stored-length (s .args .x) k (now (s .args .draft)) (put .last .0) (put .ensures .0) ∙ sound .1);
+      threads = λ sound fits. ap (threadsIn (put .last .0) (r .ended)) (counts .0) ∙ added-kept (now (s .args .draft)) (put .last .0) (r .counts) (r .ended) (n .result) (s .args .x) (rw (counts .1) four) (n .ensures) few (sound .0) (block (omega (arith, four, few, sound .1)));
     }
 
 returns-2 : tie.Need-returns-2

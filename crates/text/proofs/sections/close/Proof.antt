@@ -19,8 +19,8 @@ use Rattle.text.proofs.sections.close.Tie as tie
 use Rattle.text.proofs.sections.close.Reads as reads
 use Rattle.text.proofs.sections.close.Lts as lts
 use Rattle.records.proofs.instructions.is_last.Reads as is-last-reads
-use Rattle.text.proofs.drafts.count.Reads as count-reads
-use Rattle.text.proofs.drafts.number.Reads as number-reads
+use Rattle.drafts.proofs.count.Reads as count-reads
+use Rattle.drafts.proofs.number.Reads as number-reads
 use Rattle.text.proofs.sections.add.Reads as add-reads
 use Rattle.text.proofs.sections.halt.Reads as halt-reads
 

@@ -1,8 +1,8 @@
 -- `text::sections::read_lines` meets its contract. Assumes nothing.
 use Rattle.text.proofs.Loop.{turn, At, begins, ends, stops, refused-here, next-at}
 use Rattle.text.specs.Sections.{dots}
-use Rattle.text.specs.Drafts.{linesFrom}
-use Rattle.text.proofs.Pieces.{lines-start, lines-end}
+use Rattle.reader.specs.Readers.{linesFrom}
+use Rattle.reader.proofs.Pieces.{Bounds, line-bounds, lines-start, lines-end}
 use Rattle.lines.specs.Lines.{lines}
 use lib.ListN.{length}
 use lib.Dec.{ltb, leb}
@@ -17,7 +17,7 @@ use Rattle.text.proofs.sections.read_lines.Tie as tie
 use Rattle.text.proofs.sections.read_lines.Reads as reads
 use Rattle.text.proofs.sections.read_lines.Lts as lts
 use Rattle.text.proofs.sections.count_dots.Reads as count-dots-reads
-use Rattle.text.proofs.sections.line_end.Reads as line-end-reads
+use Rattle.reader.proofs.line_from.Reads as line-from-reads
 use Rattle.text.proofs.sections.take_line.Reads as take-line-reads
 
 abbrev Inv-loop : tie.InvT-loop
@@ -26,6 +26,10 @@ Inv-loop text draft₀ keys₀ total r₀ i₀ draft keys r i = (i ≤ length te
 abbrev μ-loop : tie.MeasureT-loop
 μ-loop text draft₀ keys₀ total r₀ i₀ draft keys r i = length text + 1 - i
 
+-- the line found: where it ends, and where the next one starts
+found-at : (c : tie.After-line-from Inv-loop μ-loop) → Bounds (now (c .before .before .before .before .before .before .before .args .text)) (c .before .before .loop .i) (c .line-from .result)
+found-at c = line-bounds (now (c .before .before .before .before .before .before .before .args .text)) (c .before .before .loop .i) (c .line-from .result) (c .before .loop-test .taken) (c .line-from .ensures)
+
 count-dots-requires : tie.Need-count-dots-requires Inv-loop μ-loop
 count-dots-requires c κs = search needs
 
@@ -33,20 +37,20 @@ loop-holds : tie.Need-loop-holds Inv-loop μ-loop
 loop-holds c = let s = c .before .before .before .before in let e = c .count-dots .ensures .0 in
     (search needs, search needs, e, refl, refl, refl, subst (At (s .args .text .now) _ (s .args .draft .now) (s .args .keys .now)) (sym (lines-start (s .args .text .now))) (begins (s .args .text .now) (s .args .draft .now) (s .args .keys .now) _ (ap (λ (n : ℕ). ltb 0 n && leb n 4) e) refl refl refl refl (s .pre .1) (s .pre .2)))
 
-line-end-requires : tie.Need-line-end-requires Inv-loop μ-loop
-line-end-requires c κs = search needs
+line-from-requires : tie.Need-line-from-requires Inv-loop μ-loop
+line-from-requires c κs = search needs
 
 sub-left : tie.Need-sub-left Inv-loop μ-loop
 sub-left c = let l = c .before .before .before .loop in omega (arith, l .inv .2, l .inv .6 .ended)
 
 sub-take-line : tie.Need-sub-take-line Inv-loop μ-loop
-sub-take-line c = search needs
+sub-take-line c = omega (arith, found-at (c .before) .0)
 
 part-take-line-start : tie.Need-part-take-line-start Inv-loop μ-loop
-part-take-line-start c = search needs
+part-take-line-start c = omega (arith, found-at (c .before) .0)
 
 part-take-line-end : tie.Need-part-take-line-end Inv-loop μ-loop
-part-take-line-end c = search needs
+part-take-line-end c = omega (arith, found-at (c .before) .1)
 
 take-line-requires : tie.Need-take-line-requires Inv-loop μ-loop
 take-line-requires c κs = let l = c .before .before .before .before .before .before .loop in let s = c .before .before .before .before .before .before .before .before .before .before .before in
@@ -61,28 +65,26 @@ same-length-2 c = search needs
 returns : tie.Need-returns Inv-loop μ-loop
 returns c = let s = c .before .before .before .before .before .before .before .before .before .before .before .before .before .before .before .before .before .before in
     let l = c .before .before .before .before .before .before .before .before .before .before .before .before .before .loop in
-    let e = c .before .before .before .before .before .before .before .before .before .before .before .line-end .ensures in
+    let e = c .before .before .before .before .before .before .before .before .before .before .before .line-from .ensures in
     let t = c .before .before .before .before .before .before .take-line in
-    let two = turn (s .args .text .now) (l .r) (l .draft) (l .keys) (l .i) (c .before .before .before .before .before .before .before .before .before .before .before .line-end .result) _ (c .before .before .before .before .before .before .before .before .before .before .before .before .loop-test .taken) (e .0) (l .inv .6) (ap (λ (n : ℕ). n - l .r .ended) (l .inv .2)) (t .result) (t .last .1 .1 .1 .0) (t .last .1 .1 .1 .1 .0) (t .ensures) in
+    let two = turn (s .args .text .now) (l .r) (l .draft) (l .keys) (l .i) (c .before .before .before .before .before .before .before .before .before .before .before .line-from .result) _ (c .before .before .before .before .before .before .before .before .before .before .before .before .loop-test .taken) e (l .inv .6) (ap (λ (n : ℕ). n - l .r .ended) (l .inv .2)) (t .result) (t .last .1 .1 .1 .0) (t .last .1 .1 .1 .1 .0) (t .ensures) in
     let at = two .0 in let took = two .1 in
     stops (s .args .text .now) (t .result) (t .last .1 .1 .1 .0) (t .last .1 .1 .1 .1 .0) (c .if1 .taken) (took .sound (at .sound)) (refused-here (s .args .text .now) (l .r) (l .draft) (l .keys) _ _ at (t .result) (t .last .1 .1 .1 .0) (t .last .1 .1 .1 .1 .0) took (c .if1 .taken))
 
-add-i : tie.Need-add-i Inv-loop μ-loop
-add-i c = search needs
-
 loop-less : tie.Need-loop-less Inv-loop μ-loop
-loop-less c = search needs
+loop-less c = let b = found-at (c .before .before .before .before .before .before .before .before .before .before .before) in omega (arith, b, c .before .before .before .before .before .before .before .before .before .before .before .before .loop-test .taken)
 
 loop-again : tie.Need-loop-again Inv-loop μ-loop
 loop-again c = let s = c .before .before .before .before .before .before .before .before .before .before .before .before .before .before .before .before .before .before in
     let l = c .before .before .before .before .before .before .before .before .before .before .before .before .before .loop in
-    let e = c .before .before .before .before .before .before .before .before .before .before .before .line-end .ensures in
+    let e = c .before .before .before .before .before .before .before .before .before .before .before .line-from .ensures in
     let t = c .before .before .before .before .before .before .take-line in
-    let two = turn (s .args .text .now) (l .r) (l .draft) (l .keys) (l .i) (c .before .before .before .before .before .before .before .before .before .before .before .line-end .result) _ (c .before .before .before .before .before .before .before .before .before .before .before .before .loop-test .taken) (e .0) (l .inv .6) (ap (λ (n : ℕ). n - l .r .ended) (l .inv .2)) (t .result) (t .last .1 .1 .1 .0) (t .last .1 .1 .1 .1 .0) (t .ensures) in
+    let two = turn (s .args .text .now) (l .r) (l .draft) (l .keys) (l .i) (c .before .before .before .before .before .before .before .before .before .before .before .line-from .result) _ (c .before .before .before .before .before .before .before .before .before .before .before .before .loop-test .taken) e (l .inv .6) (ap (λ (n : ℕ). n - l .r .ended) (l .inv .2)) (t .result) (t .last .1 .1 .1 .0) (t .last .1 .1 .1 .1 .0) (t .ensures) in
     let at = two .0 in let took = two .1 in
+    let b = found-at (c .before .before .before .before .before .before .before .before .before .before .before) in
     let good : t .result .refusal ≡ 0 = c .if1 .left in
     let next = next-at (s .args .text .now) (l .r) (l .draft) (l .keys) _ _ at (t .result) (t .last .1 .1 .1 .0) (t .last .1 .1 .1 .1 .0) took good in
-    (omega (arith, e .2), omega (arith, took .line, l .inv .1, e .1), l .inv .2, good, next .sound .1 ∙ sym (s .pre .1), next .room ∙ sym (s .pre .2), next)
+    (omega (arith, b), omega (arith, took .line, l .inv .1, b), l .inv .2, good, next .sound .1 ∙ sym (s .pre .1), next .room ∙ sym (s .pre .2), next)
 
 same-length-3 : tie.Need-same-length-3 Inv-loop μ-loop
 same-length-3 c = search needs
@@ -102,7 +104,7 @@ read-lines-spec =
     μ-loop
     count-dots-requires
     loop-holds
-    line-end-requires
+    line-from-requires
     sub-left
     sub-take-line
     part-take-line-start
@@ -111,7 +113,6 @@ read-lines-spec =
     same-length
     same-length-2
     returns
-    add-i
     loop-less
     loop-again
     same-length-3

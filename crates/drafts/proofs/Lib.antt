@@ -1,0 +1,4 @@
+-- The laws that this crate's proofs cite.
+pub mod Blocks
+mod Labels
+mod Parts

@@ -1,0 +1,2 @@
+-- The reader of a text (document 01, "Set text").
+pub mod Readers
