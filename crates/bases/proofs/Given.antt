@@ -1,13 +1,18 @@
 -- What trees of few records are, from the indexes of their operands. Assumes nothing.
 use Prim.Native.Nat.{ℕ, suc, _+_, _≤_}
 use mathlib.Core.Path.{_≡_, refl, ap, sym, subst, _∙_}
+use mathlib.Core.Bool.{Bool, true, false, _||_}
 use mathlib.Core.List.{List, [], _∷_}
 use native.Mathlib.Omega.{arith}
+use native.Mathlib.Decide.{decLt}
 use native.Mathlib.Nat.{add-zero}
 use native.Mathlib.Numerals.{add-one}
+use lib.Dec.{eqb}
 use lib.ListN.{take, List·getD-eq-default}
 use borrow.Author.Tests.{ne-eqb}
-use Rattle.base.proofs.Choice.{passed}
+use Rattle.base.specs.Below.{every}
+use Rattle.base.proofs.Below.{every-at}
+use Rattle.base.proofs.Choice.{passed, or-false, clash}
 use Rattle.records.specs.Sets.{Set}
 use Rattle.records.specs.declared.Statement.{Statement}
 use Rattle.table.specs.declared.Formula.{Formula}
@@ -15,7 +20,7 @@ use Rattle.table.specs.Programs.{Leaf, Unary, Binary, Ternary, ref, leaf, unary
 use Rattle.encoding.specs.Slots.{Slot, slot, Term, kinds, kindAt, choice, loaded, result, test}
 use Rattle.encoding.specs.Steps.{base as baseOf, resultTree, testTree}
 use Rattle.bases.specs.declared.Few.{Few}
-use Rattle.bases.specs.Fews.{Gives, plain, One, Three}
+use Rattle.bases.specs.Fews.{Gives, plain, One, Three, ofStatement}
 
 -- the same records are of a tree that is the same
 pub gives-as : {few : Few} {at : Slot → ℕ} {n : ℕ} {t u : Term} → u ≡ t → Gives few at n t → Gives few at n u
@@ -166,3 +171,41 @@ pub result-loads : (S : Set) (cs : List ℕ) (k n t i : ℕ) → (n ≡ 3 → �
 result-loads S cs k n t i p q r s u v w =
     passed _ _ (ne-eqb n 3 p) ∙ passed _ _ (ne-eqb n 4 q) ∙ passed _ _ (ne-eqb n 5 r) ∙ passed _ _ (ne-eqb n 6 s) ∙ passed _ _ (ne-eqb n 7 u)
     ∙ passed _ _ (ne-eqb n 8 v) ∙ passed _ _ (ne-eqb n 16 w)
+
+-- ---- kinds that a `match` does not name
+
+-- a number is none of those listed, as a `match` leaves it
+abbrev pub Apart : ℕ → List ℕ → Type 0
+Apart n [] = Unit
+Apart n (k ∷ ks) = Apart n ks × (n ≡ k → ⊥)
+
+among : ℕ → List ℕ → Bool
+among n [] = false
+among n (k ∷ ks) = among n ks || eqb n k
+
+apart-among : (n : ℕ) (ks : List ℕ) → Apart n ks → among n ks ≡ false
+unfolding among
+apart-among n [] r = refl
+apart-among n (k ∷ ks) r = or-false (apart-among n ks (r .0)) (ne-eqb n k (r .1))
+
+-- the kinds by number of neither statements nor flags
+abbrev pub others : List ℕ
+others = 40 ∷ 39 ∷ 38 ∷ 37 ∷ 36 ∷ 35 ∷ 34 ∷ 33 ∷ 32 ∷ 30 ∷ 29 ∷ 28 ∷ 27 ∷ 26 ∷ 25 ∷ 24 ∷ 23 ∷ 22 ∷ 21 ∷ 20 ∷ 19 ∷ 18 ∷ 17 ∷ 10 ∷ 9 ∷ 8 ∷ 7 ∷ 6 ∷ 5 ∷ 4 ∷ 3 ∷ 2 ∷ 0 ∷ []
+
+tabled : every 41 (λ n. among n others || (ofStatement n || eqb n 31)) ≡ true
+unfolding every among
+tabled = refl
+
+pub kind-other : (kind : ℕ) → Apart kind others → ofStatement kind ≡ false → (kind ≡ 31 → ⊥) → 41 ≤ kind
+kind-other kind r other flagless = elim (decLt kind 41) [
+  | yes h ↦
+      clash (every-at (λ n. among n others || (ofStatement n || eqb n 31)) 41 kind tabled h)
+      (or-false (apart-among kind others r) (or-false other (ne-eqb kind 31 flagless)))
+  | no h ↦ omega arith
+]
+
+-- a kind of statements that a `match` does not name
+pub statement-other : (kind : ℕ) → Apart kind (16 ∷ 15 ∷ 14 ∷ 13 ∷ 12 ∷ 11 ∷ 1 ∷ []) → ofStatement kind ≡ false
+statement-other kind r =
+    or-false (or-false (or-false (or-false (or-false (or-false (ne-eqb kind 1 (r .0 .0 .0 .0 .0 .0 .1)) (ne-eqb kind 11 (r .0 .0 .0 .0 .0 .1)))
+    (ne-eqb kind 12 (r .0 .0 .0 .0 .1))) (ne-eqb kind 13 (r .0 .0 .0 .1))) (ne-eqb kind 14 (r .0 .0 .1))) (ne-eqb kind 15 (r .0 .1))) (ne-eqb kind 16 (r .1))

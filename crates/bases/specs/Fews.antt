@@ -1,7 +1,9 @@
 -- A tree of at most four records as the code gives it: its records, and the index of its own. Assumes nothing.
 use Prim.Native.Nat.{ℕ, _+_, _≤_}
 use mathlib.Core.Path.{_≡_}
+use mathlib.Core.Bool.{Bool, _||_}
 use mathlib.Core.List.{List, [], _∷_}
+use lib.Dec.{eqb}
 use lib.ListN.{take}
 use Rattle.table.specs.declared.Formula.{Formula}
 use Rattle.table.specs.Programs.{next, root, records}
@@ -17,6 +19,10 @@ pub record Gives (given : Few) (places : Slot → ℕ) (n : ℕ) (t : Term) : Ty
   pub rootIs : given .root ≡ root places n t
   pub countIs : n + given .count ≡ next n t
   pub few : given .count ≤ 4
+
+-- the kinds by number that have one value for each statement, and no links: active, and address to untest
+abbrev pub ofStatement : ℕ → Bool
+ofStatement kind = eqb kind 1 || eqb kind 11 || eqb kind 12 || eqb kind 13 || eqb kind 14 || eqb kind 15 || eqb kind 16
 
 -- ---- what the code's parts give
 

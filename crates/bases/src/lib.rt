@@ -1,11 +1,13 @@
 // The bases of a table's trees (crate encoding, `base`): at most four records each.
+ghost use mathlib.Core.Path.{_≡_};
+ghost use mathlib.Core.Bool.{true, false};
 ghost use mathlib.Core.List.{List};
 ghost use Prim.Native.Nat.{ℕ};
 ghost use Rattle.records.specs.Sets.{setBy};
 ghost use Rattle.encoding.specs.Slots.{kindAt};
 ghost use Rattle.encoding.specs.Steps.{base as baseOf};
 ghost use Rattle.places.specs.Places.{placeOf};
-ghost use Rattle.bases.specs.Fews.{Gives};
+ghost use Rattle.bases.specs.Fews.{Gives, ofStatement};
 
 mod choices;
 mod operations;
@@ -28,7 +30,7 @@ use state::shut_base;
 use statements::active_base;
 use statements::address_base;
 use statements::argument_base;
-use statements::flag_base;
+pub use statements::flag_base;
 use statements::loaded_base;
 use statements::result_base;
 use statements::swaps_base;
@@ -50,7 +52,37 @@ pub struct Few {
     pub fourth: Formula,
 }
 
-// The base of a kind's tree for a and b, its records from index n on.
+// Whether a kind has one value for each statement, and no links.
+pub fn of_statement(kind: u8) -> bool
+    ensures { λ r. ⌜ r ≡ ofStatement kind ⌝ }
+{
+    (kind == kinds::ACTIVE)
+        | (kind == kinds::ADDRESS)
+        | (kind == kinds::LOADED)
+        | (kind == kinds::SWAPS)
+        | (kind == kinds::RESULT)
+        | (kind == kinds::TEST)
+        | (kind == kinds::UNTEST)
+}
+
+// The base of the tree of such a kind for statement i of thread t, its records from index n on.
+pub fn statement(set: &[u8], layout: Layout, slots: &[u32], kind: u8, t: u8, i: u16, n: u32) -> Few
+    ensures { λ r. ⌜ ((cs : List ℕ) (k : ℕ) → ofStatement kind ≡ true
+        → Gives r (placeOf (now (slots .entry))) n (baseOf (setBy (now (set .entry)) layout) cs k (kindAt kind) t i)) ⌝ }
+{
+    match kind {
+        kinds::ACTIVE => active_base(slots, t, i, n),
+        kinds::ADDRESS => address_base(set, layout, slots, t, i, n),
+        kinds::LOADED => loaded_base(set, layout, slots, t, i, n),
+        kinds::SWAPS => swaps_base(set, layout, slots, t, i, n),
+        kinds::RESULT => result_base(set, layout, slots, t, i, n),
+        kinds::TEST => test_base(set, layout, slots, t, i, n),
+        kinds::UNTEST => untest_base(set, layout, slots, t, i, n),
+        _ => same(slots, kinds::NO, 0, 0, 0),
+    }
+}
+
+// The base of another kind's tree for a and b, its records from index n on; that of a flag is `flag_base`.
 pub fn base(
     set: &[u8],
     layout: Layout,
@@ -61,12 +93,12 @@ pub fn base(
     b: u16,
     n: u32,
 ) -> Few
-    ensures { λ r. ⌜ ((cs : List ℕ) → Gives r (placeOf (now (slots .entry))) n (baseOf (setBy (now (set .entry)) layout) cs step (kindAt kind) a b)) ⌝ }
+    ensures { λ r. ⌜ ((cs : List ℕ) → ofStatement kind ≡ false → (kind ≡ 31 → ⊥)
+        → Gives r (placeOf (now (slots .entry))) n (baseOf (setBy (now (set .entry)) layout) cs step (kindAt kind) a b)) ⌝ }
 {
     let threads = layout.threads;
     match kind {
         kinds::CHOICE => choice_base(threads, step, b, n),
-        kinds::ACTIVE => active_base(slots, a, b, n),
         kinds::OPENING => same(slots, kinds::YES, 0, 0, 1),
         kinds::SHUT => shut_base(slots, b, n),
         kinds::BARRED => same(slots, kinds::NO, 0, 0, 0),
@@ -76,12 +108,6 @@ pub fn base(
         kinds::NONE => none_base(slots, b, n),
         kinds::FIT => fit_base(slots, threads, b, n),
         kinds::ONE => same(slots, kinds::NO, 0, 0, 0),
-        kinds::ADDRESS => address_base(set, layout, slots, a, b, n),
-        kinds::LOADED => loaded_base(set, layout, slots, a, b, n),
-        kinds::SWAPS => swaps_base(set, layout, slots, a, b, n),
-        kinds::RESULT => result_base(set, layout, slots, a, b, n),
-        kinds::TEST => test_base(set, layout, slots, a, b, n),
-        kinds::UNTEST => untest_base(set, layout, slots, a, b, n),
         kinds::FLUSH_TO => same(slots, kinds::NOUGHT, 0, 0, 2),
         kinds::WRITE_TO => previous(slots, kinds::WRITE_TO, kinds::FLUSH_TO, b, 2),
         kinds::FLUSH_VALUE => flush_value_base(slots, threads, n),
@@ -96,7 +122,6 @@ pub fn base(
         kinds::ACCU => same(slots, kinds::ACCU, a, 0, 2),
         kinds::FULL => full_base(slots, threads, a, n),
         kinds::HALTED => same(slots, kinds::HALTED, a, 0, 0),
-        kinds::FLAG => flag_base(set, layout, slots, a, b, n),
         kinds::MARK => joined(slots, AND, kinds::SHUT, 0, b, kinds::RAISED, a, b, n),
         kinds::HALTS => same(slots, kinds::YES, 0, 0, 1),
         kinds::ENDED => joined(

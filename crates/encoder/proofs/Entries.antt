@@ -1,19 +1,22 @@
 -- Entries, lines and blocks: their number, what they depend on, and how they are written. Assumes nothing.
-use Prim.Native.Nat.{ℕ, _+_, _-_, _≤_}
+use Prim.Native.Nat.{ℕ, _+_, _-_, _≤_, _<_}
 use mathlib.Core.Path.{_≡_, refl, ap, sym, _∙_, subst}
-use mathlib.Core.Bool.{true, false, cond}
+use mathlib.Core.Bool.{Bool, true, false, cond, not, _&&_, _||_, true≢false}
 use mathlib.Core.List.{List, [], _∷_}
 use native.Mathlib.Omega.{arith}
 use lib.Dec.{eqb}
 use lib.ListN.{length}
-use Rattle.base.proofs.Choice.{cond-both, chosen, passed}
+use borrow.Author.Tests.{eqb-true}
+use Rattle.base.specs.Below.{every}
+use Rattle.base.proofs.Below.{every-at}
+use Rattle.base.proofs.Choice.{cond-both, chosen, passed, and-left, and-right}
 use Rattle.records.specs.Sets.{Set}
 use Rattle.table.specs.Formulas.{writtenAt}
 use Rattle.table.specs.Programs.{next, records, Command, sets, put, compiled, nextAfter, placesAfter}
-use Rattle.encoding.specs.Slots.{Kind, choice, active, opening, shut, barred, held, waits, may, none, fit, one, address, loaded, swaps, result, test, untest, flushTo, writeTo, flushValue, writeValue, raised, exits, codes, heap, val, adr, mem, accu, full, halted, flag, mark, halts, ended, code, no, yes, nought, unit, argument, Slot, slot, same, Term}
-use Rattle.encoding.specs.Steps.{Shape, perChoice, perThread, perStatement, perCheckpoint, perMark, beforeThread, beforeChoice, single, shape, chain, link, links, base, tree, rows, columns, kept, entry}
+use Rattle.encoding.specs.Slots.{Kind, choice, active, opening, shut, barred, held, waits, may, none, fit, one, address, loaded, swaps, result, test, untest, flushTo, writeTo, flushValue, writeValue, raised, exits, codes, heap, val, adr, mem, accu, full, halted, flag, mark, halts, ended, code, no, yes, nought, unit, argument, Slot, slot, same, Term, kinds, kindAt}
+use Rattle.encoding.specs.Steps.{Shape, perChoice, perThread, perStatement, perCheckpoint, perMark, beforeThread, beforeChoice, single, shape, chain, link, links, base, tree, rows, columns, kept, entry, line, leads}
 use Rattle.places.specs.Places.{placeOf}
-use Rattle.bases.specs.Fews.{Gives, formulas}
+use Rattle.bases.specs.Fews.{Gives, formulas, ofStatement}
 use Rattle.bases.specs.declared.Few.{Few}
 use Rattle.encoder.specs.Pieces.{Writes, WritesTree}
 use Rattle.encoder.proofs.Pieces.{writes-none}
@@ -204,3 +207,77 @@ module _ (S : Set) (cs : List ℕ) (k : ℕ) (kind : Kind) (a b : ℕ) (out slot
       subst (λ (P : List (Command Slot)). Writes P out slots n after slotsAfter m) (sym (chosen _ _ (sym (kept-step S cs k (shape kind) a b) ∙ e)))
       (subst (λ (t : Term). Writes (sets (slot kind a b) t ∷ []) out slots n after slotsAfter m) (tree-step S cs k kind a b)
       (set-written (treeOf S cs k kind a b) after slotsAfter m at w p l))
+
+-- the chain of a flag, its links as the code asks for them
+pub flag-chained : (S : Set) (cs : List ℕ) (k t j count : ℕ) → count ≡ S .count t → (places : Slot → ℕ) (out : List ℕ) (n : ℕ) (after : List ℕ) (m at : ℕ) →
+    WritesTree places (chain (leads S [] 0 t j) count (base S cs k flag t j)) out n after m at → WritesTree places (treeOf S cs k flag t j) out n after m at
+flag-chained S cs k t j count e places out n after m at w =
+    subst (λ (i : ℕ). WritesTree places (chain (leads S [] 0 t j) i (base S cs k flag t j)) out n after m at) e w
+
+-- the line of a kind by number
+pub line-at : (S : Set) (cs : List ℕ) (k kind l a : ℕ) → kind ≡ l → (out slots : List ℕ) (n : ℕ) (after slotsAfter : List ℕ) (m : ℕ) →
+    Writes (line S cs k (kindAt l) a) out slots n after slotsAfter m → Writes (line S cs k (kindAt kind) a) out slots n after slotsAfter m
+line-at S cs k kind l a e out slots n after slotsAfter m w =
+    subst (λ (i : ℕ). Writes (line S cs k (kindAt i) a) out slots n after slotsAfter m) (sym e) w
+
+-- ---- kinds of statements
+
+module _ (S : Set) (cs : List ℕ) (a b : ℕ) where
+  -- no links, and a value for each statement
+  plain : ℕ → Bool
+  plain n = eqb (links S cs 0 (kindAt n) a b) 0 && kept S cs 0 (shape (kindAt n)) a b
+
+  plain-tabled : every 41 (λ n. not (ofStatement n) || plain n) ≡ true
+  unfolding every kinds plain
+  plain-tabled = refl
+
+  module _ (kind : ℕ) (h : kind < 41) (of : ofStatement kind ≡ true) where
+    plain-at : plain kind ≡ true
+    plain-at = sym (ap (λ (t : Bool). not t || plain kind) of) ∙ every-at (λ n. not (ofStatement n) || plain n) 41 kind plain-tabled h
+
+    pub statement-kept : kept S cs 0 (shape (kindAt kind)) a b ≡ true
+    unfolding plain
+    statement-kept = and-right (eqb (links S cs 0 (kindAt kind) a b) 0) (kept S cs 0 (shape (kindAt kind)) a b) plain-at
+
+    statement-tree : (k : ℕ) → base S cs k (kindAt kind) a b ≡ treeOf S cs k (kindAt kind) a b
+    unfolding plain chain
+    statement-tree k =
+        sym (ap (λ (m : ℕ). chain (link S cs 0 (kindAt kind) a b) m (base S cs k (kindAt kind) a b))
+        (eqb-true (links S cs 0 (kindAt kind) a b) 0 (and-left (eqb (links S cs 0 (kindAt kind) a b) 0) (kept S cs 0 (shape (kindAt kind)) a b) plain-at)))
+
+    -- a base written is the whole tree
+    pub statement-written : (k : ℕ) (places : Slot → ℕ) (out : List ℕ) (n : ℕ) (after : List ℕ) (m at : ℕ) →
+        WritesTree places (base S cs k (kindAt kind) a b) out n after m at → WritesTree places (treeOf S cs k (kindAt kind) a b) out n after m at
+    statement-written k places out n after m at w = subst (λ (t : Term). WritesTree places t out n after m at) (statement-tree k) w
+
+eachStatement : Shape → Bool
+eachStatement perChoice = false
+eachStatement perThread = false
+eachStatement perStatement = true
+eachStatement perCheckpoint = false
+eachStatement perMark = false
+eachStatement beforeThread = false
+eachStatement beforeChoice = false
+eachStatement single = false
+
+each-tabled : every 41 (λ n. not (ofStatement n) || eachStatement (shape (kindAt n))) ≡ true
+unfolding every kinds eachStatement
+each-tabled = refl
+
+module _ (S : Set) (cs : List ℕ) (a k : ℕ) where
+  each-columns : (s : Shape) → eachStatement s ≡ true → S .count a ≡ columns S cs k s a
+  unfolding eachStatement
+  each-columns perChoice e = absurd (true≢false (sym e))
+  each-columns perThread e = absurd (true≢false (sym e))
+  each-columns perStatement e = refl
+  each-columns perCheckpoint e = absurd (true≢false (sym e))
+  each-columns perMark e = absurd (true≢false (sym e))
+  each-columns beforeThread e = absurd (true≢false (sym e))
+  each-columns beforeChoice e = absurd (true≢false (sym e))
+  each-columns single e = absurd (true≢false (sym e))
+
+  -- as many values as the thread has statements
+  pub statement-columns : (kind : ℕ) → kind < 41 → ofStatement kind ≡ true → S .count a ≡ columns S cs k (shape (kindAt kind)) a
+  statement-columns kind h of =
+      each-columns (shape (kindAt kind))
+      (sym (ap (λ (t : Bool). not t || eachStatement (shape (kindAt kind))) of) ∙ every-at (λ n. not (ofStatement n) || eachStatement (shape (kindAt n))) 41 kind each-tabled h)

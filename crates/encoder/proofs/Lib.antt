@@ -3,7 +3,8 @@ pub mod Records
 pub mod Trees
 pub mod Pieces
 pub mod Entries
-pub mod Noted
 pub mod Parts
 pub mod Sizes
 pub mod Accepted
+pub mod Copying
+pub mod Starting

@@ -8,7 +8,7 @@ use Rattle.records.specs.Sets.{Set}
 use Rattle.table.specs.Formulas.{writtenAt}
 use Rattle.table.specs.Programs.{leafFormula, unaryFormula, binaryFormula, ternaryFormula, constraint, goal, constantWord, not1, equal2, read2, if3, next, root, records, needs, aims, compiled, nextAfter, placesAfter}
 use Rattle.encoding.specs.Encodings.{mapDemand, goalTree}
-use Rattle.encoding.specs.Slots.{slot, none, one, ended, heap, code}
+use Rattle.encoding.specs.Slots.{Slot, slot, same, none, one, ended, heap, code}
 use Rattle.encoding.specs.Steps.{only, word0, ruled}
 use Rattle.places.specs.Places.{placeOf}
 use Rattle.encoder.specs.Pieces.{Writes}
@@ -44,16 +44,17 @@ module _ (out slots : List ℕ) (n : ℕ) where
         slotsStay = refl;
       }
 
-  pub goal-writes : (after : List ℕ) →
-      after ≡ recordAt (n + 2) (goal (n + 1)) (recordAt (n + 1) (unaryFormula not1 n) (recordAt n (binaryFormula equal2 (placeOf slots (only code)) (placeOf slots word0)) out)) →
-      Writes (aims goalTree ∷ []) out slots n after slots (n + 3)
-  unfolding compiled placesAfter nextAfter records root next
-  goal-writes after e =
-      let one : n + 1 ≡ suc n = omega arith in
-      record {
-        written = e ∙ (written-3 out n _ _ _
-            ∙ λ i. writtenAt out n (binaryFormula equal2 (placeOf slots (only code)) (placeOf slots word0) ∷ unaryFormula not1 n ∷ goal (one i) ∷ []));
-        places = refl;
-        next = omega arith;
-        slotsStay = refl;
-      }
+-- the goal, over any places
+pub goal-written : (out : List ℕ) (n : ℕ) (places : Slot → ℕ) (after : List ℕ) →
+    after ≡ recordAt (n + 2) (goal (n + 1)) (recordAt (n + 1) (unaryFormula not1 n) (recordAt n (binaryFormula equal2 (places (only code)) (places word0)) out)) →
+    after ≡ writtenAt out n (compiled same places n (aims goalTree ∷ []))
+unfolding compiled records root next
+goal-written out n places after e =
+    let one : n + 1 ≡ suc n = omega arith in
+    e ∙ (written-3 out n _ _ _
+    ∙ λ i. writtenAt out n (binaryFormula equal2 (places (only code)) (places word0) ∷ unaryFormula not1 n ∷ goal (one i) ∷ []))
+
+pub goal-writes : (out slots : List ℕ) (n : ℕ) (after : List ℕ) → after ≡ writtenAt out n (compiled same (placeOf slots) n (aims goalTree ∷ [])) →
+    Writes (aims goalTree ∷ []) out slots n after slots (n + 3)
+unfolding placesAfter nextAfter next
+goal-writes out slots n after e = record { written = e; places = refl; next = omega arith; slotsStay = refl }

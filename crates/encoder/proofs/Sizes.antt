@@ -15,7 +15,7 @@ use Rattle.table.proofs.Written.{written-++}
 use Rattle.encoding.specs.Encodings.{mapDemand, goalTree, starting, program, firsts, encoded}
 use Rattle.encoding.specs.Slots.{Kind, choice, active, opening, shut, barred, held, waits, may, none, fit, one, address, loaded, swaps, result, test, untest, flushTo, writeTo, flushValue, writeValue, raised, exits, codes, heap, val, adr, mem, accu, full, halted, flag, mark, halts, ended, code, no, yes, nought, unit, argument, Slot, slot, same, startPlace, Term, kindAt}
 use Rattle.encoding.specs.Steps.{Link, skip, ifThen, andWith, orWith, linked, chain, shape, link, links, base, tree, rows, columns, kept, entry, line, block, blocks, ruled, step}
-use Rattle.places.specs.Places.{size}
+use Rattle.places.specs.Places.{placeOf, size}
 use Rattle.places.proofs.Starts.{place-replicate}
 use Rattle.encoder.specs.Pieces.{Writes}
 use Rattle.encoder.proofs.Entries.{rows-step, columns-step, kept-step, tree-step}
@@ -180,11 +180,16 @@ module _ (S : Set) (cs : List ℕ) where
   -- ---- its bytes
 
   -- the whole program written after the first four records
+  pub encoded-bytes : (map : List ℕ) (bound : ℕ) (out begun after : List ℕ) → begun ≡ writtenAt out 0 firsts →
+      after ≡ writtenAt begun 4 (compiled same (placeOf (replicate size 0)) 4 (early map ++ (upto (step S cs) bound ++ (aims goalTree ∷ [])))) →
+      after ≡ writtenAt out 0 (encoded S cs map bound)
+  unfolding encoded
+  encoded-bytes map bound out begun after e w =
+      w
+      ∙ ((λ i. writtenAt (e i) 4 (compiled same (place-replicate size i) 4 (program-cut map bound i)))
+      ∙ sym (written-++ out 0 firsts (compiled same startPlace 4 (program S cs map bound))))
+
   pub encoded-written : (map : List ℕ) (bound : ℕ) (out begun after slots : List ℕ) (m : ℕ) → begun ≡ writtenAt out 0 firsts →
       Writes (early map ++ (upto (step S cs) bound ++ (aims goalTree ∷ []))) begun (replicate size 0) 4 after slots m →
       after ≡ writtenAt out 0 (encoded S cs map bound)
-  unfolding encoded
-  encoded-written map bound out begun after slots m e w =
-      w .written
-      ∙ ((λ i. writtenAt (e i) 4 (compiled same (place-replicate size i) 4 (program-cut map bound i)))
-      ∙ sym (written-++ out 0 firsts (compiled same startPlace 4 (program S cs map bound))))
+  encoded-written map bound out begun after slots m e w = encoded-bytes map bound out begun after e (w .written)

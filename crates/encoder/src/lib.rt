@@ -1,30 +1,34 @@
 // The encoder: the size of a table, and its bytes.
 ghost use mathlib.Core.Path.{_≡_};
-ghost use mathlib.Core.Bool.{true};
+ghost use mathlib.Core.Bool.{true, false, cond};
 ghost use mathlib.Core.List.{List, [], _∷_, _++_};
-ghost use Prim.Native.Nat.{ℕ, _+_, _≤_, _<_};
-ghost use lib.ListN.{length, replicate};
+ghost use Prim.Native.Nat.{ℕ, _+_, _-_, _*_, _≤_, _<_};
+ghost use lib.Dec.{ltb};
+ghost use lib.ListN.{length, getD, replicate};
 ghost use Rattle.records.specs.Maps.{cells, mapAccepted};
-ghost use Rattle.records.specs.Sets.{setBy, setAccepted, layoutOf};
+ghost use Rattle.records.specs.Sets.{Set, setBy, setAccepted, layoutOf};
+ghost use Rattle.table.specs.Copies.{copyOf, Loaded};
 ghost use Rattle.table.specs.Formulas.{writtenAt};
-ghost use Rattle.table.specs.Programs.{needs, aims, upto};
+ghost use Rattle.table.specs.Programs.{leafFormula, choiceBit, needs, aims, upto, compiled, nextAfter, placesAfter};
 ghost use Rattle.encoding.specs.Encodings.{mapDemand, starting, goalTree, firsts as firstsOf, encoded as encodedOf};
-ghost use Rattle.encoding.specs.Slots.{Slot, Term, kindAt};
-ghost use Rattle.encoding.specs.Steps.{Link as ChainLink, linked, chain as chainOf, link as linkOf, links as linksOf, entry as entryOf, line as lineOf, block as blockOf, blocks as blocksOf, ruled, step as stepOf};
-ghost use Rattle.places.specs.Places.{placeOf, listed, size as places};
-ghost use Rattle.bases.specs.Fews.{formulas};
+ghost use Rattle.encoding.specs.Slots.{Slot, same, Term, kindAt, code as codeKind};
+ghost use Rattle.encoding.specs.Steps.{only, word0, Link as ChainLink, linked, chain as chainOf, link as linkOf, links as linksOf, leads as leadsOf, entry as entryOf, line as lineOf, block as blockOf, blocks as blocksOf, ruled, step as stepOf};
+ghost use Rattle.encoding.proofs.Templates.{Marked};
+ghost use Rattle.places.specs.Places.{placeOf, listed, size as placesCount};
+ghost use Rattle.bases.specs.Fews.{formulas, ofStatement};
+ghost use Rattle.links.specs.Nexts.{Nexts};
 ghost use Rattle.links.specs.Placed.{placedLink};
+ghost use Rattle.marks.specs.Marks.{Marking, Settled};
 ghost use Rattle.encoder.specs.Answers.{sizeAnswer, encodeAnswer, tableOutput};
 ghost use Rattle.encoder.specs.Pieces.{Writes, WritesTree, Limits};
-
-mod points;
-
+ghost use Rattle.encoder.specs.Templates.{Ready, Copied, Prepared, Filled};
 use bases::Few;
 use links::Link;
 use places::Points;
 use places::kinds::ARGUMENT;
 use places::kinds::CODE;
 use places::kinds::ENDED;
+use places::kinds::FLAG;
 use places::kinds::HEAP;
 use places::kinds::NONE;
 use places::kinds::NOUGHT;
@@ -116,11 +120,12 @@ fn put_link(out: &mut [u8], n: u32, at: u64, link: Link) -> Root
     }
 }
 
-// Writes the links of a kind over a tree.
+// Writes the links of a kind over a tree; those of flags have their own way.
 fn chain(
     set: &[u8],
     layout: Layout,
     points: Points,
+    nexts: &[u8],
     slots: &[u32],
     out: &mut [u8],
     kind: u8,
@@ -129,7 +134,7 @@ fn chain(
     n: u32,
     base: u64,
 ) -> Root
-    requires { ⌜ (n ≤ 1900000000) × (linksOf (setBy (now set) layout) (listed points) 0 (kindAt kind) a b ≤ 32) ⌝ }
+    requires { ⌜ (n ≤ 1900000000) × (linksOf (setBy (now set) layout) (listed points) 0 (kindAt kind) a b ≤ 32) × (Nexts (setBy (now set) layout) (now nexts)) × (kind ≡ 31 → ⊥) ⌝ }
     ensures { λ r. ⌜ ((tree : Term) (start : List ℕ) (m : ℕ) → WritesTree (placeOf (now (slots .entry))) tree start m (now (out .entry)) n base
         → WritesTree (placeOf (now (slots .entry)))
         (chainOf (linkOf (setBy (now (set .entry)) layout) (listed points) 0 (kindAt kind) a b) (linksOf (setBy (now (set .entry)) layout) (listed points) 0 (kindAt kind) a b) tree)
@@ -138,11 +143,17 @@ fn chain(
 {
     let count = links::chains::links(layout, points, kind, a, b);
     let mut tree = Root { next: n, at: base };
-    let mut i = links::chains::next_link(set, layout, kind, a, b, 0, count);
+    if count == 0 {
+        return tree;
+    }
+    let from = links::chains::givers(layout, kind, a, b);
+    let class = from.class;
+    let thread = from.thread;
+    let mut i = links::nexts::next_of(nexts, class, thread, 0, count);
     while i < count {
         let link = links::chains::link(set, layout, points, slots, kind, a, b, i);
         tree = put_link(out, tree.next, tree.at, link);
-        i = links::chains::next_link(set, layout, kind, a, b, i + 1, count);
+        i = links::nexts::next_of(nexts, class, thread, i + 1, count);
     }
     tree
 }
@@ -152,6 +163,7 @@ fn entry(
     set: &[u8],
     layout: Layout,
     points: Points,
+    nexts: &[u8],
     slots: &mut [u32],
     out: &mut [u8],
     step: u8,
@@ -160,7 +172,7 @@ fn entry(
     b: u16,
     n: u32,
 ) -> u32
-    requires { ⌜ (Limits layout points (now slots) n) × (n ≤ 1800000000) × (kind < 41) × (a < 4) × (b < 32) ⌝ }
+    requires { ⌜ (Limits layout points (now slots) n) × (n ≤ 1800000000) × (kind < 41) × (a < 4) × (b < 32) × (Nexts (setBy (now set) layout) (now nexts)) × (ofStatement kind ≡ false) × (kind ≡ 31 → ⊥) ⌝ }
     ensures { λ r. ⌜ (Writes (entryOf (setBy (now (set .entry)) layout) (listed points) step (kindAt kind) a b)
         (now (out .entry)) (now (slots .entry)) n (now (out .exit)) (now (slots .exit)) r)
         × (r ≤ n + 36) ⌝ }
@@ -169,15 +181,27 @@ fn entry(
         let few = bases::base(set, layout, slots, step, kind, a, b, n);
         put_few(out, n, few);
         let next = n + (few.count as u32);
-        let tree = chain(set, layout, points, slots, out, kind, a, b, next, few.root);
+        let tree = chain(
+            set,
+            layout,
+            points,
+            nexts,
+            slots,
+            out,
+            kind,
+            a,
+            b,
+            next,
+            few.root,
+        );
         places::set_place(slots, kind, a, b, tree.at);
         return tree.next;
     }
     n
 }
 
-// Writes the values of a kind for a.
-fn line(
+// Writes the value of a kind of statements for statement i of thread t.
+fn statement_value(
     set: &[u8],
     layout: Layout,
     points: Points,
@@ -185,19 +209,184 @@ fn line(
     out: &mut [u8],
     step: u8,
     kind: u8,
+    t: u8,
+    i: u16,
+    n: u32,
+) -> u32
+    requires { ⌜ (Limits layout points (now slots) n) × (n ≤ 1800000000) × (kind < 41) × (ofStatement kind ≡ true) × (t < 4) × (i < 32) ⌝ }
+    ensures { λ r. ⌜ (Writes (entryOf (setBy (now (set .entry)) layout) (listed points) step (kindAt kind) t i)
+        (now (out .entry)) (now (slots .entry)) n (now (out .exit)) (now (slots .exit)) r)
+        × (r ≤ n + 36) ⌝ }
+{
+    let few = bases::statement(set, layout, slots, kind, t, i, n);
+    put_few(out, n, few);
+    places::set_place(slots, kind, t, i, few.root);
+    n + (few.count as u32)
+}
+
+// Writes the values of a kind of statements for thread t.
+fn statement_values(
+    set: &[u8],
+    layout: Layout,
+    points: Points,
+    slots: &mut [u32],
+    out: &mut [u8],
+    step: u8,
+    kind: u8,
+    t: u8,
+    n: u32,
+) -> u32
+    requires { ⌜ (Limits layout points (now slots) n) × (n ≤ 1700000000) × (kind < 41) × (ofStatement kind ≡ true) × (t < 4) ⌝ }
+    ensures { λ r. ⌜ (Writes (lineOf (setBy (now (set .entry)) layout) (listed points) step (kindAt kind) t)
+        (now (out .entry)) (now (slots .entry)) n (now (out .exit)) (now (slots .exit)) r)
+        × (r ≤ n + 1152) ⌝ }
+{
+    let count = links::count(layout, t);
+    let mut next = n;
+    let mut i: u16 = 0;
+    while i < count {
+        next = statement_value(set, layout, points, slots, out, step, kind, t, i, next);
+        i += 1;
+    }
+    next
+}
+
+// Writes the links of a flag over a tree.
+fn flag_chain(
+    set: &[u8],
+    layout: Layout,
+    nexts: &[u8],
+    slots: &[u32],
+    out: &mut [u8],
+    t: u8,
+    j: u16,
+    count: u16,
+    n: u32,
+    base: u64,
+) -> Root
+    requires { ⌜ (n ≤ 1900000000) × (count ≤ 32) × (Nexts (setBy (now set) layout) (now nexts)) ⌝ }
+    ensures { λ r. ⌜ ((tree : Term) (start : List ℕ) (m : ℕ) → WritesTree (placeOf (now (slots .entry))) tree start m (now (out .entry)) n base
+        → WritesTree (placeOf (now (slots .entry))) (chainOf (leadsOf (setBy (now (set .entry)) layout) [] 0 t j) count tree)
+        start m (now (out .exit)) (r .next) (r .at))
+        × (r .next ≤ n + 32) ⌝ }
+{
+    let mut tree = Root { next: n, at: base };
+    let mut i = links::edges::leading(set, layout, nexts, t, j, 0, count);
+    while i < count {
+        let link = links::edges::leads(set, layout, slots, t, j, i);
+        tree = put_link(out, tree.next, tree.at, link);
+        i = links::edges::leading(set, layout, nexts, t, j, i + 1, count);
+    }
+    tree
+}
+
+// Writes the flag of statement j of thread t, of `count` statements.
+fn flag(
+    set: &[u8],
+    layout: Layout,
+    points: Points,
+    nexts: &[u8],
+    slots: &mut [u32],
+    out: &mut [u8],
+    step: u8,
+    t: u8,
+    j: u16,
+    count: u16,
+    n: u32,
+) -> u32
+    requires { ⌜ (Limits layout points (now slots) n) × (n ≤ 1800000000) × (t < 4) × (j < 32) × (count ≡ getD (layout .counts) t 0) × (Nexts (setBy (now set) layout) (now nexts)) ⌝ }
+    ensures { λ r. ⌜ (Writes (entryOf (setBy (now (set .entry)) layout) (listed points) step (kindAt 31) t j)
+        (now (out .entry)) (now (slots .entry)) n (now (out .exit)) (now (slots .exit)) r)
+        × (r ≤ n + 36) ⌝ }
+{
+    let few = bases::flag_base(set, layout, slots, t, j, n);
+    put_few(out, n, few);
+    let next = n + (few.count as u32);
+    let tree = flag_chain(set, layout, nexts, slots, out, t, j, count, next, few.root);
+    places::set_place(slots, FLAG, t, j, tree.at);
+    tree.next
+}
+
+// Writes the flags of thread t.
+fn flags(
+    set: &[u8],
+    layout: Layout,
+    points: Points,
+    nexts: &[u8],
+    slots: &mut [u32],
+    out: &mut [u8],
+    step: u8,
+    t: u8,
+    n: u32,
+) -> u32
+    requires { ⌜ (Limits layout points (now slots) n) × (n ≤ 1700000000) × (t < 4) × (Nexts (setBy (now set) layout) (now nexts)) ⌝ }
+    ensures { λ r. ⌜ (Writes (lineOf (setBy (now (set .entry)) layout) (listed points) step (kindAt 31) t)
+        (now (out .entry)) (now (slots .entry)) n (now (out .exit)) (now (slots .exit)) r)
+        × (r ≤ n + 1152) ⌝ }
+{
+    let count = links::count(layout, t);
+    let mut next = n;
+    let mut j: u16 = 0;
+    while j < count {
+        next = flag(
+            set,
+            layout,
+            points,
+            nexts,
+            slots,
+            out,
+            step,
+            t,
+            j,
+            count,
+            next,
+        );
+        j += 1;
+    }
+    next
+}
+
+// Writes the values of a kind for a.
+fn line(
+    set: &[u8],
+    layout: Layout,
+    points: Points,
+    nexts: &[u8],
+    slots: &mut [u32],
+    out: &mut [u8],
+    step: u8,
+    kind: u8,
     a: u8,
     n: u32,
 ) -> u32
-    requires { ⌜ (Limits layout points (now slots) n) × (n ≤ 1700000000) × (kind < 41) × (a < 4) ⌝ }
+    requires { ⌜ (Limits layout points (now slots) n) × (n ≤ 1700000000) × (kind < 41) × (a < 4) × (Nexts (setBy (now set) layout) (now nexts)) ⌝ }
     ensures { λ r. ⌜ (Writes (lineOf (setBy (now (set .entry)) layout) (listed points) step (kindAt kind) a)
         (now (out .entry)) (now (slots .entry)) n (now (out .exit)) (now (slots .exit)) r)
         × (r ≤ n + 1152) ⌝ }
 {
+    if kind == FLAG {
+        return flags(set, layout, points, nexts, slots, out, step, a, n);
+    }
+    if bases::of_statement(kind) {
+        return statement_values(set, layout, points, slots, out, step, kind, a, n);
+    }
     let count = links::columns(layout, points, kind, a);
     let mut next = n;
     let mut b: u16 = 0;
     while b < count {
-        next = entry(set, layout, points, slots, out, step, kind, a, b, next);
+        next = entry(
+            set,
+            layout,
+            points,
+            nexts,
+            slots,
+            out,
+            step,
+            kind,
+            a,
+            b,
+            next,
+        );
         b += 1;
     }
     next
@@ -208,22 +397,27 @@ fn block(
     set: &[u8],
     layout: Layout,
     points: Points,
+    nexts: &[u8],
     slots: &mut [u32],
     out: &mut [u8],
     step: u8,
     kind: u8,
     n: u32,
 ) -> u32
-    requires { ⌜ (Limits layout points (now slots) n) × (n ≤ 1600000000) × (kind < 41) ⌝ }
+    requires { ⌜ (Limits layout points (now slots) n) × (n ≤ 1600000000) × (kind < 41) × (Nexts (setBy (now set) layout) (now nexts)) ⌝ }
     ensures { λ r. ⌜ (Writes (blockOf (setBy (now (set .entry)) layout) (listed points) step (kindAt kind))
         (now (out .entry)) (now (slots .entry)) n (now (out .exit)) (now (slots .exit)) r)
         × (r ≤ n + 4608) ⌝ }
 {
+    // Known lengths make the places' tests of an index superfluous for the compiler.
+    if slots.len() != 5248 {
+        return n;
+    }
     let count = links::rows(layout, kind);
     let mut next = n;
     let mut a: u8 = 0;
     while a < count {
-        next = line(set, layout, points, slots, out, step, kind, a, next);
+        next = line(set, layout, points, nexts, slots, out, step, kind, a, next);
         a += 1;
     }
     next
@@ -234,6 +428,7 @@ fn blocks(
     set: &[u8],
     layout: Layout,
     points: Points,
+    nexts: &[u8],
     slots: &mut [u32],
     out: &mut [u8],
     step: u8,
@@ -241,7 +436,7 @@ fn blocks(
     count: u8,
     n: u32,
 ) -> u32
-    requires { ⌜ (Limits layout points (now slots) n) × (n ≤ 1500000000) × (from + count < 41) ⌝ }
+    requires { ⌜ (Limits layout points (now slots) n) × (n ≤ 1500000000) × (from + count < 41) × (Nexts (setBy (now set) layout) (now nexts)) ⌝ }
     ensures { λ r. ⌜ (Writes (blocksOf (setBy (now (set .entry)) layout) (listed points) step from count)
         (now (out .entry)) (now (slots .entry)) n (now (out .exit)) (now (slots .exit)) r)
         × (r ≤ n + 188928) ⌝ }
@@ -249,7 +444,7 @@ fn blocks(
     let mut next = n;
     let mut i: u8 = 0;
     while i < count {
-        next = block(set, layout, points, slots, out, step, from + i, next);
+        next = block(set, layout, points, nexts, slots, out, step, from + i, next);
         i += 1;
     }
     next
@@ -291,19 +486,20 @@ fn one_step(
     set: &[u8],
     layout: Layout,
     points: Points,
+    nexts: &[u8],
     slots: &mut [u32],
     out: &mut [u8],
     step: u8,
     n: u32,
 ) -> u32
-    requires { ⌜ (Limits layout points (now slots) n) × (n ≤ 1400000000) ⌝ }
+    requires { ⌜ (Limits layout points (now slots) n) × (n ≤ 1400000000) × (Nexts (setBy (now set) layout) (now nexts)) ⌝ }
     ensures { λ r. ⌜ (Writes (stepOf (setBy (now (set .entry)) layout) (listed points) step)
         (now (out .entry)) (now (slots .entry)) n (now (out .exit)) (now (slots .exit)) r)
         × (r ≤ n + 377858) ⌝ }
 {
-    let chosen = blocks(set, layout, points, slots, out, step, 0, 11, n);
+    let chosen = blocks(set, layout, points, nexts, slots, out, step, 0, 11, n);
     let next = rule(layout, slots, out, chosen);
-    blocks(set, layout, points, slots, out, step, 11, 25, next)
+    blocks(set, layout, points, nexts, slots, out, step, 11, 25, next)
 }
 
 // Writes the steps.
@@ -311,12 +507,13 @@ fn steps(
     set: &[u8],
     layout: Layout,
     points: Points,
+    nexts: &[u8],
     slots: &mut [u32],
     out: &mut [u8],
     bound: u8,
     n: u32,
 ) -> u32
-    requires { ⌜ (Limits layout points (now slots) n) × (n ≤ 1000000) × (bound ≤ 64) ⌝ }
+    requires { ⌜ (Limits layout points (now slots) n) × (n ≤ 1000000) × (bound ≤ 64) × (Nexts (setBy (now set) layout) (now nexts)) ⌝ }
     ensures { λ r. ⌜ (Writes (upto (stepOf (setBy (now (set .entry)) layout) (listed points)) bound)
         (now (out .entry)) (now (slots .entry)) n (now (out .exit)) (now (slots .exit)) r)
         × (r ≤ n + 24182912) ⌝ }
@@ -324,7 +521,7 @@ fn steps(
     let mut next = n;
     let mut k: u8 = 0;
     while k < bound {
-        next = one_step(set, layout, points, slots, out, k, next);
+        next = one_step(set, layout, points, nexts, slots, out, k, next);
         k += 1;
     }
     next
@@ -436,32 +633,34 @@ fn before_steps(
     set: &[u8],
     layout: Layout,
     points: Points,
+    nexts: &[u8],
     map: &[u8],
     slots: &mut [u32],
     out: &mut [u8],
 ) -> u32
-    requires { ⌜ (Limits layout points (now slots) 4) × (cells (now map) ≤ 128) ⌝ }
+    requires { ⌜ (Limits layout points (now slots) 4) × (cells (now map) ≤ 128) × (Nexts (setBy (now set) layout) (now nexts)) ⌝ }
     ensures { λ r. ⌜ (Writes (starting (setBy (now (set .entry)) layout) (listed points) ++ upto (mapDemand (now (map .entry))) (cells (now (map .entry))))
         (now (out .entry)) (now (slots .entry)) 4 (now (out .exit)) (now (slots .exit)) r)
         × (r ≤ 9860) ⌝ }
 {
-    let one = block(set, layout, points, slots, out, 0, UNIT, 4);
-    let all = block(set, layout, points, slots, out, 0, ARGUMENT, one);
+    let one = block(set, layout, points, nexts, slots, out, 0, UNIT, 4);
+    let all = block(set, layout, points, nexts, slots, out, 0, ARGUMENT, one);
     demands(map, slots, out, all)
 }
 
 // Writes the goal: the code is not 0.
-fn goal(slots: &[u32], out: &mut [u8], n: u32)
+fn goal(out: &mut [u8], n: u32, code: u64, nought: u64)
     requires { ⌜ n ≤ 2000000000 ⌝ }
-    ensures { λ _. ⌜ Writes (aims goalTree ∷ []) (now (out .entry)) (now (slots .entry)) n (now (out .exit)) (now (slots .entry)) (n + 3) ⌝ }
+    ensures { λ _. ⌜ ((places : Slot → ℕ) → code ≡ places (only codeKind) → nought ≡ places word0
+        → now (out .exit) ≡ writtenAt (now (out .entry)) n (compiled same places n (aims goalTree ∷ []))) ⌝ }
 {
     let at = n as u64;
     let equal = Formula {
         operation: 7,
         sort: 1,
         constant: 0,
-        a: places::place(slots, CODE, 0, 0, 2),
-        b: places::place(slots, NOUGHT, 0, 0, 2),
+        a: code,
+        b: nought,
         c: 0,
     };
     let not = Formula {
@@ -485,30 +684,431 @@ fn goal(slots: &[u32], out: &mut [u8], n: u32)
     table::put(out, n + 2, aim);
 }
 
+// ---- steps as copies of one step, the template
+
+// Choice bit j of a step: executes by thread, then flushes by thread.
+fn choice_bit(threads: u8, step: u8, j: u8) -> Formula
+    ensures { λ r. ⌜ r ≡ leafFormula (cond (ltb j threads) (choiceBit step 0 j) (choiceBit step 1 (j - threads))) ⌝ }
+{
+    if j < threads {
+        return Formula {
+            operation: 1,
+            sort: 1,
+            constant: 0,
+            a: step as u64,
+            b: 0,
+            c: j as u64,
+        };
+    }
+    Formula {
+        operation: 1,
+        sort: 1,
+        constant: 0,
+        a: step as u64,
+        b: 1,
+        c: (j - threads) as u64,
+    }
+}
+
+// Writes the choice bits of a step.
+fn choice_bits(threads: u8, out: &mut [u8], step: u8, n: u32)
+    requires { ⌜ (n ≤ 1900000000) × (threads ≤ 4) ⌝ }
+    ensures { λ _. ⌜ now (out .exit) ≡ writtenAt (now (out .entry)) n
+        (upto (λ j. leafFormula (cond (ltb j threads) (choiceBit step 0 j) (choiceBit step 1 (j - threads))) ∷ []) (threads + threads)) ⌝ }
+{
+    let count = threads + threads;
+    let mut j: u8 = 0;
+    while j < count {
+        let bit = choice_bit(threads, step, j);
+        table::put(out, n + (j as u32), bit);
+        j += 1;
+    }
+}
+
+// Writes a step: its choice bits, and the copies of the template's records.
+fn copied_step(
+    threads: u8,
+    template: &[u32],
+    marks: &[u32],
+    out: &mut [u8],
+    step: u8,
+    records: u32,
+    n: u32,
+)
+    requires { ⌜ (n ≤ 1000000000) × (threads ≤ 4) × (records ≤ 400000) ⌝ }
+    ensures { λ _. ⌜ (getD (now (marks .entry)) 0 0 ≡ 0 → now (out .exit) ≡ writtenAt (now (out .entry)) n
+        (upto (λ j. leafFormula (cond (ltb j threads) (choiceBit step 0 j) (choiceBit step 1 (j - threads))) ∷ []) (threads + threads)
+        ++ upto (λ j. copyOf (now (template .entry)) (now (marks .entry)) n j ∷ []) records)) ⌝ }
+{
+    choice_bits(threads, out, step, n);
+    table::copies::copy(template, marks, out, n, n + 2 * (threads as u32), records);
+}
+
+// Writes the steps, and moves the marks to the places after them.
+fn copied_steps(
+    threads: u8,
+    owners: &[u32],
+    places: &[u32],
+    template: &[u32],
+    marks: &mut [u32],
+    out: &mut [u8],
+    from: u32,
+    count: u32,
+    records: u32,
+    bound: u8,
+    n: u32,
+) -> u32
+    requires { ⌜ (n ≤ 1000000) × (threads ≤ 4) × (records ≤ 400000) × (bound ≤ 64) × (count ≤ length (now marks)) ⌝ }
+    ensures { λ r. ⌜ ((S : Set) (cs : List ℕ) (p q : Slot → ℕ) → S .threads ≡ threads
+        → Ready S cs p (now (owners .entry)) (now (places .entry)) (now (template .entry)) from count records
+        → Marked p (now (marks .entry)) q
+        → Copied S cs p q bound (now (out .entry)) n (now (out .exit)) (now (marks .exit)) r)
+        × (r ≤ n + 400008 * bound) ⌝ }
+{
+    let stride = 2 * (threads as u32) + records;
+    let mut next = n;
+    let mut k: u8 = 0;
+    while k < bound {
+        copied_step(threads, template, marks, out, k, records, next);
+        marks::move_marks(owners, places, marks, from, count, next);
+        next += stride;
+        k += 1;
+    }
+    next
+}
+
+// The marks given out: those below `from` never move; `code` and `nought` are the marks of the code and of the word 0.
+struct Marks {
+    from: u32,
+    count: u32,
+    code: u32,
+    nought: u32,
+}
+
+// Gives a mark to each value that a step starts from: first the constants, then the state.
+fn mark_all(
+    layout: Layout,
+    points: Points,
+    slots: &[u32],
+    owners: &mut [u32],
+    marks: &mut [u32],
+    places: &mut [u32],
+) -> Marks
+    requires { ⌜ Marking (now owners) (now marks) (now places) (now slots) 4 ⌝ }
+    ensures { λ r. ⌜ (Marking (now (owners .exit)) (now (marks .exit)) (now (places .exit)) (now (slots .entry)) (r .count))
+        × (4 ≤ r .from) × (r .code ≡ placeOf (now (places .exit)) (only codeKind)) × (r .nought ≡ placeOf (now (places .exit)) word0) ⌝ }
+{
+    let from = marks::mark_kinds(layout, points, slots, owners, marks, places, 36, 5, 4);
+    let count = marks::mark_kinds(layout, points, slots, owners, marks, places, 24, 12, from);
+    Marks {
+        from,
+        count,
+        code: places::place(places, CODE, 0, 0, 2) as u32,
+        nought: places::place(places, NOUGHT, 0, 0, 2) as u32,
+    }
+}
+
+// Whether copies can be made of the step whose bytes are written: it is there as a whole, each record after the choice bits has operands,
+// none of which is the mark 511, and the marks are settled. Then the template is made.
+fn usable(
+    owners: &[u32],
+    places: &[u32],
+    bytes: &[u8],
+    template: &mut [u32],
+    marked: Marks,
+    last: u32,
+    bits: u32,
+    records: u32,
+) -> bool
+    requires { ⌜ (last ≤ 1000000) × (bits ≤ 8) ⌝ }
+    ensures { λ r. ⌜ (r ≡ true → (16 * last ≤ length (now (bytes .entry)))
+        × (Settled (now (owners .entry)) (now (places .entry)) (marked .from) (marked .count))
+        × (marked .code ≡ 511 → ⊥) × (marked .nought ≡ 511 → ⊥)
+        × ((j : ℕ) → j < records → Loaded (now (bytes .entry)) (16 * (512 + bits + j)) (now (template .exit)) (4 * j))) ⌝ }
+{
+    if marked.code == 511 {
+        return false;
+    }
+    if marked.nought == 511 {
+        return false;
+    }
+    if bytes.len() < 16 * (last as usize) {
+        return false;
+    }
+    if marks::settled(owners, places, marked.from, marked.count) {
+        return table::copies::load(bytes, 512 + bits, records, template);
+    }
+    false
+}
+
+// A template: the marks given out, how many records follow the choice bits, the index after the last, and whether copies can be made.
+struct Template {
+    from: u32,
+    count: u32,
+    code: u32,
+    nought: u32,
+    records: u32,
+    last: u32,
+    usable: bool,
+}
+
+// Makes the template of a step, from record 512 on; `slots` are the places before the first step.
+fn prepare(
+    set: &[u8],
+    layout: Layout,
+    points: Points,
+    nexts: &[u8],
+    slots: &[u32],
+    owners: &mut [u32],
+    marks: &mut [u32],
+    places: &mut [u32],
+    bytes: &mut [u8],
+    template: &mut [u32],
+) -> Template
+    requires { ⌜ (Marking (now owners) (now marks) (now places) (now slots) 4) × (Limits layout points (replicate placesCount 0) 4) × (Nexts (setBy (now set) layout) (now nexts)) ⌝ }
+    ensures { λ r. ⌜ (r .last ≡ nextAfter same 512 (stepOf (setBy (now (set .entry)) layout) (listed points) 0))
+        × (r .last ≤ 378370) × (r .last ≡ 512 + (layout .threads + layout .threads) + r .records) × (r .count ≤ length (now (marks .exit)))
+        × (r .usable ≡ true → Prepared (setBy (now (set .entry)) layout) (listed points) (placeOf (now (slots .entry)))
+        (now (owners .exit)) (now (marks .exit)) (now (places .exit)) (now (template .exit)) (r .from) (r .count) (r .records) (r .code) (r .nought)) ⌝ }
+{
+    let marked = mark_all(layout, points, slots, owners, marks, places);
+    let last = one_step(set, layout, points, nexts, places, bytes, 0, 512);
+    let bits = 2 * (layout.threads as u32);
+    let records = last - 512 - bits;
+    Template {
+        from: marked.from,
+        count: marked.count,
+        code: marked.code,
+        nought: marked.nought,
+        records,
+        last,
+        usable: usable(owners, places, bytes, template, marked, last, bits, records),
+    }
+}
+
 // ---- whole tables
 
 // How many records a table has. A step's size does not depend on where it starts, so that the first step, written nowhere, counts for all.
-fn size(set: &[u8], layout: Layout, points: Points, map: &[u8], bound: u8) -> u32
-    requires { ⌜ (Limits layout points (replicate places 0) 4) × (cells (now map) ≤ 128) × (bound ≤ 64) ⌝ }
+fn size(set: &[u8], layout: Layout, points: Points, nexts: &[u8], map: &[u8], bound: u8) -> u32
+    requires { ⌜ (Limits layout points (replicate placesCount 0) 4) × (cells (now map) ≤ 128) × (bound ≤ 64) × (Nexts (setBy (now set) layout) (now nexts)) ⌝ }
     ensures { λ r. ⌜ (r ≡ length (encodedOf (setBy (now (set .entry)) layout) (listed points) (now (map .entry)) bound)) × (r ≤ 24192775) ⌝ }
 {
     let mut slots = [0u32; 5248];
     let mut none = [0u8; 1];
-    let first = before_steps(set, layout, points, map, &mut slots, &mut none);
-    let second = one_step(set, layout, points, &mut slots, &mut none, 0, first);
+    let first = before_steps(set, layout, points, nexts, map, &mut slots, &mut none);
+    let second = one_step(set, layout, points, nexts, &mut slots, &mut none, 0, first);
     first + (bound as u32) * (second - first) + 3
 }
 
 // Writes a table.
-fn write(set: &[u8], layout: Layout, points: Points, map: &[u8], bound: u8, table: &mut [u8])
-    requires { ⌜ (Limits layout points (replicate places 0) 4) × (cells (now map) ≤ 128) × (bound ≤ 64) ⌝ }
+fn write(
+    set: &[u8],
+    layout: Layout,
+    points: Points,
+    nexts: &[u8],
+    map: &[u8],
+    bound: u8,
+    table: &mut [u8],
+)
+    requires { ⌜ (Limits layout points (replicate placesCount 0) 4) × (cells (now map) ≤ 128) × (bound ≤ 64) × (Nexts (setBy (now set) layout) (now nexts)) ⌝ }
     ensures { λ _. ⌜ now (table .exit) ≡ writtenAt (now (table .entry)) 0 (encodedOf (setBy (now (set .entry)) layout) (listed points) (now (map .entry)) bound) ⌝ }
 {
     let mut slots = [0u32; 5248];
     firsts(table);
-    let first = before_steps(set, layout, points, map, &mut slots, table);
-    let last = steps(set, layout, points, &mut slots, table, bound, first);
-    goal(&slots, table, last);
+    let first = before_steps(set, layout, points, nexts, map, &mut slots, table);
+    let last = steps(set, layout, points, nexts, &mut slots, table, bound, first);
+    let code = places::place(&slots, CODE, 0, 0, 2);
+    let nought = places::place(&slots, NOUGHT, 0, 0, 2);
+    goal(table, last, code, nought);
+}
+
+// Writes a table whose steps are copies of a template.
+fn write_copies(
+    set: &[u8],
+    layout: Layout,
+    points: Points,
+    nexts: &[u8],
+    map: &[u8],
+    bound: u8,
+    table: &mut [u8],
+    owners: &[u32],
+    marks: &mut [u32],
+    places: &[u32],
+    template: &[u32],
+    made: Template,
+)
+    requires { ⌜ (Limits layout points (replicate placesCount 0) 4) × (cells (now map) ≤ 128) × (bound ≤ 64) × (Nexts (setBy (now set) layout) (now nexts))
+        × (made .records ≤ 400000) × (made .count ≤ length (now marks))
+        × (Prepared (setBy (now set) layout) (listed points)
+        (placesAfter same (placeOf (replicate placesCount 0)) 4 (starting (setBy (now set) layout) (listed points) ++ upto (mapDemand (now map)) (cells (now map))))
+        (now owners) (now marks) (now places) (now template) (made .from) (made .count) (made .records) (made .code) (made .nought)) ⌝ }
+    ensures { λ _. ⌜ now (table .exit) ≡ writtenAt (now (table .entry)) 0 (encodedOf (setBy (now (set .entry)) layout) (listed points) (now (map .entry)) bound) ⌝ }
+{
+    let mut slots = [0u32; 5248];
+    firsts(table);
+    let first = before_steps(set, layout, points, nexts, map, &mut slots, table);
+    let last = copied_steps(
+        layout.threads,
+        owners,
+        places,
+        template,
+        marks,
+        table,
+        made.from,
+        made.count,
+        made.records,
+        bound,
+        first,
+    );
+    let code = marks::number_at(marks, made.code) as u64;
+    let nought = marks::number_at(marks, made.nought) as u64;
+    goal(table, last, code, nought);
+}
+
+// How many records a table has whose first step starts at `first`, from the index after a step that starts at 512.
+fn total(first: u32, bound: u8, last: u32) -> u32
+    requires { ⌜ (first ≤ 9860) × (bound ≤ 64) × (512 ≤ last) × (last ≤ 378370) ⌝ }
+    ensures { λ r. ⌜ (r ≡ first + bound * (last - 512) + 3) × (r ≤ 24192775) ⌝ }
+{
+    first + (bound as u32) * (last - 512) + 3
+}
+
+// Writes a table, if it fits, and gives its size. One step, made in `bytes` and `template`, serves for all, unless it has more records than
+// they have room for: then each step is written for itself.
+fn fill(
+    set: &[u8],
+    layout: Layout,
+    points: Points,
+    nexts: &[u8],
+    map: &[u8],
+    bound: u8,
+    table: &mut [u8],
+    bytes: &mut [u8],
+    template: &mut [u32],
+) -> u32
+    requires { ⌜ (Limits layout points (replicate placesCount 0) 4) × (cells (now map) ≤ 128) × (bound ≤ 64) × (Nexts (setBy (now set) layout) (now nexts)) ⌝ }
+    ensures { λ r. ⌜ Filled (encodedOf (setBy (now (set .entry)) layout) (listed points) (now (map .entry)) bound) (now (table .entry)) (now (table .exit)) r ⌝ }
+{
+    let mut slots = [0u32; 5248];
+    let mut none = [0u8; 1];
+    let mut owners = [0u32; 512];
+    let mut marks = [0u32; 512];
+    let mut places = [512u32; 5248];
+    marks[1] = 1;
+    marks[2] = 2;
+    marks[3] = 3;
+    let first = before_steps(set, layout, points, nexts, map, &mut slots, &mut none);
+    let made = prepare(
+        set,
+        layout,
+        points,
+        nexts,
+        &slots,
+        &mut owners,
+        &mut marks,
+        &mut places,
+        bytes,
+        template,
+    );
+    let records = total(first, bound, made.last);
+    if table.len() < 16 * (records as usize) {
+        return records;
+    }
+    if made.usable {
+        write_copies(
+            set,
+            layout,
+            points,
+            nexts,
+            map,
+            bound,
+            table,
+            &owners,
+            &mut marks,
+            &places,
+            template,
+            made,
+        );
+        return records;
+    }
+    write(set, layout, points, nexts, map, bound, table);
+    records
+}
+
+// The same with room for a step of up to 512 records.
+fn fill_small(
+    set: &[u8],
+    layout: Layout,
+    points: Points,
+    nexts: &[u8],
+    map: &[u8],
+    bound: u8,
+    table: &mut [u8],
+) -> u32
+    requires { ⌜ (Limits layout points (replicate placesCount 0) 4) × (cells (now map) ≤ 128) × (bound ≤ 64) × (Nexts (setBy (now set) layout) (now nexts)) ⌝ }
+    ensures { λ r. ⌜ Filled (encodedOf (setBy (now (set .entry)) layout) (listed points) (now (map .entry)) bound) (now (table .entry)) (now (table .exit)) r ⌝ }
+{
+    let mut bytes = [0u8; 16384];
+    let mut template = [0u32; 2048];
+    fill(
+        set,
+        layout,
+        points,
+        nexts,
+        map,
+        bound,
+        table,
+        &mut bytes,
+        &mut template,
+    )
+}
+
+// The same with room for a step of up to 2,048 records.
+fn fill_large(
+    set: &[u8],
+    layout: Layout,
+    points: Points,
+    nexts: &[u8],
+    map: &[u8],
+    bound: u8,
+    table: &mut [u8],
+) -> u32
+    requires { ⌜ (Limits layout points (replicate placesCount 0) 4) × (cells (now map) ≤ 128) × (bound ≤ 64) × (Nexts (setBy (now set) layout) (now nexts)) ⌝ }
+    ensures { λ r. ⌜ Filled (encodedOf (setBy (now (set .entry)) layout) (listed points) (now (map .entry)) bound) (now (table .entry)) (now (table .exit)) r ⌝ }
+{
+    let mut bytes = [0u8; 40960];
+    let mut template = [0u32; 8192];
+    fill(
+        set,
+        layout,
+        points,
+        nexts,
+        map,
+        bound,
+        table,
+        &mut bytes,
+        &mut template,
+    )
+}
+
+// The same with room according to the number of statements: the less room is cleared, the sooner a small set is written.
+fn fill_by_length(
+    set: &[u8],
+    layout: Layout,
+    points: Points,
+    map: &[u8],
+    bound: u8,
+    table: &mut [u8],
+) -> u32
+    requires { ⌜ (Limits layout points (replicate placesCount 0) 4) × (cells (now map) ≤ 128) × (bound ≤ 64) ⌝ }
+    ensures { λ r. ⌜ Filled (encodedOf (setBy (now (set .entry)) layout) (listed points) (now (map .entry)) bound) (now (table .entry)) (now (table .exit)) r ⌝ }
+{
+    let mut nexts = [0u8; 1188];
+    links::nexts::make(set, layout, &mut nexts);
+    if set.len() < 128 {
+        return fill_small(set, layout, points, &nexts, map, bound, table);
+    }
+    fill_large(set, layout, points, &nexts, map, bound, table)
 }
 
 // ---- the calls
@@ -530,8 +1130,10 @@ fn accepted_size(set: &[u8], layout: Layout, map: &[u8], bound: u64) -> Answer
             place: 0,
         };
     }
-    let points = points::points(set, layout);
-    let records = size(set, layout, points, map, bound as u8);
+    let points = checkpoints::points(set, layout);
+    let mut nexts = [0u8; 1188];
+    links::nexts::make(set, layout, &mut nexts);
+    let records = size(set, layout, points, &nexts, map, bound as u8);
     Answer::Encoded { records }
 }
 
@@ -553,16 +1155,16 @@ fn accepted_encode(set: &[u8], layout: Layout, map: &[u8], bound: u64, table: &m
             place: 0,
         };
     }
-    let points = points::points(set, layout);
+    let points = checkpoints::points(set, layout);
     let steps = bound as u8;
-    let records = size(set, layout, points, map, steps);
-    if table.len() < 16 * (records as usize) {
+    let room = table.len();
+    let records = fill_by_length(set, layout, points, map, steps, table);
+    if room < 16 * (records as usize) {
         return Answer::Refused {
             number: 11,
             place: 0,
         };
     }
-    write(set, layout, points, map, steps, table);
     Answer::Encoded { records }
 }
 

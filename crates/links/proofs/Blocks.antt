@@ -1,13 +1,20 @@
 -- What there is of a kind, by the number of its shape. Assumes nothing.
-use Prim.Native.Nat.{ℕ, suc, _+_}
-use mathlib.Core.Path.{_≡_, refl}
+use Prim.Native.Nat.{ℕ, suc, _+_, _≤_}
+use mathlib.Core.Path.{_≡_, refl, sym, ap, _∙_}
 use mathlib.Core.Bool.{Bool, true, cond, _||_}
-use mathlib.Core.List.{List}
+use mathlib.Core.List.{List, [], _∷_}
+use native.Mathlib.Omega.{arith}
+use native.Mathlib.Decide.{decLt}
 use lib.Dec.{eqb}
-use lib.ListN.{length}
+use lib.ListN.{length, List·getD-eq-default}
+use borrow.Author.Tests.{eqb-true}
+use Rattle.base.specs.Below.{every}
+use Rattle.base.proofs.Below.{every-at}
+use Rattle.encoding.specs.Slots.{Kind, choice, kinds, kindAt}
 use Rattle.records.specs.Sets.{Set}
-use Rattle.encoding.specs.Steps.{Shape, perChoice, perThread, perStatement, perCheckpoint, perMark, beforeThread, beforeChoice, single, has, rows, columns, kept}
+use Rattle.encoding.specs.Steps.{Shape, perChoice, perThread, perStatement, perCheckpoint, perMark, beforeThread, beforeChoice, single, shape, has, rows, columns, kept}
 use Rattle.links.specs.Shapes.{shapeNumber}
+use Rattle.links.proofs.Skips.{Apart, among, apart-among}
 
 module _ (S : Set) (cs : List ℕ) where
   abbrev pub rowsBy : ℕ → ℕ
@@ -54,3 +61,31 @@ module _ (S : Set) (cs : List ℕ) where
   kept-by beforeThread a b = refl
   kept-by beforeChoice a b = refl
   kept-by single a b = refl
+
+-- ---- the shape of a kind by number
+
+abbrev shapeAt : ℕ → ℕ
+shapeAt n = shapeNumber (shape (kindAt n))
+
+pub shape-at : (k : ℕ) {n : ℕ} → n ≡ k → shapeAt k ≡ shapeAt n
+shape-at k e = ap shapeAt (sym e)
+
+-- the kinds by number that a `match` names: all whose shape is not that of the choices
+abbrev pub shaped : List ℕ
+shaped = 40 ∷ 39 ∷ 38 ∷ 37 ∷ 36 ∷ 35 ∷ 34 ∷ 33 ∷ 32 ∷ 31 ∷ 30 ∷ 29 ∷ 28 ∷ 27 ∷ 26 ∷ 25 ∷ 24 ∷ 23 ∷ 22 ∷ 21 ∷ 20 ∷ 19 ∷ 18 ∷ 17 ∷ 16 ∷ 15 ∷ 14 ∷ 13 ∷ 12 ∷ 11 ∷ 10 ∷ 8 ∷ 7 ∷ 6 ∷ 5 ∷ 4 ∷ 3 ∷ 2 ∷ 1 ∷ []
+
+tabled : every 41 (λ n. among n shaped || eqb (shapeAt n) 0) ≡ true
+unfolding every among kinds
+tabled = refl
+
+pub shape-else : (n : ℕ) → Apart n shaped → 0 ≡ shapeAt n
+unfolding kinds
+shape-else n r =
+    elim (decLt n 41) [
+      | yes h ↦
+          sym (eqb-true (shapeAt n) 0
+          (sym (ap (λ (c : Bool). c || eqb (shapeAt n) 0) (apart-among n shaped r)) ∙ every-at (λ k. among k shaped || eqb (shapeAt k) 0) 41 n tabled h))
+      | no h ↦
+          let l : length kinds ≤ n = omega arith in
+          ap (λ (k : Kind). shapeNumber (shape k)) (sym (List·getD-eq-default kinds choice l))
+    ]

@@ -3,12 +3,14 @@ use Prim.Native.Nat.{ℕ}
 use mathlib.Core.Path.{_≡_, refl, sym, ap, _∙_}
 use mathlib.Core.Bool.{Bool, true, false, cond, not, _&&_, _||_}
 use lib.Dec.{eqb}
-use Rattle.base.proofs.Choice.{cond-ap, chosen, passed}
-use Rattle.records.specs.Instructions.{JMP}
+use borrow.Author.Tests.{eqb-true}
+use Rattle.base.proofs.Choice.{cond-ap, chosen, passed, or-false, and-false, and-yes, clash}
+use Rattle.records.specs.Instructions.{JMP, isJump}
 use Rattle.records.specs.declared.Statement.{Statement}
 use Rattle.table.specs.Formulas.{bitSort, AND, OR}
 use Rattle.encoding.specs.Slots.{active, test, untest, yes, Slot, slot}
 use Rattle.encoding.specs.Steps.{Link as ChainLink, skip, ifThen, andWith, orWith, only, isConditional, isPlain, rests}
+use Rattle.links.specs.Nexts.{namesTarget}
 use Rattle.links.specs.Placed.{placedLink, noLink, ifLink, bitLink}
 
 -- a link that is there where a test holds
@@ -46,6 +48,22 @@ module _ (s : Statement) (t j i after : ℕ) where
       cond-same (rests (s .number)) refl
       (cond-same (eqb (s .number) JMP || isConditional (s .number) && eqb (s .argument) after) (passed _ _ hit)
       (cond-same (isConditional (s .number)) (passed _ _ hit ∙ passed _ _ next) (passed _ _ next)))
+
+  -- it is no jump to j and does not stand before it
+  pub leads-elsewhere : namesTarget s j ≡ false → eqb after j ≡ false → leadsBy s t j i after ≡ skip
+  leads-elsewhere names next = go (eqb (s .argument) j) refl
+    where
+      jumps : (b : Bool) → eqb (s .number) JMP ≡ b → isJump (s .number) ≡ false → eqb (s .number) JMP ≡ false
+      jumps true e none = clash (ap (λ (n : ℕ). isJump n) (eqb-true (s .number) JMP e)) none
+      jumps false e none = e
+
+      go : (b : Bool) → eqb (s .argument) j ≡ b → leadsBy s t j i after ≡ skip
+      go false hit = leads-none hit next
+      go true hit =
+          let none : isJump (s .number) ≡ false = sym (and-yes (isJump (s .number))) ∙ (ap (λ (b : Bool). isJump (s .number) && b) (sym hit) ∙ names) in
+          let straight : isConditional (s .number) ≡ false = and-false (not (eqb (s .number) JMP)) none in
+          cond-same (rests (s .number)) refl
+          (passed _ _ (or-false (jumps (eqb (s .number) JMP) refl none) (and-false (eqb (s .argument) after) straight)) ∙ (passed _ _ straight ∙ passed _ _ next))
 
   pub leads-rests : rests (s .number) ≡ true → leadsBy s t j i after ≡ skip
   leads-rests rest = chosen _ _ rest

@@ -20,11 +20,11 @@ abbrev pub Apart : ℕ → List ℕ → Type 0
 Apart n [] = Unit
 Apart n (k ∷ ks) = Apart n ks × (n ≡ k → ⊥)
 
-among : ℕ → List ℕ → Bool
+unfoldable pub among : ℕ → List ℕ → Bool
 among n [] = false
 among n (k ∷ ks) = among n ks || eqb n k
 
-apart-among : (n : ℕ) (ks : List ℕ) → Apart n ks → among n ks ≡ false
+pub apart-among : (n : ℕ) (ks : List ℕ) → Apart n ks → among n ks ≡ false
 unfolding among
 apart-among n [] r = refl
 apart-among n (k ∷ ks) r = or-false (apart-among n ks (r .0)) (ne-eqb n k (r .1))

@@ -1,3 +1,4 @@
--- A link of a chain as the code gives it, and the shapes by number.
+-- A link of a chain as the code gives it, the shapes by number, and the table of next statements.
+pub mod Nexts
 pub mod Placed
 pub mod Shapes

@@ -1,15 +1,16 @@
 // The chains of a table: how many links each has, and each link.
 ghost use mathlib.Core.Path.{_≡_};
+ghost use mathlib.Core.Bool.{false};
 ghost use mathlib.Core.List.{List};
-ghost use Prim.Native.Nat.{ℕ, _≤_, _<_};
+ghost use Prim.Native.Nat.{ℕ};
 ghost use Rattle.records.specs.Sets.{setBy};
 ghost use Rattle.encoding.specs.Slots.{kindAt};
 ghost use Rattle.encoding.specs.Steps.{skip, link as linkOf, links as linksOf};
 ghost use Rattle.places.specs.Places.{placeOf, listed};
+ghost use Rattle.links.specs.Nexts.{inClass};
 ghost use Rattle.links.specs.Placed.{placedLink};
 use crate::Link;
-use crate::edges::leading;
-use crate::edges::leads;
+use crate::nexts;
 use crate::parts::AND;
 use crate::parts::OR;
 use crate::parts::bit_by;
@@ -66,7 +67,7 @@ pub fn links(layout: Layout, points: Points, kind: u8, a: u8, b: u16) -> u16
     }
 }
 
-// Link i of the chain of a kind's value for a and b.
+// Link i of the chain of a kind's value for a and b; those of flags are `edges::leads`.
 pub fn link(
     set: &[u8],
     layout: Layout,
@@ -77,7 +78,7 @@ pub fn link(
     b: u16,
     i: u16,
 ) -> Link
-    ensures { λ r. ⌜ r ≡ placedLink (placeOf (now (slots .entry))) (linkOf (setBy (now (set .entry)) layout) (listed points) 0 (kindAt kind) a b i) ⌝ }
+    ensures { λ r. ⌜ ((kind ≡ 31 → ⊥) → r ≡ placedLink (placeOf (now (slots .entry))) (linkOf (setBy (now (set .entry)) layout) (listed points) 0 (kindAt kind) a b i)) ⌝ }
 {
     match kind {
         kinds::OPENING => contained(set, layout, points, slots, AND, kinds::MARK, i, b),
@@ -113,19 +114,75 @@ pub fn link(
         ),
         kinds::FULL => bit_by(set, layout, slots, STORE, a, i),
         kinds::HALTED => bit_by(set, layout, slots, HALT, a, i),
-        kinds::FLAG => leads(set, layout, slots, a, b, i),
         kinds::HALTS => halts(slots, i),
         _ => none(),
     }
 }
 
-// The first link from i on that may add something; at most `count`. Those passed over add nothing.
-pub fn next_link(set: &[u8], layout: Layout, kind: u8, a: u8, b: u16, i: u16, count: u16) -> u16
-    ensures { λ r. ⌜ ((cs : List ℕ) (x : ℕ) → i ≤ x → x < r → linkOf (setBy (now (set .entry)) layout) cs 0 (kindAt kind) a b x ≡ skip)
-        × (i ≤ r) × (i ≤ count → r ≤ count) ⌝ }
+// Which statements may give the chain of a kind's value for a and b a link: those of a class, of a thread.
+pub struct Source {
+    pub class: u8,
+    pub thread: u8,
+}
+
+// Which statements may give a link. The others give none.
+pub fn givers(layout: Layout, kind: u8, a: u8, b: u16) -> Source
+    ensures { λ r. ⌜ ((bytes cs : List ℕ) (x : ℕ) → inClass (r .class) (setBy bytes layout .statement (r .thread) x .number) ≡ false
+        → linkOf (setBy bytes layout) cs 0 (kindAt kind) a b x ≡ skip) ⌝ }
 {
-    if kind == kinds::FLAG {
-        return leading(set, layout, a, b, i, count);
+    let before = thread_before(b);
+    match kind {
+        kinds::BARRED => Source {
+            class: nexts::NEEDS_EMPTY,
+            thread: a,
+        },
+        kinds::WRITE_TO => Source {
+            class: nexts::IS_CAS,
+            thread: before,
+        },
+        kinds::WRITE_VALUE => Source {
+            class: nexts::IS_CAS,
+            thread: before,
+        },
+        kinds::RAISED => Source {
+            class: nexts::IS_CHECK,
+            thread: a,
+        },
+        kinds::EXITS => Source {
+            class: nexts::IS_EXIT,
+            thread: before,
+        },
+        kinds::CODES => Source {
+            class: nexts::IS_EXIT,
+            thread: before,
+        },
+        kinds::VAL => Source {
+            class: nexts::IS_STORE,
+            thread: a,
+        },
+        kinds::ADR => Source {
+            class: nexts::IS_STORE,
+            thread: a,
+        },
+        kinds::MEM => Source {
+            class: nexts::IS_MEM,
+            thread: a,
+        },
+        kinds::ACCU => Source {
+            class: nexts::SETS_ACCU,
+            thread: a,
+        },
+        kinds::FULL => Source {
+            class: nexts::IS_STORE,
+            thread: a,
+        },
+        kinds::HALTED => Source {
+            class: nexts::IS_HALT,
+            thread: a,
+        },
+        _ => Source {
+            class: nexts::ANY,
+            thread: 0,
+        },
     }
-    i
 }

@@ -1,6 +1,6 @@
 // The links of flags: from which statements control reaches a statement.
 ghost use mathlib.Core.Path.{_≡_};
-ghost use mathlib.Core.Bool.{cond};
+ghost use mathlib.Core.Bool.{cond, false};
 ghost use mathlib.Core.List.{[]};
 ghost use Prim.Native.Nat.{ℕ, _≤_, _<_};
 ghost use Rattle.table.specs.Formulas.{bitSort};
@@ -8,8 +8,11 @@ ghost use Rattle.records.specs.Sets.{setBy};
 ghost use Rattle.encoding.specs.Slots.{slot, active, test, untest};
 ghost use Rattle.encoding.specs.Steps.{skip, ifThen, leads as leadsOf};
 ghost use Rattle.places.specs.Places.{placeOf};
+ghost use Rattle.links.specs.Nexts.{Nexts, namesTarget};
 ghost use Rattle.links.specs.Placed.{placedLink};
 use crate::Link;
+use crate::nexts::IS_JUMP;
+use crate::nexts::next_of;
 use crate::parts::BIT;
 use crate::parts::BIT0;
 use crate::parts::IF;
@@ -73,19 +76,35 @@ pub fn leads(set: &[u8], layout: Layout, slots: &[u32], t: u8, j: u16, i: u16) -
     bit_if(slots, next, t, i)
 }
 
-// The first statement of thread t, from statement i on, that names j or stands before it; at most `count`. Those passed over do not lead to j.
-pub fn leading(set: &[u8], layout: Layout, t: u8, j: u16, i: u16, count: u16) -> u16
-    ensures { λ r. ⌜ ((x : ℕ) → i ≤ x → x < r → leadsOf (setBy (now (set .entry)) layout) [] 0 t j x ≡ skip)
+// The first jump of thread t, from statement i on, that names j; at most `count`.
+fn jump_to(set: &[u8], layout: Layout, nexts: &[u8], t: u8, j: u16, i: u16, count: u16) -> u16
+    ensures { λ r. ⌜ (Nexts (setBy (now (set .entry)) layout) (now (nexts .entry)) → (x : ℕ) → i ≤ x → x < r
+        → namesTarget (setBy (now (set .entry)) layout .statement t x) j ≡ false)
         × (i ≤ r) × (i ≤ count → r ≤ count) ⌝ }
 {
-    let mut at = i;
+    let mut at = next_of(nexts, IS_JUMP, t, i, count);
     while at < count {
         let s = records::fetch(set, layout, t, at);
-        let after = (at as u32) + 1;
-        if (s.argument == j) | (after == (j as u32)) {
+        if s.argument == j {
             return at;
         }
-        at += 1;
+        at = next_of(nexts, IS_JUMP, t, at + 1, count);
     }
     at
+}
+
+// The first statement of thread t, from statement i on, that is a jump to j or stands before it; at most `count`. Those passed over do not
+// lead to j.
+pub fn leading(set: &[u8], layout: Layout, nexts: &[u8], t: u8, j: u16, i: u16, count: u16) -> u16
+    ensures { λ r. ⌜ (Nexts (setBy (now (set .entry)) layout) (now (nexts .entry)) → (x : ℕ) → i ≤ x → x < r
+        → leadsOf (setBy (now (set .entry)) layout) [] 0 t j x ≡ skip)
+        × (i ≤ r) × (i ≤ count → r ≤ count) ⌝ }
+{
+    let hit = jump_to(set, layout, nexts, t, j, i, count);
+    if i < j {
+        if j <= hit {
+            return j - 1;
+        }
+    }
+    hit
 }

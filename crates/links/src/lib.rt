@@ -1,6 +1,7 @@
 // The links of a table's chains, and what there is of each kind (crate encoding: `link`, `links`, `rows`, `columns`, `kept`).
 pub mod chains;
-mod edges;
+pub mod edges;
+pub mod nexts;
 mod parts;
 mod shapes;
 mod statements;
@@ -8,6 +9,7 @@ mod statements;
 pub use shapes::columns;
 pub use shapes::kept;
 pub use shapes::rows;
+pub use statements::count;
 
 // A link over what stands so far; operation 0 is none.
 pub struct Link {

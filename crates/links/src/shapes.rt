@@ -9,6 +9,7 @@ ghost use Rattle.places.specs.Places.{listed};
 ghost use Rattle.links.specs.Shapes.{shapeNumber};
 use crate::statements::count;
 use places::Points;
+use places::kinds;
 use records::Layout;
 
 const PER_CHOICE: u8 = 0;
@@ -27,60 +28,52 @@ const BEFORE_CHOICE: u8 = 6;
 
 const SINGLE: u8 = 7;
 
-// The shape of each kind.
-const SHAPES: [u8; 41] = [
-    PER_CHOICE,
-    PER_STATEMENT,
-    PER_CHECKPOINT,
-    PER_CHECKPOINT,
-    PER_THREAD,
-    PER_MARK,
-    PER_THREAD,
-    PER_THREAD,
-    BEFORE_CHOICE,
-    PER_CHOICE,
-    SINGLE,
-    PER_STATEMENT,
-    PER_STATEMENT,
-    PER_STATEMENT,
-    PER_STATEMENT,
-    PER_STATEMENT,
-    PER_STATEMENT,
-    SINGLE,
-    BEFORE_THREAD,
-    SINGLE,
-    BEFORE_THREAD,
-    PER_MARK,
-    BEFORE_THREAD,
-    BEFORE_THREAD,
-    SINGLE,
-    PER_THREAD,
-    PER_THREAD,
-    PER_THREAD,
-    PER_THREAD,
-    PER_THREAD,
-    PER_THREAD,
-    PER_STATEMENT,
-    PER_MARK,
-    SINGLE,
-    SINGLE,
-    SINGLE,
-    SINGLE,
-    SINGLE,
-    SINGLE,
-    SINGLE,
-    PER_STATEMENT,
-];
-
 // The shape of a kind by number.
 fn shape_of(kind: u8) -> u8
     ensures { λ r. ⌜ r ≡ shapeNumber (shape (kindAt kind)) ⌝ }
 {
-    let i = kind as usize;
-    if i < 41 {
-        return SHAPES[i];
+    match kind {
+        kinds::ACTIVE => PER_STATEMENT,
+        kinds::OPENING => PER_CHECKPOINT,
+        kinds::SHUT => PER_CHECKPOINT,
+        kinds::BARRED => PER_THREAD,
+        kinds::HELD => PER_MARK,
+        kinds::WAITS => PER_THREAD,
+        kinds::MAY => PER_THREAD,
+        kinds::NONE => BEFORE_CHOICE,
+        kinds::ONE => SINGLE,
+        kinds::ADDRESS => PER_STATEMENT,
+        kinds::LOADED => PER_STATEMENT,
+        kinds::SWAPS => PER_STATEMENT,
+        kinds::RESULT => PER_STATEMENT,
+        kinds::TEST => PER_STATEMENT,
+        kinds::UNTEST => PER_STATEMENT,
+        kinds::FLUSH_TO => SINGLE,
+        kinds::WRITE_TO => BEFORE_THREAD,
+        kinds::FLUSH_VALUE => SINGLE,
+        kinds::WRITE_VALUE => BEFORE_THREAD,
+        kinds::RAISED => PER_MARK,
+        kinds::EXITS => BEFORE_THREAD,
+        kinds::CODES => BEFORE_THREAD,
+        kinds::HEAP => SINGLE,
+        kinds::VAL => PER_THREAD,
+        kinds::ADR => PER_THREAD,
+        kinds::MEM => PER_THREAD,
+        kinds::ACCU => PER_THREAD,
+        kinds::FULL => PER_THREAD,
+        kinds::HALTED => PER_THREAD,
+        kinds::FLAG => PER_STATEMENT,
+        kinds::MARK => PER_MARK,
+        kinds::HALTS => SINGLE,
+        kinds::ENDED => SINGLE,
+        kinds::CODE => SINGLE,
+        kinds::NO => SINGLE,
+        kinds::YES => SINGLE,
+        kinds::NOUGHT => SINGLE,
+        kinds::UNIT => SINGLE,
+        kinds::ARGUMENT => PER_STATEMENT,
+        _ => PER_CHOICE,
     }
-    PER_CHOICE
 }
 
 // How many rows there are of a kind.

@@ -73,7 +73,9 @@ pub fn set_place(slots: &mut [u32], kind: u8, a: u8, b: u16, index: u64)
         if b < 32 {
             let i = 128 * (kind as usize) + (32 * (a as usize) + (b as usize));
             if i < slots.len() {
-                slots[i] = (index % 4294967295) as u32 + 1;
+                if index < 4294967295 {
+                    slots[i] = (index as u32) + 1;
+                }
             }
         }
     }

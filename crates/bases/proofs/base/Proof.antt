@@ -1,22 +1,17 @@
 -- `bases::base` meets its contract. Assumes nothing.
 use mathlib.Core.Path.{refl, ap}
-use native.Mathlib.Omega.{arith}
 use borrow.Author.Needs.{needs}
 use Rattle.places.specs.Places.{placeOf}
 use Rattle.encoding.specs.Steps.{base as baseOf}
 use Rattle.encoding.specs.Slots.{Kind, kinds, shut, flushTo, writeTo, flushValue, writeValue, raised, exits, codes, val, adr, mem, accu, halted, mark, halts, ended, code, no, yes, nought}
 use Rattle.table.specs.Programs.{and2, or2}
 use Rattle.records.specs.Sets.{setBy}
-use Rattle.base.proofs.Below.{none-from}
-use Rattle.bases.proofs.Given.{gives-as, gives-kind, kind-past}
+use Rattle.bases.proofs.Given.{gives-as, gives-kind, kind-past, kind-other}
 use Rattle.bases.proofs.base.Statement.{statement}
 use Rattle.bases.proofs.base.Tie as tie
 
 choice-base-requires : tie.Need-choice-base-requires
 choice-base-requires c κs = search needs
-
-active-base-requires : tie.Need-active-base-requires
-active-base-requires c κs = search needs
 
 same-requires : tie.Need-same-requires
 same-requires c κs = search needs
@@ -44,24 +39,6 @@ fit-base-requires c κs = search needs
 
 same-requires-4 : tie.Need-same-requires-4
 same-requires-4 c κs = search needs
-
-address-base-requires : tie.Need-address-base-requires
-address-base-requires c κs = search needs
-
-loaded-base-requires : tie.Need-loaded-base-requires
-loaded-base-requires c κs = search needs
-
-swaps-base-requires : tie.Need-swaps-base-requires
-swaps-base-requires c κs = search needs
-
-result-base-requires : tie.Need-result-base-requires
-result-base-requires c κs = search needs
-
-test-base-requires : tie.Need-test-base-requires
-test-base-requires c κs = search needs
-
-untest-base-requires : tie.Need-untest-base-requires
-untest-base-requires c κs = search needs
 
 same-requires-5 : tie.Need-same-requires-5
 same-requires-5 c κs = search needs
@@ -105,9 +82,6 @@ full-base-requires c κs = search needs
 same-requires-11 : tie.Need-same-requires-11
 same-requires-11 c κs = search needs
 
-flag-base-requires : tie.Need-flag-base-requires
-flag-base-requires c κs = search needs
-
 joined-requires-2 : tie.Need-joined-requires-2
 joined-requires-2 c κs = search needs
 
@@ -147,211 +121,171 @@ choice-base-requires-2 c κs = search needs
 returns : tie.Need-returns
 unfolding kinds
 returns c = let a = c .before .before .before .before .args in
-    λ cs. gives-kind (setBy (a .set .now) (a .layout)) cs (a .step) (a .a) (a .b) (a .kind) 0 (c .before .match .keys1) (c .choice-base .ensures (placeOf (a .slots .now)))
+    λ cs other flagless. gives-kind (setBy (a .set .now) (a .layout)) cs (a .step) (a .a) (a .b) (a .kind) 0 (c .before .match .keys1) (c .choice-base .ensures (placeOf (a .slots .now)))
 
 returns-2 : tie.Need-returns-2
 unfolding kinds
 returns-2 c = let a = c .before .before .before .before .args in
-    λ cs. gives-kind (setBy (a .set .now) (a .layout)) cs (a .step) (a .a) (a .b) (a .kind) 1 (c .before .match .keys2) (c .active-base .ensures)
+    λ cs other flagless. gives-kind (setBy (a .set .now) (a .layout)) cs (a .step) (a .a) (a .b) (a .kind) 2 (c .before .match .keys2) (c .same .ensures (a .n) yes refl refl)
 
 returns-3 : tie.Need-returns-3
 unfolding kinds
 returns-3 c = let a = c .before .before .before .before .args in
-    λ cs. gives-kind (setBy (a .set .now) (a .layout)) cs (a .step) (a .a) (a .b) (a .kind) 2 (c .before .match .keys3) (c .same .ensures (a .n) yes refl refl)
+    λ cs other flagless. gives-kind (setBy (a .set .now) (a .layout)) cs (a .step) (a .a) (a .b) (a .kind) 3 (c .before .match .keys3) (c .shut-base .ensures)
 
 returns-4 : tie.Need-returns-4
 unfolding kinds
 returns-4 c = let a = c .before .before .before .before .args in
-    λ cs. gives-kind (setBy (a .set .now) (a .layout)) cs (a .step) (a .a) (a .b) (a .kind) 3 (c .before .match .keys4) (c .shut-base .ensures)
+    λ cs other flagless. gives-kind (setBy (a .set .now) (a .layout)) cs (a .step) (a .a) (a .b) (a .kind) 4 (c .before .match .keys4) (c .same2 .ensures (a .n) no refl refl)
 
 returns-5 : tie.Need-returns-5
 unfolding kinds
 returns-5 c = let a = c .before .before .before .before .args in
-    λ cs. gives-kind (setBy (a .set .now) (a .layout)) cs (a .step) (a .a) (a .b) (a .kind) 4 (c .before .match .keys5) (c .same2 .ensures (a .n) no refl refl)
+    λ cs other flagless. gives-kind (setBy (a .set .now) (a .layout)) cs (a .step) (a .a) (a .b) (a .kind) 5 (c .before .match .keys5) (c .joined .ensures and2 mark shut refl refl refl refl refl refl)
 
 returns-6 : tie.Need-returns-6
 unfolding kinds
 returns-6 c = let a = c .before .before .before .before .args in
-    λ cs. gives-kind (setBy (a .set .now) (a .layout)) cs (a .step) (a .a) (a .b) (a .kind) 5 (c .before .match .keys6) (c .joined .ensures and2 mark shut refl refl refl refl refl refl)
+    λ cs other flagless. gives-kind (setBy (a .set .now) (a .layout)) cs (a .step) (a .a) (a .b) (a .kind) 6 (c .before .match .keys6) (c .same3 .ensures (a .n) halted refl refl)
 
 returns-7 : tie.Need-returns-7
 unfolding kinds
 returns-7 c = let a = c .before .before .before .before .args in
-    λ cs. gives-kind (setBy (a .set .now) (a .layout)) cs (a .step) (a .a) (a .b) (a .kind) 6 (c .before .match .keys7) (c .same3 .ensures (a .n) halted refl refl)
+    λ cs other flagless. gives-kind (setBy (a .set .now) (a .layout)) cs (a .step) (a .a) (a .b) (a .kind) 7 (c .before .match .keys7) (c .may-base .ensures)
 
 returns-8 : tie.Need-returns-8
 unfolding kinds
 returns-8 c = let a = c .before .before .before .before .args in
-    λ cs. gives-kind (setBy (a .set .now) (a .layout)) cs (a .step) (a .a) (a .b) (a .kind) 7 (c .before .match .keys8) (c .may-base .ensures)
+    λ cs other flagless. gives-kind (setBy (a .set .now) (a .layout)) cs (a .step) (a .a) (a .b) (a .kind) 8 (c .before .match .keys8) (c .none-base .ensures)
 
 returns-9 : tie.Need-returns-9
 unfolding kinds
 returns-9 c = let a = c .before .before .before .before .args in
-    λ cs. gives-kind (setBy (a .set .now) (a .layout)) cs (a .step) (a .a) (a .b) (a .kind) 8 (c .before .match .keys9) (c .none-base .ensures)
+    λ cs other flagless. gives-kind (setBy (a .set .now) (a .layout)) cs (a .step) (a .a) (a .b) (a .kind) 9 (c .before .match .keys9) (c .fit-base .ensures)
 
 returns-10 : tie.Need-returns-10
 unfolding kinds
 returns-10 c = let a = c .before .before .before .before .args in
-    λ cs. gives-kind (setBy (a .set .now) (a .layout)) cs (a .step) (a .a) (a .b) (a .kind) 9 (c .before .match .keys10) (c .fit-base .ensures)
+    λ cs other flagless. gives-kind (setBy (a .set .now) (a .layout)) cs (a .step) (a .a) (a .b) (a .kind) 10 (c .before .match .keys10) (c .same4 .ensures (a .n) no refl refl)
 
 returns-11 : tie.Need-returns-11
 unfolding kinds
 returns-11 c = let a = c .before .before .before .before .args in
-    λ cs. gives-kind (setBy (a .set .now) (a .layout)) cs (a .step) (a .a) (a .b) (a .kind) 10 (c .before .match .keys11) (c .same4 .ensures (a .n) no refl refl)
+    λ cs other flagless. gives-kind (setBy (a .set .now) (a .layout)) cs (a .step) (a .a) (a .b) (a .kind) 17 (c .before .match .keys11) (c .same5 .ensures (a .n) nought refl refl)
 
 returns-12 : tie.Need-returns-12
 unfolding kinds
 returns-12 c = let a = c .before .before .before .before .args in
-    λ cs. gives-kind (setBy (a .set .now) (a .layout)) cs (a .step) (a .a) (a .b) (a .kind) 11 (c .before .match .keys12) (c .address-base .ensures cs (a .step))
+    λ cs other flagless. gives-kind (setBy (a .set .now) (a .layout)) cs (a .step) (a .a) (a .b) (a .kind) 18 (c .before .match .keys12) (c .previous .ensures (a .n) writeTo flushTo refl refl refl refl)
 
 returns-13 : tie.Need-returns-13
 unfolding kinds
 returns-13 c = let a = c .before .before .before .before .args in
-    λ cs. gives-kind (setBy (a .set .now) (a .layout)) cs (a .step) (a .a) (a .b) (a .kind) 12 (c .before .match .keys13) (c .loaded-base .ensures cs (a .step))
+    λ cs other flagless. gives-kind (setBy (a .set .now) (a .layout)) cs (a .step) (a .a) (a .b) (a .kind) 19 (c .before .match .keys13) (c .flush-value-base .ensures)
 
 returns-14 : tie.Need-returns-14
 unfolding kinds
 returns-14 c = let a = c .before .before .before .before .args in
-    λ cs. gives-kind (setBy (a .set .now) (a .layout)) cs (a .step) (a .a) (a .b) (a .kind) 13 (c .before .match .keys14) (c .swaps-base .ensures cs (a .step))
+    λ cs other flagless. gives-kind (setBy (a .set .now) (a .layout)) cs (a .step) (a .a) (a .b) (a .kind) 20 (c .before .match .keys14) (c .previous2 .ensures (a .n) writeValue flushValue refl refl refl refl)
 
 returns-15 : tie.Need-returns-15
 unfolding kinds
 returns-15 c = let a = c .before .before .before .before .args in
-    λ cs. gives-kind (setBy (a .set .now) (a .layout)) cs (a .step) (a .a) (a .b) (a .kind) 14 (c .before .match .keys15) (c .result-base .ensures cs (a .step))
+    λ cs other flagless. gives-kind (setBy (a .set .now) (a .layout)) cs (a .step) (a .a) (a .b) (a .kind) 21 (c .before .match .keys15) (c .same6 .ensures (a .n) mark refl refl)
 
 returns-16 : tie.Need-returns-16
 unfolding kinds
 returns-16 c = let a = c .before .before .before .before .args in
-    λ cs. gives-kind (setBy (a .set .now) (a .layout)) cs (a .step) (a .a) (a .b) (a .kind) 15 (c .before .match .keys16) (c .test-base .ensures cs (a .step))
+    λ cs other flagless. gives-kind (setBy (a .set .now) (a .layout)) cs (a .step) (a .a) (a .b) (a .kind) 22 (c .before .match .keys16) (c .previous3 .ensures (a .n) exits ended refl refl refl refl)
 
 returns-17 : tie.Need-returns-17
 unfolding kinds
 returns-17 c = let a = c .before .before .before .before .args in
-    λ cs. gives-kind (setBy (a .set .now) (a .layout)) cs (a .step) (a .a) (a .b) (a .kind) 16 (c .before .match .keys17) (c .untest-base .ensures cs (a .step))
+    λ cs other flagless. gives-kind (setBy (a .set .now) (a .layout)) cs (a .step) (a .a) (a .b) (a .kind) 23 (c .before .match .keys17) (c .previous4 .ensures (a .n) codes code refl refl refl refl)
 
 returns-18 : tie.Need-returns-18
 unfolding kinds
 returns-18 c = let a = c .before .before .before .before .args in
-    λ cs. gives-kind (setBy (a .set .now) (a .layout)) cs (a .step) (a .a) (a .b) (a .kind) 17 (c .before .match .keys18) (c .same5 .ensures (a .n) nought refl refl)
+    λ cs other flagless. gives-kind (setBy (a .set .now) (a .layout)) cs (a .step) (a .a) (a .b) (a .kind) 24 (c .before .match .keys18) (c .heap-base .ensures)
 
 returns-19 : tie.Need-returns-19
 unfolding kinds
 returns-19 c = let a = c .before .before .before .before .args in
-    λ cs. gives-kind (setBy (a .set .now) (a .layout)) cs (a .step) (a .a) (a .b) (a .kind) 18 (c .before .match .keys19) (c .previous .ensures (a .n) writeTo flushTo refl refl refl refl)
+    λ cs other flagless. gives-kind (setBy (a .set .now) (a .layout)) cs (a .step) (a .a) (a .b) (a .kind) 25 (c .before .match .keys19) (c .same7 .ensures (a .n) val refl refl)
 
 returns-20 : tie.Need-returns-20
 unfolding kinds
 returns-20 c = let a = c .before .before .before .before .args in
-    λ cs. gives-kind (setBy (a .set .now) (a .layout)) cs (a .step) (a .a) (a .b) (a .kind) 19 (c .before .match .keys20) (c .flush-value-base .ensures)
+    λ cs other flagless. gives-kind (setBy (a .set .now) (a .layout)) cs (a .step) (a .a) (a .b) (a .kind) 26 (c .before .match .keys20) (c .same8 .ensures (a .n) adr refl refl)
 
 returns-21 : tie.Need-returns-21
 unfolding kinds
 returns-21 c = let a = c .before .before .before .before .args in
-    λ cs. gives-kind (setBy (a .set .now) (a .layout)) cs (a .step) (a .a) (a .b) (a .kind) 20 (c .before .match .keys21) (c .previous2 .ensures (a .n) writeValue flushValue refl refl refl refl)
+    λ cs other flagless. gives-kind (setBy (a .set .now) (a .layout)) cs (a .step) (a .a) (a .b) (a .kind) 27 (c .before .match .keys21) (c .same9 .ensures (a .n) mem refl refl)
 
 returns-22 : tie.Need-returns-22
 unfolding kinds
 returns-22 c = let a = c .before .before .before .before .args in
-    λ cs. gives-kind (setBy (a .set .now) (a .layout)) cs (a .step) (a .a) (a .b) (a .kind) 21 (c .before .match .keys22) (c .same6 .ensures (a .n) mark refl refl)
+    λ cs other flagless. gives-kind (setBy (a .set .now) (a .layout)) cs (a .step) (a .a) (a .b) (a .kind) 28 (c .before .match .keys22) (c .same10 .ensures (a .n) accu refl refl)
 
 returns-23 : tie.Need-returns-23
 unfolding kinds
 returns-23 c = let a = c .before .before .before .before .args in
-    λ cs. gives-kind (setBy (a .set .now) (a .layout)) cs (a .step) (a .a) (a .b) (a .kind) 22 (c .before .match .keys23) (c .previous3 .ensures (a .n) exits ended refl refl refl refl)
+    λ cs other flagless. gives-kind (setBy (a .set .now) (a .layout)) cs (a .step) (a .a) (a .b) (a .kind) 29 (c .before .match .keys23) (c .full-base .ensures)
 
 returns-24 : tie.Need-returns-24
 unfolding kinds
 returns-24 c = let a = c .before .before .before .before .args in
-    λ cs. gives-kind (setBy (a .set .now) (a .layout)) cs (a .step) (a .a) (a .b) (a .kind) 23 (c .before .match .keys24) (c .previous4 .ensures (a .n) codes code refl refl refl refl)
+    λ cs other flagless. gives-kind (setBy (a .set .now) (a .layout)) cs (a .step) (a .a) (a .b) (a .kind) 30 (c .before .match .keys24) (c .same11 .ensures (a .n) halted refl refl)
 
 returns-25 : tie.Need-returns-25
 unfolding kinds
 returns-25 c = let a = c .before .before .before .before .args in
-    λ cs. gives-kind (setBy (a .set .now) (a .layout)) cs (a .step) (a .a) (a .b) (a .kind) 24 (c .before .match .keys25) (c .heap-base .ensures)
+    λ cs other flagless. gives-kind (setBy (a .set .now) (a .layout)) cs (a .step) (a .a) (a .b) (a .kind) 32 (c .before .match .keys25) (c .joined2 .ensures and2 shut raised refl refl refl refl refl refl)
 
 returns-26 : tie.Need-returns-26
 unfolding kinds
 returns-26 c = let a = c .before .before .before .before .args in
-    λ cs. gives-kind (setBy (a .set .now) (a .layout)) cs (a .step) (a .a) (a .b) (a .kind) 25 (c .before .match .keys26) (c .same7 .ensures (a .n) val refl refl)
+    λ cs other flagless. gives-kind (setBy (a .set .now) (a .layout)) cs (a .step) (a .a) (a .b) (a .kind) 33 (c .before .match .keys26) (c .same12 .ensures (a .n) yes refl refl)
 
 returns-27 : tie.Need-returns-27
 unfolding kinds
 returns-27 c = let a = c .before .before .before .before .args in
-    λ cs. gives-kind (setBy (a .set .now) (a .layout)) cs (a .step) (a .a) (a .b) (a .kind) 26 (c .before .match .keys27) (c .same8 .ensures (a .n) adr refl refl)
+    λ cs other flagless. gives-kind (setBy (a .set .now) (a .layout)) cs (a .step) (a .a) (a .b) (a .kind) 34 (c .before .match .keys27) (c .joined3 .ensures or2 halts exits refl refl refl refl refl refl)
 
 returns-28 : tie.Need-returns-28
 unfolding kinds
 returns-28 c = let a = c .before .before .before .before .args in
-    λ cs. gives-kind (setBy (a .set .now) (a .layout)) cs (a .step) (a .a) (a .b) (a .kind) 27 (c .before .match .keys28) (c .same9 .ensures (a .n) mem refl refl)
+    λ cs other flagless. gives-kind (setBy (a .set .now) (a .layout)) cs (a .step) (a .a) (a .b) (a .kind) 35 (c .before .match .keys28) (c .same13 .ensures (a .n) codes refl refl)
 
 returns-29 : tie.Need-returns-29
 unfolding kinds
 returns-29 c = let a = c .before .before .before .before .args in
-    λ cs. gives-kind (setBy (a .set .now) (a .layout)) cs (a .step) (a .a) (a .b) (a .kind) 28 (c .before .match .keys29) (c .same10 .ensures (a .n) accu refl refl)
+    λ cs other flagless. gives-kind (setBy (a .set .now) (a .layout)) cs (a .step) (a .a) (a .b) (a .kind) 36 (c .before .match .keys29) (c .same14 .ensures (a .n) no refl refl)
 
 returns-30 : tie.Need-returns-30
 unfolding kinds
 returns-30 c = let a = c .before .before .before .before .args in
-    λ cs. gives-kind (setBy (a .set .now) (a .layout)) cs (a .step) (a .a) (a .b) (a .kind) 29 (c .before .match .keys30) (c .full-base .ensures)
+    λ cs other flagless. gives-kind (setBy (a .set .now) (a .layout)) cs (a .step) (a .a) (a .b) (a .kind) 37 (c .before .match .keys30) (c .same15 .ensures (a .n) yes refl refl)
 
 returns-31 : tie.Need-returns-31
 unfolding kinds
 returns-31 c = let a = c .before .before .before .before .args in
-    λ cs. gives-kind (setBy (a .set .now) (a .layout)) cs (a .step) (a .a) (a .b) (a .kind) 30 (c .before .match .keys31) (c .same11 .ensures (a .n) halted refl refl)
+    λ cs other flagless. gives-kind (setBy (a .set .now) (a .layout)) cs (a .step) (a .a) (a .b) (a .kind) 38 (c .before .match .keys31) (c .same16 .ensures (a .n) nought refl refl)
 
 returns-32 : tie.Need-returns-32
 unfolding kinds
 returns-32 c = let a = c .before .before .before .before .args in
-    λ cs. gives-kind (setBy (a .set .now) (a .layout)) cs (a .step) (a .a) (a .b) (a .kind) 31 (c .before .match .keys32) (c .flag-base .ensures cs (a .step))
+    λ cs other flagless. gives-kind (setBy (a .set .now) (a .layout)) cs (a .step) (a .a) (a .b) (a .kind) 39 (c .before .match .keys32) (c .constant .ensures (placeOf (a .slots .now)))
 
 returns-33 : tie.Need-returns-33
 unfolding kinds
 returns-33 c = let a = c .before .before .before .before .args in
-    λ cs. gives-kind (setBy (a .set .now) (a .layout)) cs (a .step) (a .a) (a .b) (a .kind) 32 (c .before .match .keys33) (c .joined2 .ensures and2 shut raised refl refl refl refl refl refl)
+    λ cs other flagless. gives-kind (setBy (a .set .now) (a .layout)) cs (a .step) (a .a) (a .b) (a .kind) 40 (c .before .match .keys33) (c .argument-base .ensures cs (a .step))
 
 returns-34 : tie.Need-returns-34
-unfolding kinds
 returns-34 c = let a = c .before .before .before .before .args in
-    λ cs. gives-kind (setBy (a .set .now) (a .layout)) cs (a .step) (a .a) (a .b) (a .kind) 33 (c .before .match .keys34) (c .same12 .ensures (a .n) yes refl refl)
-
-returns-35 : tie.Need-returns-35
-unfolding kinds
-returns-35 c = let a = c .before .before .before .before .args in
-    λ cs. gives-kind (setBy (a .set .now) (a .layout)) cs (a .step) (a .a) (a .b) (a .kind) 34 (c .before .match .keys35) (c .joined3 .ensures or2 halts exits refl refl refl refl refl refl)
-
-returns-36 : tie.Need-returns-36
-unfolding kinds
-returns-36 c = let a = c .before .before .before .before .args in
-    λ cs. gives-kind (setBy (a .set .now) (a .layout)) cs (a .step) (a .a) (a .b) (a .kind) 35 (c .before .match .keys36) (c .same13 .ensures (a .n) codes refl refl)
-
-returns-37 : tie.Need-returns-37
-unfolding kinds
-returns-37 c = let a = c .before .before .before .before .args in
-    λ cs. gives-kind (setBy (a .set .now) (a .layout)) cs (a .step) (a .a) (a .b) (a .kind) 36 (c .before .match .keys37) (c .same14 .ensures (a .n) no refl refl)
-
-returns-38 : tie.Need-returns-38
-unfolding kinds
-returns-38 c = let a = c .before .before .before .before .args in
-    λ cs. gives-kind (setBy (a .set .now) (a .layout)) cs (a .step) (a .a) (a .b) (a .kind) 37 (c .before .match .keys38) (c .same15 .ensures (a .n) yes refl refl)
-
-returns-39 : tie.Need-returns-39
-unfolding kinds
-returns-39 c = let a = c .before .before .before .before .args in
-    λ cs. gives-kind (setBy (a .set .now) (a .layout)) cs (a .step) (a .a) (a .b) (a .kind) 38 (c .before .match .keys39) (c .same16 .ensures (a .n) nought refl refl)
-
-returns-40 : tie.Need-returns-40
-unfolding kinds
-returns-40 c = let a = c .before .before .before .before .args in
-    λ cs. gives-kind (setBy (a .set .now) (a .layout)) cs (a .step) (a .a) (a .b) (a .kind) 39 (c .before .match .keys40) (c .constant .ensures (placeOf (a .slots .now)))
-
-returns-41 : tie.Need-returns-41
-unfolding kinds
-returns-41 c = let a = c .before .before .before .before .args in
-    λ cs. gives-kind (setBy (a .set .now) (a .layout)) cs (a .step) (a .a) (a .b) (a .kind) 40 (c .before .match .keys41) (c .argument-base .ensures cs (a .step))
-
-returns-42 : tie.Need-returns-42
-returns-42 c = let a = c .before .before .before .before .args in
-    λ cs. gives-as (ap (λ (k : Kind). baseOf (setBy (a .set .now) (a .layout)) cs (a .step) k (a .a) (a .b)) (kind-past (a .kind) (none-from 0 41 (a .kind) (omega arith) (c .before .match .rest))))
+    λ cs other flagless. gives-as (ap (λ (k : Kind). baseOf (setBy (a .set .now) (a .layout)) cs (a .step) k (a .a) (a .b)) (kind-past (a .kind) (kind-other (a .kind) (c .before .match .rest) other flagless)))
     (c .choice-base2 .ensures (placeOf (a .slots .now)))
 
 pub base-spec : {M : Type 1} → statement M
@@ -359,7 +293,6 @@ base-spec =
     tie.close
     (tie.spec
     choice-base-requires
-    active-base-requires
     same-requires
     shut-base-requires
     same-requires-2
@@ -369,12 +302,6 @@ base-spec =
     none-base-requires
     fit-base-requires
     same-requires-4
-    address-base-requires
-    loaded-base-requires
-    swaps-base-requires
-    result-base-requires
-    test-base-requires
-    untest-base-requires
     same-requires-5
     previous-requires
     flush-value-base-requires
@@ -389,7 +316,6 @@ base-spec =
     same-requires-10
     full-base-requires
     same-requires-11
-    flag-base-requires
     joined-requires-2
     same-requires-12
     cast-joined
@@ -435,12 +361,4 @@ base-spec =
     returns-31
     returns-32
     returns-33
-    returns-34
-    returns-35
-    returns-36
-    returns-37
-    returns-38
-    returns-39
-    returns-40
-    returns-41
-    returns-42)
+    returns-34)

@@ -37,11 +37,11 @@ points-requires c κs = search needs
 cast-steps : tie.Need-cast-steps
 cast-steps c = search needs
 
-size-requires : tie.Need-size-requires
-size-requires c κs =
-    let a = c .before .before .before .before .before .before .args in
-    let p = c .before .before .before .before .before .before .pre in
-    (limits-start (now (a .set)) (a .layout) (c .points .result) (p .0) (p .2) (c .points .ensures), few-cells 128 (now (a .map)) (p .1), omega arith)
+fill-by-length-requires : tie.Need-fill-by-length-requires
+fill-by-length-requires c κs =
+    let a = c .before .before .before .before .before .before .before .args in
+    let p = c .before .before .before .before .before .before .before .pre in
+    (limits-start (now (a .set)) (a .layout) (c .before .points .result) (p .0) (p .2) (c .before .points .ensures), few-cells 128 (now (a .map)) (p .1), omega arith)
 
 cast-if3 : tie.Need-cast-if3
 cast-if3 c = search needs
@@ -49,39 +49,42 @@ cast-if3 c = search needs
 mul-if3 : tie.Need-mul-if3
 mul-if3 c = search needs
 
+same-length : tie.Need-same-length
+same-length c = search needs
+
 returns-3 : tie.Need-returns-3
 unfolding encodeAnswer
 returns-3 c =
-    let a = c .before .before .before .before .before .before .before .before .args in
-    let p = c .before .before .before .before .before .before .before .before .pre in
-    let t : c .before .size .result ≡ length (tableOf (now (a .set)) (now (a .map)) (a .bound)) =
-    c .before .size .ensures .0 ∙ ap length (table-is (now (a .set)) (a .layout) (c .before .before .points .result) (p .0) (p .2) (c .before .before .points .ensures) (now (a .map)) (a .bound)) in (
-      sym (bound-fits (now (a .set)) (now (a .map)) (a .bound) _ (p .0) (p .1) (c .before .before .before .before .if1 .left) (c .before .before .before .if2 .left)
+    let a = c .before .before .before .before .before .before .before .before .before .before .before .args in
+    let p = c .before .before .before .before .before .before .before .before .before .before .before .pre in
+    let points = c .before .before .before .before .before .points in
+    let f = c .before .before .before .fill-by-length in
+    let t : f .result ≡ length (tableOf (now (a .set)) (now (a .map)) (a .bound)) =
+    f .ensures .sized ∙ ap length (table-is (now (a .set)) (a .layout) (points .result) (p .0) (p .2) (points .ensures) (now (a .map)) (a .bound)) in (
+      sym (bound-fits (now (a .set)) (now (a .map)) (a .bound) _ (p .0) (p .1) (c .before .before .before .before .before .before .before .if1 .left) (c .before .before .before .before .before .before .if2 .left)
           ∙ chosen _ _ (lt-ltb (length (now (a .table))) (16 * length (tableOf (now (a .set)) (now (a .map)) (a .bound))) (omega arith))),
-      refl,
+      f .ensures .filled ∙ chosen _ _ (lt-ltb (length (now (a .table))) _ (c .if3 .taken)),
     )
 
-write-requires : tie.Need-write-requires
-write-requires c κs =
-    let a = c .before .before .before .before .before .before .before .before .before .args in
-    let p = c .before .before .before .before .before .before .before .before .before .pre in
-    (limits-start (now (a .set)) (a .layout) (c .before .before .before .points .result) (p .0) (p .2) (c .before .before .before .points .ensures), few-cells 128 (now (a .map)) (p .1), omega arith)
-
-same-length : tie.Need-same-length
-same-length c = search needs
+same-length-2 : tie.Need-same-length-2
+same-length-2 c = search needs
 
 returns-4 : tie.Need-returns-4
 unfolding encodeAnswer
 returns-4 c =
-    let a = c .before .before .before .before .before .before .before .before .before .before .before .before .args in
-    let p = c .before .before .before .before .before .before .before .before .before .before .before .before .pre in
-    let is = table-is (now (a .set)) (a .layout) (c .before .before .before .before .before .before .points .result) (p .0) (p .2) (c .before .before .before .before .before .before .points .ensures) (now (a .map)) (a .bound) in
-    let t : c .before .before .before .before .before .size .result ≡ length (tableOf (now (a .set)) (now (a .map)) (a .bound)) = c .before .before .before .before .before .size .ensures .0 ∙ ap length is in
+    let a = c .before .before .before .before .before .before .before .before .before .before .before .args in
+    let p = c .before .before .before .before .before .before .before .before .before .before .before .pre in
+    let points = c .before .before .before .before .before .points in
+    let f = c .before .before .before .fill-by-length in
+    let is = table-is (now (a .set)) (a .layout) (points .result) (p .0) (p .2) (points .ensures) (now (a .map)) (a .bound) in
+    let t : f .result ≡ length (tableOf (now (a .set)) (now (a .map)) (a .bound)) = f .ensures .sized ∙ ap length is in
     let room : 16 * length (tableOf (now (a .set)) (now (a .map)) (a .bound)) ≤ length (now (a .table)) = omega arith in (
       ap Encoded t
-          ∙ sym (bound-fits (now (a .set)) (now (a .map)) (a .bound) _ (p .0) (p .1) (c .before .before .before .before .before .before .before .before .if1 .left) (c .before .before .before .before .before .before .before .if2 .left)
+          ∙ sym (bound-fits (now (a .set)) (now (a .map)) (a .bound) _ (p .0) (p .1) (c .before .before .before .before .before .before .before .if1 .left) (c .before .before .before .before .before .before .if2 .left)
           ∙ passed _ _ (le-ltb (length (now (a .table))) (16 * length (tableOf (now (a .set)) (now (a .map)) (a .bound))) room)),
-      c .before .before .write .ensures ∙ (ap (writtenAt (now (a .table)) 0) is ∙ written-table (now (a .table)) (tableOf (now (a .set)) (now (a .map)) (a .bound)) room),
+      f .ensures .filled
+          ∙ (passed _ _ (le-ltb (length (now (a .table))) _ (c .if3 .left))
+          ∙ (ap (writtenAt (now (a .table)) 0) is ∙ written-table (now (a .table)) (tableOf (now (a .set)) (now (a .map)) (a .bound)) room)),
     )
 
 pub accepted-encode-spec : {M : Type 1} → statement M
@@ -92,10 +95,10 @@ accepted-encode-spec =
     returns-2
     points-requires
     cast-steps
-    size-requires
+    fill-by-length-requires
     cast-if3
     mul-if3
-    returns-3
-    write-requires
     same-length
+    returns-3
+    same-length-2
     returns-4)

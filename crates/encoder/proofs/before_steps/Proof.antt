@@ -20,10 +20,11 @@ block-requires c κs = search needs
 block-requires-2 : tie.Need-block-requires-2
 unfolding kinds
 block-requires-2 c κs =
-    let a = c .before .before .before .before .before .before .before .before .before .before .before .before .before .args in (
-      limits-after (a .layout) (a .points) (block (setBy (now (a .set)) (a .layout)) (listed (a .points)) 0 unit) _ _ _ _ _ _ (c .before .before .before .before .before .before .block .ensures .0) (c .before .before .before .before .before .before .before .before .before .before .before .before .before .pre .0),
+    let a = c .before .before .before .before .before .before .before .before .before .before .before .before .before .before .args in (
+      limits-after (a .layout) (a .points) (block (setBy (now (a .set)) (a .layout)) (listed (a .points)) 0 unit) _ _ _ _ _ _ (c .before .before .before .before .before .before .block .ensures .0) (c .before .before .before .before .before .before .before .before .before .before .before .before .before .before .pre .0),
       omega arith,
       omega arith,
+      c .before .before .before .before .before .before .before .before .before .before .before .before .before .before .pre .2,
     )
 
 demands-requires : tie.Need-demands-requires
@@ -38,7 +39,7 @@ same-length-2 c = search needs
 returns : tie.Need-returns
 unfolding kinds
 returns c =
-    let a = c .before .before .before .before .before .before .before .before .before .before .before .before .before .before .before .before .before .before .before .before .before .before .before .args in
+    let a = c .before .before .before .before .before .before .before .before .before .before .before .before .before .before .before .before .before .before .before .before .before .before .before .before .args in
     let S = setBy (now (a .set)) (a .layout) in
     let cs = listed (a .points) in (
       writes-++ (block S cs 0 unit ++ block S cs 0 argument) (upto (mapDemand (now (a .map))) (cells (now (a .map)))) (now (a .out)) (now (a .slots)) 4 _ _ _ _ _ _

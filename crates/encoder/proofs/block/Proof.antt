@@ -17,21 +17,24 @@ use Rattle.encoder.proofs.block.Statement.{statement}
 use Rattle.encoder.proofs.block.Tie as tie
 
 abbrev Inv-loop : tie.InvT-loop
-Inv-loop set layout points slots₀ out₀ step kind n count next₀ a₀ slots out next a =
+Inv-loop set layout points nexts slots₀ out₀ step kind n count next₀ a₀ slots out next a =
     (a ≤ count) × (count ≤ 4) × (next ≤ n + 1152 * a) × (length out ≡ length out₀) × (length slots ≡ length slots₀)
     × (Limits layout points slots next)
     × (Writes (upto (line (setBy set layout) (listed points) step (kindAt kind)) a) out₀ slots₀ n out slots next)
 
 abbrev μ-loop : tie.MeasureT-loop
-μ-loop set layout points slots₀ out₀ step kind n count next₀ a₀ slots out next a = count - a
+μ-loop set layout points nexts slots₀ out₀ step kind n count next₀ a₀ slots out next a = count - a
+
+returns : tie.Need-returns Inv-loop μ-loop
+returns c = absurd (c .if1 .taken (c .before .before .before .before .before .pre .0 .allPlaces))
 
 rows-requires : tie.Need-rows-requires Inv-loop μ-loop
 rows-requires c κs = search needs
 
 loop-holds : tie.Need-loop-holds Inv-loop μ-loop
 loop-holds c =
-    let a = c .before .before .before .before .args in
-    let l = c .before .before .before .before .pre .0 in
+    let a = c .before .before .before .before .before .before .args in
+    let l = c .before .before .before .before .before .before .pre .0 in
     let S = setBy (now (a .set)) (a .layout) in
     let cs = listed (a .points) in
     let e = c .rows .ensures (now (a .set)) cs in
@@ -41,7 +44,7 @@ loop-holds c =
 line-requires : tie.Need-line-requires Inv-loop μ-loop
 line-requires c κs =
     let l = c .before .before .before .loop in
-    (l .inv .5, omega arith, omega arith, omega arith)
+    (l .inv .5, omega arith, omega arith, omega arith, c .before .before .before .before .before .before .before .before .before .before .pre .3)
 
 add-a : tie.Need-add-a Inv-loop μ-loop
 add-a c = search needs
@@ -51,7 +54,7 @@ loop-less c = search needs
 
 loop-again : tie.Need-loop-again Inv-loop μ-loop
 loop-again c =
-    let a = c .before .before .before .before .before .before .before .before .before .before .before .before .before .args in
+    let a = c .before .before .before .before .before .before .before .before .before .before .before .before .before .before .before .args in
     let l = c .before .before .before .before .before .before .before .before .loop in
     let r = c .before .before .before .before .line in
     let f = line (setBy (now (a .set)) (a .layout)) (listed (a .points)) (a .step) (kindAt (a .kind)) in (
@@ -70,9 +73,9 @@ same-length c = search needs
 same-length-2 : tie.Need-same-length-2 Inv-loop μ-loop
 same-length-2 c = search needs
 
-returns : tie.Need-returns Inv-loop μ-loop
-returns c =
-    let a = c .before .before .before .before .before .before .args in
+returns-2 : tie.Need-returns-2 Inv-loop μ-loop
+returns-2 c =
+    let a = c .before .before .before .before .before .before .before .before .args in
     let l = c .before .loop in
     let S = setBy (now (a .set)) (a .layout) in
     let cs = listed (a .points) in
@@ -89,6 +92,7 @@ block-spec =
     (tie.spec
     Inv-loop
     μ-loop
+    returns
     rows-requires
     loop-holds
     line-requires
@@ -97,4 +101,4 @@ block-spec =
     loop-again
     same-length
     same-length-2
-    returns)
+    returns-2)

@@ -17,18 +17,18 @@ use Rattle.encoder.proofs.blocks.Statement.{statement}
 use Rattle.encoder.proofs.blocks.Tie as tie
 
 abbrev Inv-loop : tie.InvT-loop
-Inv-loop set layout points slots₀ out₀ step from count n next₀ i₀ slots out next i =
+Inv-loop set layout points nexts slots₀ out₀ step from count n next₀ i₀ slots out next i =
     (i ≤ count) × (from + count < 41) × (next ≤ n + 4608 * i) × (length out ≡ length out₀) × (length slots ≡ length slots₀)
     × (Limits layout points slots next)
     × (Writes (upto (λ (j : ℕ). block (setBy set layout) (listed points) step (kindAt (from + j))) i) out₀ slots₀ n out slots next)
 
 abbrev μ-loop : tie.MeasureT-loop
-μ-loop set layout points slots₀ out₀ step from count n next₀ i₀ slots out next i = count - i
+μ-loop set layout points nexts slots₀ out₀ step from count n next₀ i₀ slots out next i = count - i
 
 loop-holds : tie.Need-loop-holds Inv-loop μ-loop
 loop-holds c =
-    let a = c .before .before .before .args in
-    let l = c .before .before .before .pre .0 in
+    let a = c .before .before .before .before .args in
+    let l = c .before .before .before .before .pre .0 in
     let f : ℕ → List (Command Slot) = λ (j : ℕ). block (setBy (now (a .set)) (a .layout)) (listed (a .points)) (a .step) (kindAt (a .from + j)) in
     (omega arith, omega arith, omega arith, refl, refl, l, writes-row f (now (a .out)) (now (a .slots)) (a .n))
 
@@ -38,7 +38,7 @@ add-block c = search needs
 block-requires : tie.Need-block-requires Inv-loop μ-loop
 block-requires c κs =
     let l = c .before .before .before .loop in
-    (l .inv .5, omega arith, omega arith)
+    (l .inv .5, omega arith, omega arith, c .before .before .before .before .before .before .before .before .pre .3)
 
 add-i : tie.Need-add-i Inv-loop μ-loop
 add-i c = search needs
@@ -48,7 +48,7 @@ loop-less c = search needs
 
 loop-again : tie.Need-loop-again Inv-loop μ-loop
 loop-again c =
-    let a = c .before .before .before .before .before .before .before .before .before .before .before .before .args in
+    let a = c .before .before .before .before .before .before .before .before .before .before .before .before .before .args in
     let l = c .before .before .before .before .before .before .before .before .loop in
     let r = c .before .before .before .before .block in
     let f : ℕ → List (Command Slot) = λ (j : ℕ). block (setBy (now (a .set)) (a .layout)) (listed (a .points)) (a .step) (kindAt (a .from + j)) in (
@@ -69,7 +69,7 @@ same-length-2 c = search needs
 
 returns : tie.Need-returns Inv-loop μ-loop
 returns c =
-    let a = c .before .before .before .before .before .args in
+    let a = c .before .before .before .before .before .before .args in
     let l = c .before .loop in
     let f : ℕ → List (Command Slot) = λ (j : ℕ). block (setBy (now (a .set)) (a .layout)) (listed (a .points)) (a .step) (kindAt (a .from + j)) in
     let i-is : l .i ≡ a .count = omega arith in (

@@ -22,8 +22,8 @@ base-requires c κs = search needs
 
 put-few-requires : tie.Need-put-few-requires
 put-few-requires c κs =
-    let a = c .before .before .before .before .before .before .before .before .args in
-    let g = c .before .base .ensures (listed (a .points)) .few in
+    let a = c .before .before .before .before .before .before .before .before .before .args in
+    let g = c .before .base .ensures (listed (a .points)) (c .before .before .before .before .before .before .before .before .before .pre .6) (c .before .before .before .before .before .before .before .before .before .pre .7) .few in
     (omega arith, g)
 
 cast-next : tie.Need-cast-next
@@ -31,18 +31,18 @@ cast-next c = search needs
 
 add-next : tie.Need-add-next
 add-next c =
-    let a = c .before .before .before .before .before .before .before .before .before .before .before .before .args in
-    let g = c .before .before .before .before .before .base .ensures (listed (a .points)) .few in
-    let p = c .before .before .before .before .before .before .before .before .before .before .before .before .pre .1 in
+    let a = c .before .before .before .before .before .before .before .before .before .before .before .before .before .args in
+    let g = c .before .before .before .before .before .base .ensures (listed (a .points)) (c .before .before .before .before .before .before .before .before .before .before .before .before .before .pre .6) (c .before .before .before .before .before .before .before .before .before .before .before .before .before .pre .7) .few in
+    let p = c .before .before .before .before .before .before .before .before .before .before .before .before .before .pre .1 in
     omega arith
 
 chain-requires : tie.Need-chain-requires
 chain-requires c κs =
-    let a = c .before .before .before .before .before .before .before .before .before .before .before .before .before .before .args in
-    let l = c .before .before .before .before .before .before .before .before .before .before .before .before .before .before .pre .0 in
-    let p = c .before .before .before .before .before .before .before .before .before .before .before .before .before .before .pre .1 in
-    let g = c .before .before .before .before .before .before .before .base .ensures (listed (a .points)) .few in
-    (omega arith, links-most (setBy (now (a .set)) (a .layout)) (listed (a .points)) (l .fourThreads) (l .fewStatements) (l .fewPoints) (kindAt (a .kind)) (a .a) (a .b))
+    let a = c .before .before .before .before .before .before .before .before .before .before .before .before .before .before .before .args in
+    let l = c .before .before .before .before .before .before .before .before .before .before .before .before .before .before .before .pre .0 in
+    let p = c .before .before .before .before .before .before .before .before .before .before .before .before .before .before .before .pre .1 in
+    let g = c .before .before .before .before .before .before .before .base .ensures (listed (a .points)) (c .before .before .before .before .before .before .before .before .before .before .before .before .before .before .before .pre .6) (c .before .before .before .before .before .before .before .before .before .before .before .before .before .before .before .pre .7) .few in
+    (omega arith, links-most (setBy (now (a .set)) (a .layout)) (listed (a .points)) (l .fourThreads) (l .fewStatements) (l .fewPoints) (kindAt (a .kind)) (a .a) (a .b), c .before .before .before .before .before .before .before .before .before .before .before .before .before .before .before .pre .5, c .before .before .before .before .before .before .before .before .before .before .before .before .before .before .before .pre .7)
 
 set-place-requires : tie.Need-set-place-requires
 set-place-requires c κs = search needs
@@ -55,12 +55,12 @@ same-length-2 c = search needs
 
 returns : tie.Need-returns
 returns c =
-    let a = c .before .before .before .before .before .before .before .before .before .before .before .before .before .before .before .before .before .before .before .before .before .args in
-    let l = c .before .before .before .before .before .before .before .before .before .before .before .before .before .before .before .before .before .before .before .before .before .pre .0 in
+    let a = c .before .before .before .before .before .before .before .before .before .before .before .before .before .before .before .before .before .before .before .before .before .before .args in
+    let l = c .before .before .before .before .before .before .before .before .before .before .before .before .before .before .before .before .before .before .before .before .before .before .pre .0 in
     let S = setBy (now (a .set)) (a .layout) in
     let cs = listed (a .points) in
     let places = placeOf (now (a .slots)) in
-    let g = c .before .before .before .before .before .before .before .before .before .before .before .before .before .before .base .ensures cs in
+    let g = c .before .before .before .before .before .before .before .before .before .before .before .before .before .before .base .ensures cs (c .before .before .before .before .before .before .before .before .before .before .before .before .before .before .before .before .before .before .before .before .before .before .pre .6) (c .before .before .before .before .before .before .before .before .before .before .before .before .before .before .before .before .before .before .before .before .before .before .pre .7) in
     let most = g .few in
     let few = c .before .before .before .before .before .before .before .before .before .before .before .before .before .before .base .result in
     let r = c .before .before .before .before .before .before .chain in
@@ -75,13 +75,13 @@ returns c =
     let p = c .before .before .set-place .ensures in (
       entry-kept S cs (a .step) (kindAt (a .kind)) (a .a) (a .b) (now (a .out)) (now (a .slots)) (a .n) _ _ (r .result .next) (r .result .at)
           (sym (c .before .before .before .before .before .before .before .before .before .before .before .before .before .before .before .before .before .kept .ensures) ∙ c .before .before .before .before .before .before .before .before .before .before .before .before .before .before .before .before .if1 .taken) w
-          (p .1 (l .allPlaces) (c .before .before .before .before .before .before .before .before .before .before .before .before .before .before .before .before .before .before .before .before .before .pre .2) (c .before .before .before .before .before .before .before .before .before .before .before .before .before .before .before .before .before .before .before .before .before .pre .3) (c .before .before .before .before .before .before .before .before .before .before .before .before .before .before .before .before .before .before .before .before .before .pre .4) small) (p .0),
+          (p .1 (l .allPlaces) (c .before .before .before .before .before .before .before .before .before .before .before .before .before .before .before .before .before .before .before .before .before .before .pre .2) (c .before .before .before .before .before .before .before .before .before .before .before .before .before .before .before .before .before .before .before .before .before .before .pre .3) (c .before .before .before .before .before .before .before .before .before .before .before .before .before .before .before .before .before .before .before .before .before .before .pre .4) small) (p .0),
       omega arith,
     )
 
 returns-2 : tie.Need-returns-2
 returns-2 c =
-    let a = c .before .before .before .before .before .args in (
+    let a = c .before .before .before .before .before .before .args in (
       entry-none (setBy (now (a .set)) (a .layout)) (listed (a .points)) (a .step) (kindAt (a .kind)) (a .a) (a .b) (now (a .out)) (now (a .slots)) (a .n)
           (sym (c .before .kept .ensures) ∙ c .if1 .left),
       omega arith,

@@ -12,20 +12,21 @@ use Rattle.encoder.proofs.one_step.Statement.{statement}
 use Rattle.encoder.proofs.one_step.Tie as tie
 
 blocks-requires : tie.Need-blocks-requires
-blocks-requires c κs = (c .before .before .before .before .before .pre .0, omega arith, omega arith)
+blocks-requires c κs = (c .before .before .before .before .before .before .pre .0, omega arith, omega arith, c .before .before .before .before .before .before .pre .2)
 
 rule-requires : tie.Need-rule-requires
-rule-requires c κs = (omega arith, c .before .before .before .before .before .before .before .before .before .before .before .before .pre .0 .fourThreads)
+rule-requires c κs = (omega arith, c .before .before .before .before .before .before .before .before .before .before .before .before .before .pre .0 .fourThreads)
 
 blocks-requires-2 : tie.Need-blocks-requires-2
 blocks-requires-2 c κs =
-    let a = c .before .before .before .before .before .before .before .before .before .before .before .before .before .before .before .before .before .args in
+    let a = c .before .before .before .before .before .before .before .before .before .before .before .before .before .before .before .before .before .before .args in
     let S = setBy (now (a .set)) (a .layout) in
     let cs = listed (a .points) in (
       limits-after (a .layout) (a .points) (demanded (ruled S cs (a .step)) ∷ []) _ _ _ _ _ _ (c .before .before .before .before .rule .ensures .0 (now (a .set)) cs (a .step))
-          (limits-after (a .layout) (a .points) (blocks S cs (a .step) 0 11) _ _ _ _ _ _ (c .before .before .before .before .before .before .before .before .before .before .before .blocks2 .ensures .0) (c .before .before .before .before .before .before .before .before .before .before .before .before .before .before .before .before .before .pre .0)),
+          (limits-after (a .layout) (a .points) (blocks S cs (a .step) 0 11) _ _ _ _ _ _ (c .before .before .before .before .before .before .before .before .before .before .before .blocks2 .ensures .0) (c .before .before .before .before .before .before .before .before .before .before .before .before .before .before .before .before .before .before .pre .0)),
       omega arith,
       omega arith,
+      c .before .before .before .before .before .before .before .before .before .before .before .before .before .before .before .before .before .before .pre .2,
     )
 
 same-length : tie.Need-same-length
@@ -37,7 +38,7 @@ same-length-2 c = search needs
 returns : tie.Need-returns
 unfolding step
 returns c =
-    let a = c .before .before .before .before .before .before .before .before .before .before .before .before .before .before .before .before .before .before .before .before .before .before .args in
+    let a = c .before .before .before .before .before .before .before .before .before .before .before .before .before .before .before .before .before .before .before .before .before .before .before .args in
     let S = setBy (now (a .set)) (a .layout) in
     let cs = listed (a .points) in (
       writes-++ (blocks S cs (a .step) 0 11) (demanded (ruled S cs (a .step)) ∷ blocks S cs (a .step) 11 25) (now (a .out)) (now (a .slots)) (a .n) _ _ _ _ _ _

@@ -32,40 +32,40 @@ slice-aggregate-one-step-2 c = search needs
 
 one-step-requires : tie.Need-one-step-requires
 one-step-requires c κs =
-    let a = c .before .before .before .before .before .before .before .before .before .args in
-    (limits-after (a .layout) (a .points) (early (setBy (now (a .set)) (a .layout)) (listed (a .points)) (now (a .map))) _ _ _ _ _ _ (c .before .before .before .before .before-steps .ensures .0) (c .before .before .before .before .before .before .before .before .before .pre .0), omega arith)
+    let a = c .before .before .before .before .before .before .before .before .before .before .args in
+    (limits-after (a .layout) (a .points) (early (setBy (now (a .set)) (a .layout)) (listed (a .points)) (now (a .map))) _ _ _ _ _ _ (c .before .before .before .before .before-steps .ensures .0) (c .before .before .before .before .before .before .before .before .before .before .pre .0), omega arith, c .before .before .before .before .before .before .before .before .before .before .pre .3)
 
 sub-result : tie.Need-sub-result
 sub-result c =
-    let a = c .before .before .before .before .before .before .before .before .before .before .before .before .args in
+    let a = c .before .before .before .before .before .before .before .before .before .before .before .before .before .args in
     let e = c .before .before .one-step .ensures .0 .next in
     let g = program-grows same (step (setBy (now (a .set)) (a .layout)) (listed (a .points)) 0) (c .before .before .before .before .before .before .before .before-steps .result) in
     omega arith
 
 mul-result : tie.Need-mul-result
 mul-result c =
-    let a = c .before .before .before .before .before .before .before .before .before .before .before .before .args in
+    let a = c .before .before .before .before .before .before .before .before .before .before .before .before .before .args in
     let d : c .before .before .one-step .result - c .before .before .before .before .before .before .before .before-steps .result ≤ 377858 = omega arith in
     let p = mul-le-mul-left (a .bound) d in
     omega arith
 
 add-result : tie.Need-add-result
 add-result c =
-    let a = c .before .before .before .before .before .before .before .before .before .before .before .before .args in
+    let a = c .before .before .before .before .before .before .before .before .before .before .before .before .before .args in
     let d : c .before .before .one-step .result - c .before .before .before .before .before .before .before .before-steps .result ≤ 377858 = omega arith in
     let p = mul-le-mul-left (a .bound) d in
     omega arith
 
 add-result-2 : tie.Need-add-result-2
 add-result-2 c =
-    let a = c .before .before .before .before .before .before .before .before .before .before .before .before .args in
+    let a = c .before .before .before .before .before .before .before .before .before .before .before .before .before .args in
     let d : c .before .before .one-step .result - c .before .before .before .before .before .before .before .before-steps .result ≤ 377858 = omega arith in
     let p = mul-le-mul-left (a .bound) d in
     omega arith
 
 returns : tie.Need-returns
 returns c =
-    let a = c .before .before .before .before .before .before .before .before .before .before .before .before .args in
+    let a = c .before .before .before .before .before .before .before .before .before .before .before .before .before .args in
     let S = setBy (now (a .set)) (a .layout) in
     let cs = listed (a .points) in
     let f = c .before .before .before .before .before .before .before .before-steps in

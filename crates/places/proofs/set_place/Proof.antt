@@ -1,11 +1,10 @@
 -- `places::set_place` meets its contract. Assumes nothing.
-use Prim.Native.Nat.{ℕ, _+_, _<_, _%_}
-use mathlib.Core.Path.{_≡_, ap, _∙_, refl}
-use native.Mathlib.Nat.{mod-eq-of-lt}
+use Prim.Native.Nat.{_+_, _<_}
+use mathlib.Core.Path.{_≡_, refl}
 use native.Mathlib.Omega.{arith}
-use lib.ListN.{length, length-set, set}
+use lib.ListN.{length, length-set}
 use borrow.Author.Needs.{needs}
-use Rattle.places.specs.Places.{placeOf, indexOf}
+use Rattle.places.specs.Places.{indexOf}
 use Rattle.places.proofs.Stores.{place-put}
 use Rattle.places.proofs.set_place.Statement.{statement}
 use Rattle.places.proofs.set_place.Tie as tie
@@ -38,23 +37,26 @@ same-length : tie.Need-same-length
 same-length c = search needs
 
 returns : tie.Need-returns
-returns c = let a = c .before .before .before .args in (
-  length-set (a .slots .now) (indexOf (a .kind) (a .a) (a .b)) (a .index % 4294967295 + 1),
+returns c = let a = c .before .before .before .before .args in (
+  length-set (a .slots .now) (indexOf (a .kind) (a .a) (a .b)) (a .index + 1),
   λ (n : length (a .slots .now) ≡ 5248) (k : a .kind < 41) (p : a .a < 4) (q : a .b < 32) (small : a .index < 4294967295).
-      ap (λ (v : ℕ). placeOf (set (a .slots .now) (indexOf (a .kind) (a .a) (a .b)) (v + 1))) (mod-eq-of-lt small)
-      ∙ place-put (a .slots .now) (a .kind) (a .a) (a .b) (a .index) p q (c .if3 .taken) k,
+      place-put (a .slots .now) (a .kind) (a .a) (a .b) (a .index) p q (c .before .if3 .taken) k,
 )
 
 returns-2 : tie.Need-returns-2
-returns-2 c = let a = c .before .before .before .args in
-    (refl, λ (n : length (a .slots .now) ≡ 5248) (k : a .kind < 41) (p : a .a < 4) (q : a .b < 32) small. absurd (omega arith))
+returns-2 c = let a = c .before .before .before .before .args in
+    (refl, λ n k p q (small : a .index < 4294967295). absurd (omega arith))
 
 returns-3 : tie.Need-returns-3
-returns-3 c = let a = c .before .before .args in
-    (refl, λ n k p (q : a .b < 32) small. absurd (omega arith))
+returns-3 c = let a = c .before .before .before .args in
+    (refl, λ (n : length (a .slots .now) ≡ 5248) (k : a .kind < 41) (p : a .a < 4) (q : a .b < 32) small. absurd (omega arith))
 
 returns-4 : tie.Need-returns-4
-returns-4 c = let a = c .before .args in
+returns-4 c = let a = c .before .before .args in
+    (refl, λ n k p (q : a .b < 32) small. absurd (omega arith))
+
+returns-5 : tie.Need-returns-5
+returns-5 c = let a = c .before .args in
     (refl, λ n k (p : a .a < 4) q small. absurd (omega arith))
 
 pub set-place-spec : {M : Type 1} → statement M
@@ -73,4 +75,5 @@ set-place-spec =
     returns
     returns-2
     returns-3
-    returns-4)
+    returns-4
+    returns-5)

@@ -20,24 +20,6 @@ use mathlib.Core.Path.{_≡_, refl, sym, ap, _∙_}
 use borrow.Author.Needs.{needs}
 use Rattle.links.proofs.chains.link.Statement.{statement}
 use Rattle.links.proofs.chains.link.Tie as tie
-use Rattle.links.proofs.chains.link.Reads as reads
-use Rattle.links.proofs.chains.link.Lts as lts
-use Rattle.links.proofs.edges.leads.Reads as leads-reads
-use Rattle.links.proofs.parts.bit_by.Reads as bit-by-reads
-use Rattle.links.proofs.parts.bit_if.Reads as bit-if-reads
-use Rattle.links.proofs.parts.contained.Reads as contained-reads
-use Rattle.links.proofs.parts.flushed.Reads as flushed-reads
-use Rattle.links.proofs.parts.halts.Reads as halts-reads
-use Rattle.links.proofs.parts.none.Reads as none-reads
-use Rattle.links.proofs.parts.one.Reads as one-reads
-use Rattle.links.proofs.parts.word_by.Reads as word-by-reads
-use Rattle.links.proofs.parts.word_if.Reads as word-if-reads
-use Rattle.links.proofs.parts.written.Reads as written-reads
-use Rattle.links.proofs.statements.needs_empty.Reads as needs-empty-reads
-use Rattle.links.proofs.statements.number.Reads as number-reads
-use Rattle.links.proofs.statements.raises.Reads as raises-reads
-use Rattle.links.proofs.statements.sets_accu.Reads as sets-accu-reads
-use Rattle.links.proofs.statements.thread_before.Reads as thread-before-reads
 
 abbrev here : tie.After-shared-slice-known2 → Slot → ℕ
 here c = placeOf (now (c .before .before .args .slots))
@@ -151,9 +133,6 @@ bit-by-requires-2 c κs = search needs
 bit-by-requires-3 : tie.Need-bit-by-requires-3
 bit-by-requires-3 c κs = search needs
 
-leads-requires : tie.Need-leads-requires
-leads-requires c κs = search needs
-
 halts-requires : tie.Need-halts-requires
 halts-requires c κs = search needs
 
@@ -162,7 +141,7 @@ none-requires c κs = search needs
 
 returns : tie.Need-returns
 unfolding kinds
-returns c =
+returns c = λ other.
     let s = c .before .before in
     let a = s .before .before .args in
     c .contained .ensures ∙ and-placed (here s) {d = contains (setHere s) (a .i) (getD (listed (a .points)) (a .b) 0)} refl (slot mark (a .i) (a .b))
@@ -170,7 +149,7 @@ returns c =
 
 returns-2 : tie.Need-returns-2
 unfolding kinds
-returns-2 c =
+returns-2 c = λ other.
     let s = c .before .before .before .before in
     let a = s .before .before .args in
     c .bit-if .ensures ∙ if-placed (here s) (c .before .needs-empty .ensures ∙ ap (λ (n : ℕ). needsEmpty n) (c .before .before .number .ensures)) 1 (slot active (a .a) (a .i)) (only yes)
@@ -178,7 +157,7 @@ returns-2 c =
 
 returns-3 : tie.Need-returns-3
 unfolding kinds
-returns-3 c =
+returns-3 c = λ other.
     let s = c .before .before in
     let a = s .before .before .args in
     c .contained2 .ensures ∙ or-placed (here s) {d = contains (setHere s) (a .a) (getD (listed (a .points)) (a .i) 0)} refl (slot held (a .a) (a .i))
@@ -186,15 +165,15 @@ returns-3 c =
 
 returns-4 : tie.Need-returns-4
 unfolding kinds
-returns-4 c = c .one .ensures ∙ arm 10 (c .before .before) (c .before .match .keys4)
+returns-4 c = λ other. c .one .ensures ∙ arm 10 (c .before .before) (c .before .match .keys4)
 
 returns-5 : tie.Need-returns-5
 unfolding kinds
-returns-5 c = c .flushed .ensures ∙ arm 17 (c .before .before) (c .before .match .keys5)
+returns-5 c = λ other. c .flushed .ensures ∙ arm 17 (c .before .before) (c .before .match .keys5)
 
 returns-6 : tie.Need-returns-6
 unfolding kinds
-returns-6 c =
+returns-6 c = λ other.
     let s = c .before .before .before in
     let a = s .before .before .args in
     c .written .ensures ∙ before-placed s CAS refl 2 (λ t. slot swaps t (a .i)) (λ t. slot address t (a .i)) (c .before .thread-before .ensures)
@@ -202,11 +181,11 @@ returns-6 c =
 
 returns-7 : tie.Need-returns-7
 unfolding kinds
-returns-7 c = c .flushed2 .ensures ∙ arm 19 (c .before .before) (c .before .match .keys7)
+returns-7 c = λ other. c .flushed2 .ensures ∙ arm 19 (c .before .before) (c .before .match .keys7)
 
 returns-8 : tie.Need-returns-8
 unfolding kinds
-returns-8 c =
+returns-8 c = λ other.
     let s = c .before .before .before in
     let a = s .before .before .args in
     c .written2 .ensures ∙ before-placed s CAS refl 2 (λ t. slot swaps t (a .i)) (λ t. slot accu t 0) (c .before .thread-before2 .ensures)
@@ -214,7 +193,7 @@ returns-8 c =
 
 returns-9 : tie.Need-returns-9
 unfolding kinds
-returns-9 c =
+returns-9 c = λ other.
     let s = c .before .before .before in
     let a = s .before .before .args in
     c .bit-if2 .ensures ∙ if-placed (here s) (c .before .raises .ensures) 1 (slot active (a .a) (a .i)) (only yes)
@@ -222,7 +201,7 @@ returns-9 c =
 
 returns-10 : tie.Need-returns-10
 unfolding kinds
-returns-10 c =
+returns-10 c = λ other.
     let s = c .before .before .before in
     let a = s .before .before .args in
     c .bit-by .ensures ∙ before-placed s EXIT refl 1 (λ t. slot active t (a .i)) (λ t. only yes) (c .before .thread-before3 .ensures)
@@ -230,7 +209,7 @@ returns-10 c =
 
 returns-11 : tie.Need-returns-11
 unfolding kinds
-returns-11 c =
+returns-11 c = λ other.
     let s = c .before .before .before in
     let a = s .before .before .args in
     c .word-by .ensures ∙ before-placed s EXIT refl 2 (λ t. slot active t (a .i)) (λ t. slot argument t (a .i)) (c .before .thread-before4 .ensures)
@@ -238,7 +217,7 @@ returns-11 c =
 
 returns-12 : tie.Need-returns-12
 unfolding kinds
-returns-12 c =
+returns-12 c = λ other.
     let s = c .before .before in
     let a = s .before .before .args in
     c .word-by2 .ensures ∙ own-placed s STORE 2 (slot active (a .a) (a .i)) (slot accu (a .a) 0)
@@ -246,7 +225,7 @@ returns-12 c =
 
 returns-13 : tie.Need-returns-13
 unfolding kinds
-returns-13 c =
+returns-13 c = λ other.
     let s = c .before .before in
     let a = s .before .before .args in
     c .word-by3 .ensures ∙ own-placed s STORE 2 (slot active (a .a) (a .i)) (slot address (a .a) (a .i))
@@ -254,7 +233,7 @@ returns-13 c =
 
 returns-14 : tie.Need-returns-14
 unfolding kinds
-returns-14 c =
+returns-14 c = λ other.
     let s = c .before .before in
     let a = s .before .before .args in
     c .word-by4 .ensures ∙ own-placed s MEM 2 (slot active (a .a) (a .i)) (slot loaded (a .a) (a .i))
@@ -262,7 +241,7 @@ returns-14 c =
 
 returns-15 : tie.Need-returns-15
 unfolding kinds
-returns-15 c =
+returns-15 c = λ other.
     let s = c .before .before .before .before in
     let a = s .before .before .args in
     c .word-if .ensures ∙ if-placed (here s) (c .before .sets-accu .ensures ∙ ap (λ (n : ℕ). setsAccu n) (c .before .before .number2 .ensures)) 2 (slot active (a .a) (a .i)) (slot result (a .a) (a .i))
@@ -270,7 +249,7 @@ returns-15 c =
 
 returns-16 : tie.Need-returns-16
 unfolding kinds
-returns-16 c =
+returns-16 c = λ other.
     let s = c .before .before in
     let a = s .before .before .args in
     c .bit-by2 .ensures ∙ own-placed s STORE 1 (slot active (a .a) (a .i)) (only yes)
@@ -278,7 +257,7 @@ returns-16 c =
 
 returns-17 : tie.Need-returns-17
 unfolding kinds
-returns-17 c =
+returns-17 c = λ other.
     let s = c .before .before in
     let a = s .before .before .args in
     c .bit-by3 .ensures ∙ own-placed s HALT 1 (slot active (a .a) (a .i)) (only yes)
@@ -286,17 +265,13 @@ returns-17 c =
 
 returns-18 : tie.Need-returns-18
 unfolding kinds
-returns-18 c = c .leads .ensures ∙ arm 31 (c .before .before) (c .before .match .keys18)
+returns-18 c = λ other. c .halts .ensures ∙ arm 33 (c .before .before) (c .before .match .keys18)
 
 returns-19 : tie.Need-returns-19
-unfolding kinds
-returns-19 c = c .halts .ensures ∙ arm 33 (c .before .before) (c .before .match .keys19)
-
-returns-20 : tie.Need-returns-20
-returns-20 c =
+returns-19 c = λ other.
     let s = c .before .before in
     let a = s .before .before .args in
-    c .none .ensures ∙ sym (ap (placedLink (here s)) (no-link (setHere s) (listed (a .points)) (a .a) (a .b) (a .i) (a .kind) (c .before .match .rest)))
+    c .none .ensures ∙ sym (ap (placedLink (here s)) (no-link (setHere s) (listed (a .points)) (a .a) (a .b) (a .i) (a .kind) ((c .before .match .rest .0, other), c .before .match .rest .1)))
 
 pub link-spec : {M : Type 1} → statement M
 link-spec =
@@ -328,7 +303,6 @@ link-spec =
     word-if-requires
     bit-by-requires-2
     bit-by-requires-3
-    leads-requires
     halts-requires
     none-requires
     returns
@@ -349,5 +323,4 @@ link-spec =
     returns-16
     returns-17
     returns-18
-    returns-19
-    returns-20)
+    returns-19)

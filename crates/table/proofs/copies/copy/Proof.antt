@@ -3,7 +3,7 @@ use Prim.Native.Nat.{ℕ, _+_, _-_, _*_, _≤_}
 use mathlib.Core.Path.{_≡_, refl, ap, _∙_}
 use mathlib.Core.List.{[], _∷_}
 use native.Mathlib.Omega.{arith}
-use lib.ListN.{length}
+use lib.ListN.{length, getD}
 use denote.Ref.{now}
 use borrow.Author.Needs.{needs}
 use Rattle.table.specs.Copies.{copyOf}
@@ -17,7 +17,8 @@ use Rattle.table.proofs.copies.copy.Tie as tie
 
 abbrev Inv-loop : tie.InvT-loop
 Inv-loop template marks out₀ m at count j₀ out j =
-    (j ≤ count) × (at + count ≤ 2000000000) × (length out ≡ length out₀) × (out ≡ writtenAt out₀ at (upto (λ i. copyOf template marks m i ∷ []) j))
+    (j ≤ count) × (at + count ≤ 2000000000) × (length out ≡ length out₀)
+    × (getD marks 0 0 ≡ 0 → out ≡ writtenAt out₀ at (upto (λ i. copyOf template marks m i ∷ []) j))
 
 abbrev μ-loop : tie.MeasureT-loop
 μ-loop template marks out₀ m at count j₀ out j = count - j
@@ -28,13 +29,13 @@ add-if1 c = search needs
 
 -- src/copies.rt:53:9
 returns : tie.Need-returns Inv-loop μ-loop
-returns c = λ h. absurd (omega arith)
+returns c = λ z h. absurd (omega arith)
 
 -- src/copies.rt:56:5
 loop-holds : tie.Need-loop-holds Inv-loop μ-loop
 loop-holds c =
     let a = c .before .before .before .before .args in
-    (omega arith, omega arith, refl, copies-none (copyOf (now (a .template)) (now (a .marks)) (a .m)) (now (a .out)) (a .at))
+    (omega arith, omega arith, refl, λ z. copies-none (copyOf (now (a .template)) (now (a .marks)) (a .m)) (now (a .out)) (a .at))
 
 -- src/copies.rt:57:13
 copy-of-requires : tie.Need-copy-of-requires Inv-loop μ-loop
@@ -65,9 +66,9 @@ loop-again c =
       omega arith,
       l .inv .1,
       c .before .before .put .kept .0 ∙ l .inv .2,
-      c .before .before .put .ensures
-          ∙ (ap (λ (x : Formula). placed (l .out) (16 * (a .at + l .j)) (formulaBytes x)) (c .before .before .before .before .copy-of .ensures)
-          ∙ copies-more f (now (a .out)) (l .out) (a .at) (l .j) (l .inv .3)),
+      λ z. c .before .before .put .ensures
+          ∙ (ap (λ (x : Formula). placed (l .out) (16 * (a .at + l .j)) (formulaBytes x)) (c .before .before .before .before .copy-of .ensures z)
+          ∙ copies-more f (now (a .out)) (l .out) (a .at) (l .j) (l .inv .3 z)),
     )
 
 -- src/copies.rt:48:1
@@ -80,7 +81,7 @@ returns-2 c =
     let a = c .before .before .before .before .before .before .args in
     let l = c .before .loop in
     let j-is : l .j ≡ a .count = omega arith in
-    λ h. l .inv .3 ∙ ap (λ (n : ℕ). writtenAt (now (a .out)) (a .at) (upto (λ j. copyOf (now (a .template)) (now (a .marks)) (a .m) j ∷ []) n)) j-is
+    λ z h. l .inv .3 z ∙ ap (λ (n : ℕ). writtenAt (now (a .out)) (a .at) (upto (λ j. copyOf (now (a .template)) (now (a .marks)) (a .m) j ∷ []) n)) j-is
 
 pub copy-spec : {M : Type 1} → statement M
 copy-spec =

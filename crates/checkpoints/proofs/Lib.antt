@@ -1,0 +1,2 @@
+-- Laws of the checkpoints noted one after the other.
+pub mod Noted

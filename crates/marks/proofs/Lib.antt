@@ -1,0 +1,3 @@
+-- Laws of marks.
+pub mod Gives
+pub mod Moves
