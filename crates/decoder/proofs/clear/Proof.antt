@@ -29,8 +29,8 @@ loop-less : tie.Need-loop-less Inv-loop μ-loop
 loop-less c = search needs
 
 loop-again : tie.Need-loop-again Inv-loop μ-loop
-loop-again c = let l = c .before .loop in let w = c .before .before .args .work .now in let n = length-set (l .work) (l .i) 0 in
-    (search needs, (omega (arith, n, l .inv .1 .0), cleared-more w (l .work) (l .i) (omega (arith, c .loop-test .taken, l .inv .1 .0)) (l .inv .1 .1)))
+loop-again c = let l = c .before .loop in let w = c .before .before .args .work .now in
+    (search needs, (length-set (l .work) (l .i) _ ∙ l .inv .1 .0, cleared-more w (l .work) (l .i) (omega (arith, c .loop-test .taken, l .inv .1 .0)) (l .inv .1 .1)))
 
 same-length : tie.Need-same-length Inv-loop μ-loop
 same-length c = search needs

@@ -98,8 +98,9 @@ returns c =
     let fits : modelFits (setOf set .threads) bound model ≡ true = subst (λ (T : ℕ). modelFits T bound model ≡ true) t (s .pre .2) in
     let none : a .n ≤ falseRecord (assigned (setOf set .threads) bound model) (tableOf set map bound)
     = subst (λ (T : ℕ). a .n ≤ falseRecord (assigned T bound model) (tableOf set map bound)) t (s .pre .3) in
+    let scheduled : choices schedule ≡ runOf (layout .threads) bound (assigned (layout .threads) bound model) = o .schedule-of .ensures .1 in
     let run : choices schedule ≡ runOf (setOf set .threads) bound (assigned (setOf set .threads) bound model)
-    = o .schedule-of .ensures .1 ∙ ap (λ (T : ℕ). runOf T bound (assigned T bound model)) t in
+    = scheduled ∙ ap (λ (T : ℕ). runOf T bound (assigned T bound model)) t in
     let first : List ℕ = take (length model - count) (drop count model) in
     let there : first ≡ listedCells (setOf set .threads) bound model
     = take-all (length model - count) (drop count model) (let e = length-drop count model in omega arith) ∙ ap (λ (T : ℕ). listedCells T bound model) t in

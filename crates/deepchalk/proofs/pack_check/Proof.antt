@@ -26,7 +26,7 @@ add-result : tie.Need-add-result
 add-result c = search needs
 
 returns : tie.Need-returns
-returns c = search needs
+returns c = sym (ap packedCheck (c .enum-told .given .1))
 
 returns-2 : tie.Need-returns-2
 returns-2 c = sym (ap packedCheck (c .before .answer .given .1))
