@@ -9,6 +9,7 @@ pub mod Demands
 pub mod Ends
 pub mod Failing
 pub mod Leads
+pub mod Leaves
 pub mod Listed
 pub mod Marks
 pub mod Meant
@@ -18,15 +19,19 @@ pub mod Over
 pub mod Permits
 pub mod Raised
 pub mod Registers
+pub mod Repeats
 pub mod Rows
 pub mod Ruled
 mod Samples
+pub mod Scopes
 pub mod Shown
 mod Single
 pub mod Sorts
+pub mod Sources
 pub mod Stages
 pub mod Statements
 pub mod Tests
+pub mod Walks
 pub mod WellFormed
 pub mod Writes
 pub mod Split

@@ -30,7 +30,7 @@ pub record Given (S : Set) (cs : List ℕ) (g : Assignment) (k : ℕ) (slots : S
 
 -- ---- kinds by number
 
-kind-at : (kind : Kind) → kindAt (kindNumber kind) ≡ kind
+pub kind-at : (kind : Kind) → kindAt (kindNumber kind) ≡ kind
 unfolding kinds
 kind-at choice = refl
 kind-at active = refl
@@ -78,7 +78,7 @@ numbered : every 41 (λ m. eqb (kindNumber (kindAt m)) m) ≡ true
 unfolding kinds every
 numbered = refl
 
-number-at : (m : ℕ) → m < 41 → kindNumber (kindAt m) ≡ m
+pub number-at : (m : ℕ) → m < 41 → kindNumber (kindAt m) ≡ m
 number-at m h = eqb-true (kindNumber (kindAt m)) m (every-at (λ m. eqb (kindNumber (kindAt m)) m) 41 m numbered h)
 
 -- ---- stages
