@@ -1,0 +1,8 @@
+-- Sums, and the sizes of programs, of a step's blocks, of steps and of tables.
+pub mod Sums
+pub mod Counted
+pub mod Blocks
+pub mod Flags
+pub mod Steps
+pub mod Tables
+pub mod Parts

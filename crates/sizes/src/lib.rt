@@ -1,0 +1,207 @@
+// The size of a table in closed form (docs/TABLE.md, "The size"): of one step, and of the whole table.
+ghost use mathlib.Core.Path.{_≡_};
+ghost use mathlib.Core.Bool.{cond};
+ghost use Prim.Native.Nat.{ℕ, _+_, _*_, _≤_};
+ghost use lib.Dec.{eqb};
+ghost use lib.ListN.{length, getD};
+ghost use Rattle.base.specs.Below.{number as numberBelow};
+ghost use Rattle.records.specs.Maps.{cells};
+ghost use Rattle.records.specs.Sets.{setBy};
+ghost use Rattle.table.specs.Programs.{nextAfter};
+ghost use Rattle.encoding.specs.Encodings.{encoded as encodedOf};
+ghost use Rattle.encoding.specs.Slots.{same};
+ghost use Rattle.encoding.specs.Steps.{isConditional, step as stepOf};
+ghost use Rattle.places.specs.Places.{listed};
+ghost use Rattle.sizes.specs.Sizes.{total, ownRecords, within as withinOf, leadRecords, checkRecords, statementRecords, marksOf, threadRecords};
+use places::Points;
+use records::Layout;
+use records::Statement;
+use records::instructions::CHECK;
+use records::instructions::EXIT;
+use records::instructions::HALT;
+use records::instructions::JMP;
+use records::instructions::is_jump;
+
+// By instruction: the records of a direct statement, without those of the links that lead from it and that raise its mark.
+const OWN: [u64; 20] = [7, 6, 3, 8, 4, 8, 4, 8, 4, 2, 4, 4, 4, 4, 6, 8, 10, 3, 3, 2];
+
+// ---- statements
+
+// Those of instruction n.
+fn own(n: u8) -> u64
+    ensures { λ r. ⌜ (r ≡ ownRecords n) × (r ≤ 10) ⌝ }
+{
+    let i = n as usize;
+    if i < 20 {
+        return OWN[i];
+    }
+    2
+}
+
+// 1 for a statement j that a thread of `count` statements has.
+fn within(j: u32, count: u16) -> u64
+    ensures { λ r. ⌜ (r ≡ withinOf j count) × (r ≤ 1) ⌝ }
+{
+    if j < (count as u32) {
+        return 1;
+    }
+    0
+}
+
+// Conditional jumps.
+fn is_conditional(n: u8) -> bool
+    ensures { λ r. ⌜ r ≡ isConditional n ⌝ }
+{
+    is_jump(n) & (n != JMP)
+}
+
+// To how many statements of its thread statement i leads.
+fn leads(n: u8, target: u16, i: u16, count: u16) -> u64
+    ensures { λ r. ⌜ (r ≡ leadRecords n target i count) × (r ≤ 2) ⌝ }
+{
+    if (n == HALT) | (n == EXIT) {
+        return 0;
+    }
+    let next = (i as u32) + 1;
+    let there = target as u32;
+    let conditional = is_conditional(n);
+    // A jump to the next statement goes there either way.
+    if (n == JMP) | (conditional & (there == next)) {
+        return within(there, count);
+    }
+    if conditional {
+        return within(there, count) + within(next, count);
+    }
+    within(next, count)
+}
+
+// How many of the checkpoints have number c.
+fn checks(points: Points, c: u16) -> u64
+    ensures { λ r. ⌜ (r ≡ numberBelow (length (listed points)) (λ p. eqb c (getD (listed points) p 0))) × (r ≤ 8) ⌝ }
+{
+    let n = places::points_count(points);
+    let mut found: u64 = 0;
+    let mut p: u16 = 0;
+    while p < n {
+        if c == places::checkpoint(points, p) {
+            found += 1;
+        }
+        p += 1;
+    }
+    found
+}
+
+// How many of them a statement is a CHECK of.
+fn raises(points: Points, n: u8, argument: u16) -> u64
+    ensures { λ r. ⌜ (r ≡ checkRecords (listed points) n argument) × (r ≤ 8) ⌝ }
+{
+    if n == CHECK {
+        return checks(points, argument);
+    }
+    0
+}
+
+// What an indirect statement has more.
+fn indirect(mode: u8) -> u64
+    ensures { λ r. ⌜ (r ≡ cond (eqb mode 1) 4 0) × (r ≤ 4) ⌝ }
+{
+    if mode == 1 {
+        return 4;
+    }
+    0
+}
+
+// The records of statement i in a thread of `count`.
+fn statement(points: Points, s: Statement, i: u16, count: u16) -> u64
+    ensures { λ r. ⌜ (r ≡ statementRecords (listed points) count i s) × (r ≤ 24) ⌝ }
+{
+    own(s.number)
+        + indirect(s.mode)
+        + leads(s.number, s.argument, i, count)
+        + raises(points, s.number, s.argument)
+}
+
+// ---- threads
+
+// The records of the statements of thread t.
+fn statements(set: &[u8], layout: Layout, points: Points, t: u8, count: u16) -> u64
+    ensures { λ r. ⌜ (r ≡ total (λ i. statementRecords (listed points) count i (setBy (now (set .entry)) layout .statement t i)) count) × (r ≤ 24 * count) ⌝ }
+{
+    let mut n: u64 = 0;
+    let mut i: u16 = 0;
+    while i < count {
+        let s = records::fetch(set, layout, t, i);
+        n += statement(points, s, i, count);
+        i += 1;
+    }
+    n
+}
+
+// How many of the checkpoints thread t contains.
+fn marks(set: &[u8], layout: Layout, points: Points, t: u8) -> u64
+    ensures { λ r. ⌜ (r ≡ marksOf (setBy (now (set .entry)) layout) (listed points) t) × (r ≤ 8) ⌝ }
+{
+    let n = places::points_count(points);
+    let mut found: u64 = 0;
+    let mut p: u16 = 0;
+    while p < n {
+        let c = places::checkpoint(points, p);
+        if step::contains(set, layout, t, c) {
+            found += 1;
+        }
+        p += 1;
+    }
+    found
+}
+
+// The records of thread t.
+fn thread(set: &[u8], layout: Layout, points: Points, t: u8) -> u64
+    ensures { λ r. ⌜ (r ≡ threadRecords (setBy (now (set .entry)) layout) (listed points) t) × (r ≤ 24 * getD (layout .counts) t 0 + 47) × (r ≤ 1572887) ⌝ }
+{
+    let count = links::count(layout, t);
+    statements(set, layout, points, t, count) + 4 * marks(set, layout, points, t) + 15
+}
+
+// ---- steps and tables
+
+// How many records a step has, whichever it is and wherever it starts.
+pub fn step_records(set: &[u8], layout: Layout, points: Points) -> u64
+    ensures { λ r. ⌜ ((m k : ℕ) → nextAfter same m (stepOf (setBy (now (set .entry)) layout) (listed points) k) ≡ m + r)
+        × (layout .threads ≤ 4 → ((t : ℕ) → getD (layout .counts) t 0 ≤ 32) → r ≤ 3273)
+        × (r ≤ 401086198) ⌝ }
+{
+    let threads = layout.threads;
+    let mut n: u64 = 0;
+    let mut t: u8 = 0;
+    while t < threads {
+        n += thread(set, layout, points, t);
+        t += 1;
+    }
+    n + (places::points_count(points) as u64) + 5
+}
+
+// How many statements there are.
+fn all_statements(layout: Layout) -> u64
+    ensures { λ r. ⌜ (r ≡ total (λ t. getD (layout .counts) t 0) (layout .threads))
+        × (layout .threads ≤ 4 → ((t : ℕ) → getD (layout .counts) t 0 ≤ 32) → r ≤ 128)
+        × (r ≤ 16711425) ⌝ }
+{
+    let threads = layout.threads;
+    let mut n: u64 = 0;
+    let mut t: u8 = 0;
+    while t < threads {
+        n += links::count(layout, t) as u64;
+        t += 1;
+    }
+    n
+}
+
+// How many records the table of a set, a map and a bound has.
+pub fn table_records(set: &[u8], layout: Layout, points: Points, map: &[u8], bound: u8) -> u64
+    ensures { λ r. ⌜ (r ≡ length (encodedOf (setBy (now (set .entry)) layout) (listed points) (now (map .entry)) bound))
+        × (layout .threads ≤ 4 → ((t : ℕ) → getD (layout .counts) t 0 ≤ 32) → cells (now (map .entry)) ≤ 128 → bound ≤ 64 → r ≤ 210248) ⌝ }
+{
+    let step = step_records(set, layout, points);
+    let before = 5 + all_statements(layout) + 5 * ((map.len() / 4) as u64);
+    before + (bound as u64) * step + 3
+}
