@@ -10,3 +10,4 @@ pub mod Counted
 pub mod Ordered
 pub mod Read
 pub mod Loads
+pub mod Repeated

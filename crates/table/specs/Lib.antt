@@ -4,3 +4,4 @@ pub mod Programs
 pub mod Tables
 pub mod Values
 pub mod Copies
+pub mod Repeats

@@ -5,6 +5,7 @@ ghost use Rattle.base.specs.Bytes.{placed};
 ghost use Rattle.table.specs.Formulas.{formulaBytes};
 
 pub mod copies;
+pub mod repeats;
 
 // A formula record; operands that an operation does not use are 0. A record holds 32 bits of each operand; the fields are wider, so
 // that the sum of an index and a small number has room.
