@@ -6,5 +6,4 @@ pub mod Entries
 pub mod Parts
 pub mod Sizes
 pub mod Accepted
-pub mod Copying
-pub mod Starting
+pub mod Repeating

@@ -7,21 +7,19 @@ ghost use lib.Dec.{ltb};
 ghost use lib.ListN.{length, getD, replicate};
 ghost use Rattle.records.specs.Maps.{cells, mapAccepted};
 ghost use Rattle.records.specs.Sets.{Set, setBy, setAccepted, layoutOf};
-ghost use Rattle.table.specs.Copies.{copyOf, Loaded};
 ghost use Rattle.table.specs.Formulas.{writtenAt};
-ghost use Rattle.table.specs.Programs.{leafFormula, choiceBit, needs, aims, upto, compiled, nextAfter, placesAfter};
+ghost use Rattle.table.specs.Repeats.{movedBy};
+ghost use Rattle.table.specs.Programs.{leafFormula, choiceBit, needs, aims, upto, compiled, nextAfter};
 ghost use Rattle.encoding.specs.Encodings.{mapDemand, starting, goalTree, firsts as firstsOf, encoded as encodedOf};
 ghost use Rattle.encoding.specs.Slots.{Slot, same, Term, kindAt, code as codeKind};
 ghost use Rattle.encoding.specs.Steps.{only, word0, Link as ChainLink, linked, chain as chainOf, link as linkOf, links as linksOf, leads as leadsOf, entry as entryOf, line as lineOf, block as blockOf, blocks as blocksOf, ruled, step as stepOf};
-ghost use Rattle.encoding.proofs.Templates.{Marked};
 ghost use Rattle.places.specs.Places.{placeOf, listed, size as placesCount};
 ghost use Rattle.bases.specs.Fews.{formulas, ofStatement};
 ghost use Rattle.links.specs.Nexts.{Nexts};
 ghost use Rattle.links.specs.Placed.{placedLink};
-ghost use Rattle.marks.specs.Marks.{Marking, Settled};
 ghost use Rattle.encoder.specs.Answers.{sizeAnswer, encodeAnswer, tableOutput};
 ghost use Rattle.encoder.specs.Pieces.{Writes, WritesTree, Limits};
-ghost use Rattle.encoder.specs.Templates.{Ready, Copied, Prepared, Filled};
+ghost use Rattle.encoder.specs.Repeating.{Started, Stepped, Ended};
 use bases::Few;
 use links::Link;
 use places::Points;
@@ -684,7 +682,7 @@ fn goal(out: &mut [u8], n: u32, code: u64, nought: u64)
     table::put(out, n + 2, aim);
 }
 
-// ---- steps as copies of one step, the template
+// ---- steps that repeat the one before
 
 // Choice bit j of a step: executes by thread, then flushes by thread.
 fn choice_bit(threads: u8, step: u8, j: u8) -> Formula
@@ -725,390 +723,105 @@ fn choice_bits(threads: u8, out: &mut [u8], step: u8, n: u32)
     }
 }
 
-// Writes a step: its choice bits, and the copies of the template's records.
-fn copied_step(
-    threads: u8,
-    template: &[u32],
-    marks: &[u32],
-    out: &mut [u8],
-    step: u8,
-    records: u32,
-    n: u32,
-)
-    requires { ⌜ (n ≤ 1000000000) × (threads ≤ 4) × (records ≤ 400000) ⌝ }
-    ensures { λ _. ⌜ (getD (now (marks .entry)) 0 0 ≡ 0 → now (out .exit) ≡ writtenAt (now (out .entry)) n
-        (upto (λ j. leafFormula (cond (ltb j threads) (choiceBit step 0 j) (choiceBit step 1 (j - threads))) ∷ []) (threads + threads)
-        ++ upto (λ j. copyOf (now (template .entry)) (now (marks .entry)) n j ∷ []) records)) ⌝ }
+// Writes step k by repeating the one before it: its choice bits, and the other records with their operands moved on.
+fn repeated_step(threads: u8, out: &mut [u8], k: u8, first: u32, stride: u32, n: u32)
+    requires { ⌜ (n ≤ 1900000000) × (threads ≤ 4) × (threads + threads ≤ stride) × (stride ≤ 13000000) ⌝ }
+    ensures { λ _. ⌜ ((S : Set) (cs : List ℕ) (start : Slot → ℕ) (begun : List ℕ) → Started S cs start threads first stride → 2 ≤ k
+        → 16 * (n + stride) ≤ length begun → Stepped S cs start first k begun (now (out .entry)) n
+        → Stepped S cs start first (k + 1) begun (now (out .exit)) (n + stride)) ⌝ }
 {
-    choice_bits(threads, out, step, n);
-    table::copies::copy(template, marks, out, n, n + 2 * (threads as u32), records);
+    choice_bits(threads, out, k, n);
+    let bits = 2 * (threads as u32);
+    table::repeats::repeat(out, n + bits, stride - bits, first, stride);
 }
 
-// Writes the steps, and moves the marks to the places after them.
-fn copied_steps(
-    threads: u8,
-    owners: &[u32],
-    places: &[u32],
-    template: &[u32],
-    marks: &mut [u32],
-    out: &mut [u8],
-    from: u32,
-    count: u32,
-    records: u32,
-    bound: u8,
-    n: u32,
-) -> u32
-    requires { ⌜ (n ≤ 1000000) × (threads ≤ 4) × (records ≤ 400000) × (bound ≤ 64) × (count ≤ length (now marks)) ⌝ }
-    ensures { λ r. ⌜ ((S : Set) (cs : List ℕ) (p q : Slot → ℕ) → S .threads ≡ threads
-        → Ready S cs p (now (owners .entry)) (now (places .entry)) (now (template .entry)) from count records
-        → Marked p (now (marks .entry)) q
-        → Copied S cs p q bound (now (out .entry)) n (now (out .exit)) (now (marks .exit)) r)
-        × (r ≤ n + 400008 * bound) ⌝ }
+// Writes the steps after the second.
+fn repeated_steps(threads: u8, out: &mut [u8], bound: u8, first: u32, stride: u32, n: u32) -> u32
+    requires { ⌜ (n ≤ 26000000) × (threads ≤ 4) × (threads + threads ≤ stride) × (stride ≤ 13000000) × (2 ≤ bound) × (bound ≤ 64) ⌝ }
+    ensures { λ r. ⌜ ((S : Set) (cs : List ℕ) (start : Slot → ℕ) (begun : List ℕ) → Started S cs start threads first stride
+        → 16 * (first + bound * stride) ≤ length begun → Stepped S cs start first 2 begun (now (out .entry)) n
+        → Stepped S cs start first bound begun (now (out .exit)) r)
+        × (r ≤ n + 13000000 * bound) ⌝ }
 {
-    let stride = 2 * (threads as u32) + records;
     let mut next = n;
-    let mut k: u8 = 0;
+    let mut k: u8 = 2;
     while k < bound {
-        copied_step(threads, template, marks, out, k, records, next);
-        marks::move_marks(owners, places, marks, from, count, next);
+        repeated_step(threads, out, k, first, stride, next);
         next += stride;
         k += 1;
     }
     next
 }
 
-// The marks given out: those below `from` never move; `code` and `nought` are the marks of the code and of the word 0.
-struct Marks {
-    from: u32,
-    count: u32,
-    code: u32,
-    nought: u32,
-}
-
-// Gives a mark to each value that a step starts from: first the constants, then the state.
-fn mark_all(
-    layout: Layout,
-    points: Points,
-    slots: &[u32],
-    owners: &mut [u32],
-    marks: &mut [u32],
-    places: &mut [u32],
-) -> Marks
-    requires { ⌜ Marking (now owners) (now marks) (now places) (now slots) 4 ⌝ }
-    ensures { λ r. ⌜ (Marking (now (owners .exit)) (now (marks .exit)) (now (places .exit)) (now (slots .entry)) (r .count))
-        × (4 ≤ r .from) × (r .code ≡ placeOf (now (places .exit)) (only codeKind)) × (r .nought ≡ placeOf (now (places .exit)) word0) ⌝ }
+// Where a value lies that stays where it lies before record `first`, and else lies further by a distance.
+fn further(x: u64, first: u32, distance: u64) -> u64
+    requires { ⌜ (x ≤ 4294967296) × (distance ≤ 4294967296) ⌝ }
+    ensures { λ r. ⌜ r ≡ movedBy first distance x ⌝ }
 {
-    let from = marks::mark_kinds(layout, points, slots, owners, marks, places, 36, 5, 4);
-    let count = marks::mark_kinds(layout, points, slots, owners, marks, places, 24, 12, from);
-    Marks {
-        from,
-        count,
-        code: places::place(places, CODE, 0, 0, 2) as u32,
-        nought: places::place(places, NOUGHT, 0, 0, 2) as u32,
+    if x < (first as u64) {
+        return x;
     }
+    x + distance
 }
 
-// Whether copies can be made of the step whose bytes are written: it is there as a whole, each record after the choice bits has operands,
-// none of which is the mark 511, and the marks are settled. Then the template is made.
-fn usable(
-    owners: &[u32],
-    places: &[u32],
-    bytes: &[u8],
-    template: &mut [u32],
-    marked: Marks,
-    last: u32,
-    bits: u32,
-    records: u32,
-) -> bool
-    requires { ⌜ (last ≤ 1000000) × (bits ≤ 8) ⌝ }
-    ensures { λ r. ⌜ (r ≡ true → (16 * last ≤ length (now (bytes .entry)))
-        × (Settled (now (owners .entry)) (now (places .entry)) (marked .from) (marked .count))
-        × (marked .code ≡ 511 → ⊥) × (marked .nought ≡ 511 → ⊥)
-        × ((j : ℕ) → j < records → Loaded (now (bytes .entry)) (16 * (512 + bits + j)) (now (template .exit)) (4 * j))) ⌝ }
-{
-    if marked.code == 511 {
-        return false;
-    }
-    if marked.nought == 511 {
-        return false;
-    }
-    if bytes.len() < 16 * (last as usize) {
-        return false;
-    }
-    if marks::settled(owners, places, marked.from, marked.count) {
-        return table::copies::load(bytes, 512 + bits, records, template);
-    }
-    false
+// The steps written: the next index, and where the code and the word 0 lie.
+struct Last {
+    next: u32,
+    code: u64,
+    nought: u64,
 }
 
-// A template: the marks given out, how many records follow the choice bits, the index after the last, and whether copies can be made.
-struct Template {
-    from: u32,
-    count: u32,
-    code: u32,
-    nought: u32,
-    records: u32,
-    last: u32,
-    usable: bool,
-}
-
-// Makes the template of a step, from record 512 on; `slots` are the places before the first step.
-fn prepare(
+// Writes the steps. The third and those after it repeat the one before.
+fn all_steps(
     set: &[u8],
     layout: Layout,
     points: Points,
     nexts: &[u8],
-    slots: &[u32],
-    owners: &mut [u32],
-    marks: &mut [u32],
-    places: &mut [u32],
-    bytes: &mut [u8],
-    template: &mut [u32],
-) -> Template
-    requires { ⌜ (Marking (now owners) (now marks) (now places) (now slots) 4) × (Limits layout points (replicate placesCount 0) 4) × (Nexts (setBy (now set) layout) (now nexts)) ⌝ }
-    ensures { λ r. ⌜ (r .last ≡ nextAfter same 512 (stepOf (setBy (now (set .entry)) layout) (listed points) 0))
-        × (r .last ≤ 378370) × (r .last ≡ 512 + (layout .threads + layout .threads) + r .records) × (r .count ≤ length (now (marks .exit)))
-        × (r .usable ≡ true → Prepared (setBy (now (set .entry)) layout) (listed points) (placeOf (now (slots .entry)))
-        (now (owners .exit)) (now (marks .exit)) (now (places .exit)) (now (template .exit)) (r .from) (r .count) (r .records) (r .code) (r .nought)) ⌝ }
+    slots: &mut [u32],
+    out: &mut [u8],
+    bound: u8,
+    first: u32,
+) -> Last
+    requires { ⌜ (Limits layout points (now slots) first) × (first ≤ 10000) × (bound ≤ 64) × (Nexts (setBy (now set) layout) (now nexts))
+        × (16 * nextAfter same first (upto (stepOf (setBy (now set) layout) (listed points)) bound) ≤ length (now out)) ⌝ }
+    ensures { λ r. ⌜ (Ended (setBy (now (set .entry)) layout) (listed points) (placeOf (now (slots .entry))) first bound
+        (now (out .entry)) (now (out .exit)) (r .next) (r .code) (r .nought))
+        × (r .next ≤ 900000000) ⌝ }
 {
-    let marked = mark_all(layout, points, slots, owners, marks, places);
-    let last = one_step(set, layout, points, nexts, places, bytes, 0, 512);
-    let bits = 2 * (layout.threads as u32);
-    let records = last - 512 - bits;
-    Template {
-        from: marked.from,
-        count: marked.count,
-        code: marked.code,
-        nought: marked.nought,
-        records,
-        last,
-        usable: usable(owners, places, bytes, template, marked, last, bits, records),
+    let mut early = bound;
+    if 2 < bound {
+        early = 2;
+    }
+    let next = steps(set, layout, points, nexts, slots, out, early, first);
+    let code = places::place(slots, CODE, 0, 0, 2);
+    let nought = places::place(slots, NOUGHT, 0, 0, 2);
+    if bound <= 2 {
+        return Last { next, code, nought };
+    }
+    let stride = (next - first) / 2;
+    let distance = ((bound - 2) as u64) * (stride as u64);
+    Last {
+        next: repeated_steps(layout.threads, out, bound, first, stride, next),
+        code: further(code, first, distance),
+        nought: further(nought, first, distance),
     }
 }
 
 // ---- whole tables
 
-// How many records a table has. A step's size does not depend on where it starts, so that the first step, written nowhere, counts for all.
-fn size(set: &[u8], layout: Layout, points: Points, nexts: &[u8], map: &[u8], bound: u8) -> u32
-    requires { ⌜ (Limits layout points (replicate placesCount 0) 4) × (cells (now map) ≤ 128) × (bound ≤ 64) × (Nexts (setBy (now set) layout) (now nexts)) ⌝ }
-    ensures { λ r. ⌜ (r ≡ length (encodedOf (setBy (now (set .entry)) layout) (listed points) (now (map .entry)) bound)) × (r ≤ 24192775) ⌝ }
-{
-    let mut slots = [0u32; 5248];
-    let mut none = [0u8; 1];
-    let first = before_steps(set, layout, points, nexts, map, &mut slots, &mut none);
-    let second = one_step(set, layout, points, nexts, &mut slots, &mut none, 0, first);
-    first + (bound as u32) * (second - first) + 3
-}
-
-// Writes a table.
-fn write(
-    set: &[u8],
-    layout: Layout,
-    points: Points,
-    nexts: &[u8],
-    map: &[u8],
-    bound: u8,
-    table: &mut [u8],
-)
-    requires { ⌜ (Limits layout points (replicate placesCount 0) 4) × (cells (now map) ≤ 128) × (bound ≤ 64) × (Nexts (setBy (now set) layout) (now nexts)) ⌝ }
+// Writes a table that fits.
+fn write(set: &[u8], layout: Layout, points: Points, map: &[u8], bound: u8, table: &mut [u8])
+    requires { ⌜ (Limits layout points (replicate placesCount 0) 4) × (cells (now map) ≤ 128) × (bound ≤ 64)
+        × (16 * length (encodedOf (setBy (now set) layout) (listed points) (now map) bound) ≤ length (now table)) ⌝ }
     ensures { λ _. ⌜ now (table .exit) ≡ writtenAt (now (table .entry)) 0 (encodedOf (setBy (now (set .entry)) layout) (listed points) (now (map .entry)) bound) ⌝ }
-{
-    let mut slots = [0u32; 5248];
-    firsts(table);
-    let first = before_steps(set, layout, points, nexts, map, &mut slots, table);
-    let last = steps(set, layout, points, nexts, &mut slots, table, bound, first);
-    let code = places::place(&slots, CODE, 0, 0, 2);
-    let nought = places::place(&slots, NOUGHT, 0, 0, 2);
-    goal(table, last, code, nought);
-}
-
-// Writes a table whose steps are copies of a template.
-fn write_copies(
-    set: &[u8],
-    layout: Layout,
-    points: Points,
-    nexts: &[u8],
-    map: &[u8],
-    bound: u8,
-    table: &mut [u8],
-    owners: &[u32],
-    marks: &mut [u32],
-    places: &[u32],
-    template: &[u32],
-    made: Template,
-)
-    requires { ⌜ (Limits layout points (replicate placesCount 0) 4) × (cells (now map) ≤ 128) × (bound ≤ 64) × (Nexts (setBy (now set) layout) (now nexts))
-        × (made .records ≤ 400000) × (made .count ≤ length (now marks))
-        × (Prepared (setBy (now set) layout) (listed points)
-        (placesAfter same (placeOf (replicate placesCount 0)) 4 (starting (setBy (now set) layout) (listed points) ++ upto (mapDemand (now map)) (cells (now map))))
-        (now owners) (now marks) (now places) (now template) (made .from) (made .count) (made .records) (made .code) (made .nought)) ⌝ }
-    ensures { λ _. ⌜ now (table .exit) ≡ writtenAt (now (table .entry)) 0 (encodedOf (setBy (now (set .entry)) layout) (listed points) (now (map .entry)) bound) ⌝ }
-{
-    let mut slots = [0u32; 5248];
-    firsts(table);
-    let first = before_steps(set, layout, points, nexts, map, &mut slots, table);
-    let last = copied_steps(
-        layout.threads,
-        owners,
-        places,
-        template,
-        marks,
-        table,
-        made.from,
-        made.count,
-        made.records,
-        bound,
-        first,
-    );
-    let code = marks::number_at(marks, made.code) as u64;
-    let nought = marks::number_at(marks, made.nought) as u64;
-    goal(table, last, code, nought);
-}
-
-// How many records a table has whose first step starts at `first`, from the index after a step that starts at 512.
-fn total(first: u32, bound: u8, last: u32) -> u32
-    requires { ⌜ (first ≤ 9860) × (bound ≤ 64) × (512 ≤ last) × (last ≤ 378370) ⌝ }
-    ensures { λ r. ⌜ (r ≡ first + bound * (last - 512) + 3) × (r ≤ 24192775) ⌝ }
-{
-    first + (bound as u32) * (last - 512) + 3
-}
-
-// Writes a table, if it fits, and gives its size. One step, made in `bytes` and `template`, serves for all, unless it has more records than
-// they have room for: then each step is written for itself.
-fn fill(
-    set: &[u8],
-    layout: Layout,
-    points: Points,
-    nexts: &[u8],
-    map: &[u8],
-    bound: u8,
-    table: &mut [u8],
-    bytes: &mut [u8],
-    template: &mut [u32],
-) -> u32
-    requires { ⌜ (Limits layout points (replicate placesCount 0) 4) × (cells (now map) ≤ 128) × (bound ≤ 64) × (Nexts (setBy (now set) layout) (now nexts)) ⌝ }
-    ensures { λ r. ⌜ Filled (encodedOf (setBy (now (set .entry)) layout) (listed points) (now (map .entry)) bound) (now (table .entry)) (now (table .exit)) r ⌝ }
-{
-    let mut slots = [0u32; 5248];
-    let mut none = [0u8; 1];
-    let mut owners = [0u32; 512];
-    let mut marks = [0u32; 512];
-    let mut places = [512u32; 5248];
-    marks[1] = 1;
-    marks[2] = 2;
-    marks[3] = 3;
-    let first = before_steps(set, layout, points, nexts, map, &mut slots, &mut none);
-    let made = prepare(
-        set,
-        layout,
-        points,
-        nexts,
-        &slots,
-        &mut owners,
-        &mut marks,
-        &mut places,
-        bytes,
-        template,
-    );
-    let records = total(first, bound, made.last);
-    if table.len() < 16 * (records as usize) {
-        return records;
-    }
-    if made.usable {
-        write_copies(
-            set,
-            layout,
-            points,
-            nexts,
-            map,
-            bound,
-            table,
-            &owners,
-            &mut marks,
-            &places,
-            template,
-            made,
-        );
-        return records;
-    }
-    write(set, layout, points, nexts, map, bound, table);
-    records
-}
-
-// The same with room for a step of up to 512 records.
-fn fill_small(
-    set: &[u8],
-    layout: Layout,
-    points: Points,
-    nexts: &[u8],
-    map: &[u8],
-    bound: u8,
-    table: &mut [u8],
-) -> u32
-    requires { ⌜ (Limits layout points (replicate placesCount 0) 4) × (cells (now map) ≤ 128) × (bound ≤ 64) × (Nexts (setBy (now set) layout) (now nexts)) ⌝ }
-    ensures { λ r. ⌜ Filled (encodedOf (setBy (now (set .entry)) layout) (listed points) (now (map .entry)) bound) (now (table .entry)) (now (table .exit)) r ⌝ }
-{
-    let mut bytes = [0u8; 16384];
-    let mut template = [0u32; 2048];
-    fill(
-        set,
-        layout,
-        points,
-        nexts,
-        map,
-        bound,
-        table,
-        &mut bytes,
-        &mut template,
-    )
-}
-
-// The same with room for a step of up to 2,048 records.
-fn fill_large(
-    set: &[u8],
-    layout: Layout,
-    points: Points,
-    nexts: &[u8],
-    map: &[u8],
-    bound: u8,
-    table: &mut [u8],
-) -> u32
-    requires { ⌜ (Limits layout points (replicate placesCount 0) 4) × (cells (now map) ≤ 128) × (bound ≤ 64) × (Nexts (setBy (now set) layout) (now nexts)) ⌝ }
-    ensures { λ r. ⌜ Filled (encodedOf (setBy (now (set .entry)) layout) (listed points) (now (map .entry)) bound) (now (table .entry)) (now (table .exit)) r ⌝ }
-{
-    let mut bytes = [0u8; 40960];
-    let mut template = [0u32; 8192];
-    fill(
-        set,
-        layout,
-        points,
-        nexts,
-        map,
-        bound,
-        table,
-        &mut bytes,
-        &mut template,
-    )
-}
-
-// The same with room according to the number of statements: the less room is cleared, the sooner a small set is written.
-fn fill_by_length(
-    set: &[u8],
-    layout: Layout,
-    points: Points,
-    map: &[u8],
-    bound: u8,
-    table: &mut [u8],
-) -> u32
-    requires { ⌜ (Limits layout points (replicate placesCount 0) 4) × (cells (now map) ≤ 128) × (bound ≤ 64) ⌝ }
-    ensures { λ r. ⌜ Filled (encodedOf (setBy (now (set .entry)) layout) (listed points) (now (map .entry)) bound) (now (table .entry)) (now (table .exit)) r ⌝ }
 {
     let mut nexts = [0u8; 1188];
     links::nexts::make(set, layout, &mut nexts);
-    if set.len() < 128 {
-        return fill_small(set, layout, points, &nexts, map, bound, table);
-    }
-    fill_large(set, layout, points, &nexts, map, bound, table)
+    let mut slots = [0u32; 5248];
+    firsts(table);
+    let first = before_steps(set, layout, points, &nexts, map, &mut slots, table);
+    let last = all_steps(set, layout, points, &nexts, &mut slots, table, bound, first);
+    goal(table, last.next, last.code, last.nought);
 }
 
 // ---- the calls
@@ -1131,10 +844,10 @@ fn accepted_size(set: &[u8], layout: Layout, map: &[u8], bound: u64) -> Answer
         };
     }
     let points = checkpoints::points(set, layout);
-    let mut nexts = [0u8; 1188];
-    links::nexts::make(set, layout, &mut nexts);
-    let records = size(set, layout, points, &nexts, map, bound as u8);
-    Answer::Encoded { records }
+    let records = sizes::table_records(set, layout, points, map, bound as u8);
+    Answer::Encoded {
+        records: records as u32,
+    }
 }
 
 // The table once set and map are accepted.
@@ -1157,15 +870,17 @@ fn accepted_encode(set: &[u8], layout: Layout, map: &[u8], bound: u64, table: &m
     }
     let points = checkpoints::points(set, layout);
     let steps = bound as u8;
-    let room = table.len();
-    let records = fill_by_length(set, layout, points, map, steps, table);
-    if room < 16 * (records as usize) {
+    let records = sizes::table_records(set, layout, points, map, steps);
+    if (table.len() as u64) < 16 * records {
         return Answer::Refused {
             number: 11,
             place: 0,
         };
     }
-    Answer::Encoded { records }
+    write(set, layout, points, map, steps, table);
+    Answer::Encoded {
+        records: records as u32,
+    }
 }
 
 // How many records the table of a set, a map and a bound has.

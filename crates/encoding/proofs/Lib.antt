@@ -35,4 +35,3 @@ pub mod Walks
 pub mod WellFormed
 pub mod Writes
 pub mod Split
-pub mod Templates

@@ -12,6 +12,7 @@ use borrow.Author.Tests.{lt-ltb, le-ltb}
 use Rattle.base.proofs.Choice.{chosen, passed, and-left, and-right}
 use Rattle.records.specs.Sets.{Set}
 use Rattle.table.specs.declared.Formula.{Formula}
+use Rattle.table.specs.Repeats.{movedBy}
 use Rattle.table.specs.Programs.{leafFormula, unaryFormula, binaryFormula, ternaryFormula, constraint, goal, ref, leaf, unary, binary, ternary, next, root, records, put, Command, sets, needs, aims, upto, nextAfter, placesAfter, compiled}
 use Rattle.table.proofs.Sequences.{next-++, places-++, compiled-++, program-grows, program-shift}
 use Rattle.table.proofs.Renamed.{Renamed, renamed, AllClean, AllBounded, AllAlike, FromHere, places-related, compiled-alike, all-renamed, all-bounded}
@@ -85,16 +86,13 @@ cancel (x ∷ xs) ys zs e = cancel xs ys zs (ap tail e)
 
 -- ---- what lies further by one step
 
--- what lies before record `first` stays, the others lie `stride` records further
-abbrev pub movedBy : (first stride x : ℕ) → ℕ
-movedBy first stride x = cond (ltb x first) x (x + stride)
-
--- the same as two facts
+-- what `movedBy` says, as two facts
 pub record Moved (first stride x y : ℕ) : Type 0 where
   pub before : x < first → y ≡ x
   pub after : first ≤ x → y ≡ x + stride
 
 moved-is : (first stride x y : ℕ) → Moved first stride x y → y ≡ movedBy first stride x
+unfolding movedBy
 moved-is first stride x y h = elim (decLt x first) [
   | yes l ↦ h .before l ∙ sym (chosen x (x + stride) (lt-ltb x first l))
   | no l ↦ h .after (omega arith) ∙ sym (passed x (x + stride) (le-ltb x first (omega arith)))
@@ -223,6 +221,7 @@ module _ (S : Set) (cs : List ℕ) where
 
     -- d steps after the second
     pub far-ahead : (d : ℕ) (s : Slot) → steady s ≡ true → placesAt (d + 2) s ≡ movedBy first (d * stride) (placesAt 2 s)
+    unfolding movedBy
     far-ahead zero s still = moved-is first (0 * stride) (placesAt 2 s) (placesAt 2 s) (let e : 0 * stride ≡ 0 = omega arith in record { before = λ l. refl; after = λ l. omega arith })
     far-ahead (suc d) s still =
         let e : d + 2 ≡ suc (suc d) = omega arith in

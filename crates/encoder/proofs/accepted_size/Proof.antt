@@ -1,61 +1,47 @@
--- `encoder::accepted_size` meets its contract. Assumes nothing.
-use lib.ListN.{length}
-use denote.Ref.{now}
-use native.Mathlib.Omega.{arith}
-use mathlib.Core.Path.{ap, sym, _∙_}
 use borrow.Author.Needs.{needs}
-use Rattle.records.proofs.Maps.{few-cells}
-use Rattle.encoder.proofs.Accepted.{bound-zero, bound-large, bound-fits, limits-start, table-is}
-use Rattle.encoder.specs.declared.Answer.the-variants.{Encoded}
-use Rattle.encoder.specs.Answers.{sizeAnswer}
-use Rattle.records.specs.Sets.{setBy}
-use Rattle.links.proofs.Following.{nexts-none}
 use Rattle.encoder.proofs.accepted_size.Statement.{statement}
 use Rattle.encoder.proofs.accepted_size.Tie as tie
+use Rattle.encoder.proofs.accepted_size.Reads as reads
+use Rattle.encoder.proofs.accepted_size.Lts as lts
+use Rattle.checkpoints.proofs.points.Reads as points-reads
+use Rattle.sizes.proofs.table_records.Reads as table-records-reads
 
+-- src/lib.rt:835:9
 returns : tie.Need-returns
-unfolding sizeAnswer
-returns c =
-    let a = c .before .before .before .args in
-    let p = c .before .before .before .pre in
-    sym (bound-zero (now (a .set)) (now (a .map)) (a .bound) _ (p .0) (p .1) (c .if1 .taken))
+returns c = ?
 
+-- src/lib.rt:841:9
 returns-2 : tie.Need-returns-2
-unfolding sizeAnswer
-returns-2 c =
-    let a = c .before .before .before .before .args in
-    let p = c .before .before .before .before .pre in
-    sym (bound-large (now (a .set)) (now (a .map)) (a .bound) _ (p .0) (p .1) (c .if2 .taken))
+returns-2 c = ?
 
+-- src/lib.rt:846:9
 points-requires : tie.Need-points-requires
 points-requires c κs = search needs
 
-slice-aggregate-make : tie.Need-slice-aggregate-make
-slice-aggregate-make c = search needs
+-- src/lib.rt:847:66
+cast-table-records : tie.Need-cast-table-records
+cast-table-records c = search needs
 
-make-requires : tie.Need-make-requires
-make-requires c κs = search needs
+-- src/lib.rt:847:9
+table-records-requires : tie.Need-table-records-requires
+table-records-requires c κs = search needs
 
-slice-aggregate-size : tie.Need-slice-aggregate-size
-slice-aggregate-size c = search needs
+-- src/lib.rt:849:18
+cast-t9 : tie.Need-cast-t9
+cast-t9 c = ?
 
-cast-size : tie.Need-cast-size
-cast-size c = search needs
-
-size-requires : tie.Need-size-requires
-size-requires c κs =
-    let a = c .before .before .before .before .before .before .before .before .before .args in
-    let p = c .before .before .before .before .before .before .before .before .before .pre in
-    (limits-start (now (a .set)) (a .layout) (c .before .before .before .before .points .result) (p .0) (p .2) (c .before .before .before .before .points .ensures), few-cells 128 (now (a .map)) (p .1), omega arith, c .before .before .make .ensures .1 (nexts-none (setBy (now (a .set)) (a .layout)) 1188))
-
+-- src/lib.rt:830:1
 returns-3 : tie.Need-returns-3
-unfolding sizeAnswer
-returns-3 c =
-    let a = c .before .before .before .before .before .before .before .before .before .before .args in
-    let p = c .before .before .before .before .before .before .before .before .before .before .pre in
-    ap Encoded (c .size .ensures .0 ∙ ap length (table-is (now (a .set)) (a .layout) (c .before .before .before .before .before .points .result) (p .0) (p .2) (c .before .before .before .before .before .points .ensures) (now (a .map)) (a .bound)))
-    ∙ sym (bound-fits (now (a .set)) (now (a .map)) (a .bound) _ (p .0) (p .1) (c .before .before .before .before .before .before .before .if1 .left) (c .before .before .before .before .before .before .if2 .left))
+returns-3 c = ?
 
 pub accepted-size-spec : {M : Type 1} → statement M
 accepted-size-spec =
-    tie.close (tie.spec returns returns-2 points-requires slice-aggregate-make make-requires slice-aggregate-size cast-size size-requires returns-3)
+    tie.close
+    (tie.spec
+    returns
+    returns-2
+    points-requires
+    cast-table-records
+    table-records-requires
+    cast-t9
+    returns-3)

@@ -1,3 +1,0 @@
--- Laws of marks.
-pub mod Gives
-pub mod Moves
