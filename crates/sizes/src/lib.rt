@@ -22,18 +22,18 @@ use records::instructions::HALT;
 use records::instructions::JMP;
 use records::instructions::is_jump;
 
-// By instruction: the records of a direct statement, without those of the links that lead from it and that raise its mark.
-const OWN: [u64; 20] = [7, 6, 3, 8, 4, 8, 4, 8, 4, 2, 4, 4, 4, 4, 6, 8, 10, 3, 3, 2];
-
 // ---- statements
 
-// Those of instruction n.
+// The records of a direct statement of instruction n, without those of the links that lead from it and that raise its mark.
 fn own(n: u8) -> u64
     ensures { λ r. ⌜ (r ≡ ownRecords n) × (r ≤ 10) ⌝ }
 {
-    let i = n as usize;
-    if i < 20 {
-        return OWN[i];
+    if n < Statement::INSTRUCTIONS {
+        // From LOAD to CHECK. The bytes of a literal lie in the program: an array would be made anew for each statement.
+        return base::byte_at(
+            b"\x07\x06\x03\x08\x04\x08\x04\x08\x04\x02\x04\x04\x04\x04\x06\x08\x0a\x03\x03\x02",
+            n as usize,
+        ) as u64;
     }
     2
 }

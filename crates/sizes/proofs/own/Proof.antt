@@ -1,23 +1,30 @@
 -- `sizes::own` meets its contract. Assumes nothing.
 use Rattle.sizes.proofs.Parts.{own-at, own-few}
 use Rattle.sizes.specs.Sizes.{ownList}
-use lib.ListN.{length, List·getD-eq-default}
-use mathlib.Core.Path.{sym}
+use lib.ListN.{length, getD, List·getD-eq-default}
+use mathlib.Core.Path.{_≡_, sym, _∙_}
 use Prim.Native.Nat.{_≤_}
 use native.Mathlib.Omega.{arith}
 use borrow.Author.Needs.{needs}
 use Rattle.sizes.proofs.own.Statement.{statement}
 use Rattle.sizes.proofs.own.Tie as tie
 
-mul-result : tie.Need-mul-result
-mul-result c = search needs
+slice-aggregate-byte-at : tie.Need-slice-aggregate-byte-at
+slice-aggregate-byte-at c = search needs
 
-array-read-result : tie.Need-array-read-result
-array-read-result c = search needs
+byte-at-requires : tie.Need-byte-at-requires
+byte-at-requires c κs = search needs
+
+cast-result : tie.Need-cast-result
+cast-result c = search needs
 
 returns : tie.Need-returns
 unfolding ownList
-returns c = (own-at (c .before .args .n) (omega arith), own-few (c .before .args .n) (omega arith))
+returns c =
+    let a = c .before .before .before .args in
+    let e : c .byte-at .result ≡ getD ownList (a .n) 0 = c .byte-at .ensures in
+    let few = own-few (a .n) (omega arith) in
+    (e ∙ own-at (a .n) (omega arith), omega arith)
 
 returns-2 : tie.Need-returns-2
 unfolding ownList
@@ -26,4 +33,5 @@ returns-2 c =
     (sym (List·getD-eq-default ownList 2 h), omega arith)
 
 pub own-spec : {M : Type 1} → statement M
-own-spec = tie.close (tie.spec mul-result array-read-result returns returns-2)
+own-spec =
+    tie.close (tie.spec slice-aggregate-byte-at byte-at-requires cast-result returns returns-2)
