@@ -20,17 +20,22 @@ pub writes-none : (out slots : List ℕ) (n : ℕ) → Writes [] out slots n out
 unfolding writtenAt compiled placesAfter nextAfter
 writes-none out slots n = record { written = refl; places = refl; next = refl; slotsStay = refl }
 
+-- a program and then another, at any places
+pub written-cut : (P Q : List (Command Slot)) (places : Slot → ℕ) (out : List ℕ) (n : ℕ) (out1 : List ℕ) (n1 : ℕ) (out2 : List ℕ) →
+    out1 ≡ writtenAt out n (compiled same places n P) → n1 ≡ nextAfter same n P → out2 ≡ writtenAt out1 n1 (compiled same (placesAfter same places n P) n1 Q) →
+    out2 ≡ writtenAt out n (compiled same places n (P ++ Q))
+written-cut P Q places out n out1 n1 out2 p e q =
+    q ∙ ((λ i. writtenAt (p i) (e i) (compiled same (placesAfter same places n P) (e i) Q))
+    ∙ (ap (λ (m : ℕ). writtenAt (writtenAt out n (compiled same places n P)) m (compiled same (placesAfter same places n P) (nextAfter same n P) Q)) (sym (compiled-length same places n P))
+    ∙ (sym (written-++ out n (compiled same places n P) (compiled same (placesAfter same places n P) (nextAfter same n P) Q))
+    ∙ ap (writtenAt out n) (sym (compiled-++ same places n P Q)))))
+
 pub writes-++ : (P Q : List (Command Slot)) (out slots : List ℕ) (n : ℕ) (out1 slots1 : List ℕ) (n1 : ℕ) (out2 slots2 : List ℕ) (n2 : ℕ) →
     Writes P out slots n out1 slots1 n1 → Writes Q out1 slots1 n1 out2 slots2 n2 → Writes (P ++ Q) out slots n out2 slots2 n2
 writes-++ P Q out slots n out1 slots1 n1 out2 slots2 n2 p q =
     let places = placeOf slots in
-    let e : n + length (compiled same places n P) ≡ nextAfter same n P = compiled-length same places n P in
     record {
-      written = q .written
-          ∙ ((λ i. writtenAt (p .written i) (p .next i) (compiled same (p .places i) (p .next i) Q))
-          ∙ (ap (λ (m : ℕ). writtenAt (writtenAt out n (compiled same places n P)) m (compiled same (placesAfter same places n P) (nextAfter same n P) Q)) (sym e)
-          ∙ (sym (written-++ out n (compiled same places n P) (compiled same (placesAfter same places n P) (nextAfter same n P) Q))
-          ∙ ap (writtenAt out n) (sym (compiled-++ same places n P Q)))));
+      written = written-cut P Q places out n out1 n1 out2 (p .written) (p .next) (q .written ∙ ap (λ (f : Slot → ℕ). writtenAt out1 n1 (compiled same f n1 Q)) (p .places));
       places = q .places ∙ ((λ i. placesAfter same (p .places i) (p .next i) Q) ∙ sym (places-++ same places n P Q));
       next = q .next ∙ (ap (λ (m : ℕ). nextAfter same m Q) (p .next) ∙ sym (next-++ same n P Q));
       slotsStay = q .slotsStay ∙ p .slotsStay;
@@ -56,7 +61,7 @@ put-below places s v n m h le lt x = go (same x s)
     go true = lt
     go false = let k = h x in omega arith
 
-program-below : (P : List (Command Slot)) (places : Slot → ℕ) (n : ℕ) → ((x : Slot) → places x < n) → (x : Slot) → placesAfter same places n P x < nextAfter same n P
+pub program-below : (P : List (Command Slot)) (places : Slot → ℕ) (n : ℕ) → ((x : Slot) → places x < n) → (x : Slot) → placesAfter same places n P x < nextAfter same n P
 unfolding placesAfter nextAfter
 program-below [] places n h x = h x
 program-below (sets s t ∷ P) places n h x =

@@ -1,29 +1,35 @@
 -- A step that is written by repeating the one before it is the step of the table. Assumes nothing.
-use Prim.Native.Nat.{ℕ, zero, suc, _+_, _-_, _*_, _≤_, _<_}
+use Prim.Native.Nat.{ℕ, zero, suc, _+_, _-_, _*_, _/_, _≤_, _<_}
 use mathlib.Core.Path.{_≡_, refl, ap, sym, _∙_, subst}
-use mathlib.Core.Bool.{cond}
+use mathlib.Core.Bool.{true, cond}
 use mathlib.Core.List.{List, [], _∷_, _++_, map, append-assoc}
-use native.Mathlib.Nat.{suc-mul}
+use native.Mathlib.Nat.{suc-mul, mul-le-mul-right}
 use native.Mathlib.Numerals.{add-one}
 use native.Mathlib.Omega.{arith}
 use lib.Dec.{ltb}
-use lib.ListN.{length, length-append}
+use lib.ListN.{length, length-append, replicate}
 use Rattle.records.specs.Sets.{Set}
 use Rattle.table.specs.declared.Formula.{Formula}
 use Rattle.table.specs.Formulas.{writtenAt}
-use Rattle.table.specs.Programs.{choiceBit, leafFormula, upto, nextAfter, placesAfter, compiled}
+use Rattle.table.specs.Programs.{aims, choiceBit, leafFormula, upto, nextAfter, placesAfter, compiled}
 use Rattle.table.specs.Repeats.{movedBy, repeated, repeatedAt}
-use Rattle.table.proofs.Copied.{upto-length}
+use Rattle.table.proofs.Numbered.{upto-length}
 use Rattle.table.proofs.Renamed.{renamed, AllBounded}
 use Rattle.table.proofs.Repeated.{InRange, AllInRange, all-repeated-renamed, part-written}
 use Rattle.table.proofs.Sequences.{compiled-++, compiled-length, next-++, program-grows}
 use Rattle.table.proofs.Written.{written-++, written-length}
+use Rattle.encoding.specs.Encodings.{goalTree, firsts, encoded}
 use Rattle.encoding.specs.Slots.{Slot, same, code}
 use Rattle.encoding.specs.Steps.{only, step}
 use Rattle.encoding.proofs.Leaves.{AllOperate, rest-operates}
-use Rattle.encoding.proofs.Repeats.{stride as strideOf, both, afterChoices, step-next, step-size, step-records, placesAt, indexAt, index-at, limit, bounded, repeats}
+use Rattle.encoding.proofs.Repeats.{stride as strideOf, both, afterChoices, step-next, step-size, step-records, placesAt, indexAt, index-at, limit, bounded, repeats, far-ahead}
+use Rattle.encoding.proofs.Sources.{steady}
 use Rattle.encoding.proofs.Split.{chosenPlaces, rest, choiceLeaf}
-use Rattle.encoder.specs.Repeating.{Started, Stepped}
+use Rattle.places.specs.Places.{placeOf, size}
+use Rattle.encoder.specs.Pieces.{Writes}
+use Rattle.encoder.specs.Repeating.{Started, Stepped, Ended}
+use Rattle.encoder.proofs.Pieces.{written-cut}
+use Rattle.encoder.proofs.Sizes.{early, encoded-bytes, steps-end}
 
 -- ---- the records of a step
 
@@ -172,3 +178,82 @@ module _ (S : Set) (cs : List ℕ) (start : Slot → ℕ) (threads first stride 
             ∙ ((λ j. writtenAt (w .written j) (at j) (bits (suc i) ++ others (suc i)))
             ∙ (sym (written-++ out first (all (suc i)) (bits (suc i) ++ others (suc i)))
             ∙ ap (writtenAt out first) (sym (one-more (suc i)))))))
+
+  -- as the code has it: the choice bits by the number of threads, the step by its number
+  pub repeated-next : (k : ℕ) → 2 ≤ k → (out now begun after : List ℕ) (n : ℕ) → Stepped S cs start first k out now n →
+      begun ≡ writtenAt now n (upto (λ j. leafFormula (cond (ltb j threads) (choiceBit k 0 j) (choiceBit k 1 (j - threads))) ∷ []) (threads + threads)) →
+      after ≡ repeatedAt begun (n + 2 * threads) (stride - 2 * threads) first stride →
+      16 * (n + stride) ≤ length out → n + stride ≤ 2000000000 → Stepped S cs start first (k + 1) out after (n + stride)
+  repeated-next zero h out now begun after n w e f room small = absurd (omega arith)
+  repeated-next (suc zero) h out now begun after n w e f room small = absurd (omega arith)
+  repeated-next (suc (suc k)) h out now begun after n w e f room small =
+      let twice : 2 * threads ≡ threads + threads = omega arith in
+      let named : begun ≡ writtenAt now n (bits (suc (suc k))) =
+      e ∙ ap (λ (T : ℕ). writtenAt now n (upto (λ j. leafFormula (cond (ltb j T) (choiceBit (suc (suc k)) 0 j) (choiceBit (suc (suc k)) 1 (j - T))) ∷ []) (T + T))) (sym (s .threadsAre)) in
+      subst (λ (m : ℕ). Stepped S cs start first m out after (n + stride)) (sym (add-one (suc (suc k))))
+      (repeated-more k out now n w begun after named (f ∙ ap (λ (b : ℕ). repeatedAt begun (n + b) (stride - b) first stride) twice) room small)
+
+  -- there is room for one step more
+  pub room-more : (k bound n size : ℕ) (out now : List ℕ) → Stepped S cs start first k out now n → k < bound → 16 * (first + bound * stride) ≤ size → 16 * (n + stride) ≤ size
+  room-more k bound n size out now w l h =
+      let e = w .next in
+      let f = starts k in
+      let g = suc-mul k stride in
+      let m : suc k * stride ≤ bound * stride = mul-le-mul-right stride l in
+      omega arith
+
+-- ---- all steps
+
+-- what two steps say of the size of one
+two-steps : (S : Set) (cs : List ℕ) (start : Slot → ℕ) (first next : ℕ) → next ≡ nextAfter same first (upto (step S cs) 2) → ((s : Slot) → start s < first) → next ≡ first + (strideOf S cs + strideOf S cs)
+two-steps S cs start first next e low = let f = index-at S cs start first low 2 in let g : 2 * strideOf S cs ≡ strideOf S cs + strideOf S cs = omega arith in omega arith
+
+pub two-steps-room : (S : Set) (cs : List ℕ) (start : Slot → ℕ) (first next : ℕ) → next ≡ nextAfter same first (upto (step S cs) 2) → ((s : Slot) → start s < first) → first + 4 * S .threads ≤ next
+two-steps-room S cs start first next e low =
+    let f = two-steps S cs start first next e low in
+    let g = bits-fit S cs start (S .threads) first (strideOf S cs) (record { threadsAre = refl; low = low; strideIs = λ m k. step-size S cs k m }) in
+    omega arith
+
+pub two-steps-started : (S : Set) (cs : List ℕ) (start : Slot → ℕ) (threads first next : ℕ) → next ≡ nextAfter same first (upto (step S cs) 2) → S .threads ≡ threads → ((s : Slot) → start s < first) →
+    Started S cs start threads first ((next - first) / 2)
+two-steps-started S cs start threads first next e t low =
+    let f = two-steps S cs start first next e low in
+    let g : (next - first) / 2 ≡ strideOf S cs = omega arith in
+    record { threadsAre = t; low = low; strideIs = λ m k. let h = step-size S cs k m in omega arith }
+
+module _ (S : Set) (cs : List ℕ) (start : Slot → ℕ) (threads first stride : ℕ) (s : Started S cs start threads first stride) (bound : ℕ) (late : 2 ≤ bound) where
+  -- where a value that stays lies after the last step
+  pub last-place : (x : Slot) → steady x ≡ true → (at : ℕ) → at ≡ placesAfter same start first (upto (step S cs) 2) x →
+      movedBy first ((bound - 2) * stride) at ≡ placesAfter same start first (upto (step S cs) bound) x
+  last-place x still at e =
+      let d : bound - 2 + 2 ≡ bound = omega arith in
+      ap (movedBy first ((bound - 2) * stride)) e
+      ∙ (ap (λ (m : ℕ). movedBy first ((bound - 2) * m) (placesAfter same start first (upto (step S cs) 2) x)) (sym (stride-is S cs start threads first stride s))
+      ∙ (sym (far-ahead S cs start first (s .low) (bound - 2) x still) ∙ ap (λ (k : ℕ). placesAfter same start first (upto (step S cs) k) x) d))
+
+  -- the room that the steps need
+  pub steps-room : (size : ℕ) → 16 * nextAfter same first (upto (step S cs) bound) ≤ size → 16 * (first + bound * stride) ≤ size
+  steps-room size h = let e = starts S cs start threads first stride s bound in omega arith
+
+-- ---- the whole table
+
+pub encoded-ended : (S : Set) (cs map : List ℕ) (bound : ℕ) (out begun out1 slots1 : List ℕ) (first : ℕ) (out2 : List ℕ) (next codeAt noughtAt : ℕ) (out3 : List ℕ) →
+    begun ≡ writtenAt out 0 firsts → Writes (early S cs map) begun (replicate size 0) 4 out1 slots1 first → Ended S cs (placeOf slots1) first bound out1 out2 next codeAt noughtAt →
+    out3 ≡ writtenAt out2 next (compiled same (placesAfter same (placeOf slots1) first (upto (step S cs) bound)) next (aims goalTree ∷ [])) →
+    out3 ≡ writtenAt out 0 (encoded S cs map bound)
+encoded-ended S cs map bound out begun out1 slots1 first out2 next codeAt noughtAt out3 b w e g =
+    let rest = upto (step S cs) bound ++ (aims goalTree ∷ []) in
+    encoded-bytes S cs map bound out begun out3 b
+    (written-cut (early S cs map) rest (placeOf (replicate size 0)) begun 4 out1 first out3 (w .written) (w .next)
+    (written-cut (upto (step S cs) bound) (aims goalTree ∷ []) (placeOf slots1) out1 first out2 next out3 (e .stepped .written) (e .stepped .next) g
+    ∙ ap (λ (f : Slot → ℕ). writtenAt out1 first (compiled same f first rest)) (w .places)))
+
+-- the bytes that the steps need are there
+pub ended-room : (S : Set) (cs map : List ℕ) (bound : ℕ) (out begun out1 slots1 : List ℕ) (first : ℕ) →
+    begun ≡ writtenAt out 0 firsts → Writes (early S cs map) begun (replicate size 0) 4 out1 slots1 first → 16 * length (encoded S cs map bound) ≤ length out →
+    16 * nextAfter same first (upto (step S cs) bound) ≤ length out1
+ended-room S cs map bound out begun out1 slots1 first b w room =
+    let e = steps-end S cs map bound first (w .next) in
+    let f = ap length b ∙ written-length out 0 firsts in
+    let g = ap length (w .written) ∙ written-length begun 4 (compiled same (placeOf (replicate size 0)) 4 (early S cs map)) in
+    omega arith

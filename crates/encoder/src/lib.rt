@@ -771,7 +771,51 @@ struct Last {
     nought: u64,
 }
 
-// Writes the steps. The third and those after it repeat the one before.
+// Writes steps for themselves.
+fn few_steps(
+    set: &[u8],
+    layout: Layout,
+    points: Points,
+    nexts: &[u8],
+    slots: &mut [u32],
+    out: &mut [u8],
+    bound: u8,
+    first: u32,
+) -> Last
+    requires { ⌜ (Limits layout points (now slots) first) × (first ≤ 10000) × (bound ≤ 64) × (Nexts (setBy (now set) layout) (now nexts)) ⌝ }
+    ensures { λ r. ⌜ (Ended (setBy (now (set .entry)) layout) (listed points) (placeOf (now (slots .entry))) first bound
+        (now (out .entry)) (now (out .exit)) (r .next) (r .code) (r .nought))
+        × (r .next ≤ 25000000) ⌝ }
+{
+    let next = steps(set, layout, points, nexts, slots, out, bound, first);
+    Last {
+        next,
+        code: places::place(slots, CODE, 0, 0, 2),
+        nought: places::place(slots, NOUGHT, 0, 0, 2),
+    }
+}
+
+// Writes the steps after the second, which repeat the one before.
+fn later_steps(threads: u8, out: &mut [u8], bound: u8, first: u32, second: Last) -> Last
+    requires { ⌜ (threads ≤ 4) × (2 ≤ bound) × (bound ≤ 64) × (first + 4 * threads ≤ second .next) × (second .next ≤ 25000000)
+        × (second .code ≤ 4294967296) × (second .nought ≤ 4294967296) ⌝ }
+    ensures { λ r. ⌜ ((S : Set) (cs : List ℕ) (start : Slot → ℕ) (begun : List ℕ) → S .threads ≡ threads → ((s : Slot) → start s < first)
+        → 16 * nextAfter same first (upto (stepOf S cs) bound) ≤ length begun
+        → Ended S cs start first 2 begun (now (out .entry)) (second .next) (second .code) (second .nought)
+        → Ended S cs start first bound begun (now (out .exit)) (r .next) (r .code) (r .nought))
+        × (r .next ≤ 900000000) ⌝ }
+{
+    let next = second.next;
+    let stride = (next - first) / 2;
+    let distance = ((bound - 2) as u64) * (stride as u64);
+    Last {
+        next: repeated_steps(threads, out, bound, first, stride, next),
+        code: further(second.code, first, distance),
+        nought: further(second.nought, first, distance),
+    }
+}
+
+// Writes the steps.
 fn all_steps(
     set: &[u8],
     layout: Layout,
@@ -788,23 +832,11 @@ fn all_steps(
         (now (out .entry)) (now (out .exit)) (r .next) (r .code) (r .nought))
         × (r .next ≤ 900000000) ⌝ }
 {
-    let mut early = bound;
-    if 2 < bound {
-        early = 2;
-    }
-    let next = steps(set, layout, points, nexts, slots, out, early, first);
-    let code = places::place(slots, CODE, 0, 0, 2);
-    let nought = places::place(slots, NOUGHT, 0, 0, 2);
     if bound <= 2 {
-        return Last { next, code, nought };
+        return few_steps(set, layout, points, nexts, slots, out, bound, first);
     }
-    let stride = (next - first) / 2;
-    let distance = ((bound - 2) as u64) * (stride as u64);
-    Last {
-        next: repeated_steps(layout.threads, out, bound, first, stride, next),
-        code: further(code, first, distance),
-        nought: further(nought, first, distance),
-    }
+    let second = few_steps(set, layout, points, nexts, slots, out, 2, first);
+    later_steps(layout.threads, out, bound, first, second)
 }
 
 // ---- whole tables

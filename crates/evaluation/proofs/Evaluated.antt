@@ -12,12 +12,12 @@ use lib.Seq.{drop-cons}
 use Rattle.base.specs.Bytes.{over}
 use Rattle.base.proofs.Bytes.{length-over}
 use Rattle.base.proofs.Choice.{chosen, passed}
-use Rattle.table.specs.Formulas.{tableBytes}
+use Rattle.table.specs.Formulas.{formulaAt, tableBytes}
 use Rattle.table.specs.Tables.{allFormed}
 use Rattle.table.specs.Values.{Assignment, Value, nil, asBit, asWord, valueOf, valuesOf, isDemand}
 use Rattle.table.specs.declared.Formula.{Formula}
 use Rattle.decoding.specs.Models.{firstFalse}
-use Rattle.evaluation.specs.Evaluations.{formulaAt, formulaIn, valueIn, stored, noFormula, isFalse, cellIn, wordIn, falseFrom, falseIn}
+use Rattle.evaluation.specs.Evaluations.{formulaIn, valueIn, stored, noFormula, isFalse, cellIn, wordIn, falseFrom, falseIn}
 use Rattle.evaluation.proofs.Parsed.{table-parsed, stored-records, stored-there, stored-elsewhere, stored-length}
 use Rattle.evaluation.proofs.Tables.{recordAt, sortAt, SmallChoices, views, agree-from, bits, cells}
 use Rattle.evaluation.proofs.Views.{View}

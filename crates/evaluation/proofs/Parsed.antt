@@ -7,9 +7,9 @@ use native.Mathlib.Omega.{arith}
 use lib.ListN.{length, getD, set, length-set}
 use lib.Seq.{getD-append-add, getD-set-same, getD-set-other}
 use Rattle.base.specs.Bytes.{wordAt}
-use Rattle.table.specs.Formulas.{formulaBytes, tableBytes}
+use Rattle.table.specs.Formulas.{formulaAt, formulaBytes, tableBytes}
 use Rattle.table.specs.declared.Formula.{Formula}
-use Rattle.evaluation.specs.Evaluations.{formulaAt, stored}
+use Rattle.evaluation.specs.Evaluations.{stored}
 use Rattle.evaluation.proofs.Tables.{recordAt}
 use Rattle.evaluation.proofs.Views.{Small}
 

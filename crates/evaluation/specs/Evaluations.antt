@@ -8,26 +8,12 @@ use lib.ListN.{length, getD, set}
 use Rattle.base.specs.Bytes.{wordAt}
 use Rattle.base.specs.Words.{plus, minus, times, topBit}
 use Rattle.records.specs.Maps.{mapValue}
-use Rattle.table.specs.Formulas.{CHOICE, CONSTANT, NOT, AND, OR, EQUAL, IF, PLUS, MINUS, TIMES, READ, WRITE, TOP}
+use Rattle.table.specs.Formulas.{formulaAt, CHOICE, CONSTANT, NOT, AND, OR, EQUAL, IF, PLUS, MINUS, TIMES, READ, WRITE, TOP}
 use Rattle.table.specs.Values.{Assignment, isDemand}
 use Rattle.table.specs.declared.Formula.{Formula}
 use Rattle.decoding.specs.Models.{assigned}
 
 -- ---- records in bytes
-
--- the index whose four bytes stand from byte i on, low byte first
-abbrev pub longAt : List ℕ → ℕ → ℕ
-longAt s i = getD s i 0 + 256 * getD s (i + 1) 0 + 65536 * getD s (i + 2) 0 + 16777216 * getD s (i + 3) 0
-
-unfoldable pub formulaAt : List ℕ → ℕ → Formula
-formulaAt s i = record {
-  operation = getD s (16 * i) 0;
-  sort = getD s (16 * i + 1) 0;
-  constant = wordAt s (16 * i + 2);
-  a = longAt s (16 * i + 4);
-  b = longAt s (16 * i + 8);
-  c = longAt s (16 * i + 12);
-}
 
 -- no operation, past the last record
 abbrev pub noFormula : Formula

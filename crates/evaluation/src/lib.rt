@@ -5,8 +5,9 @@ ghost use Prim.Native.Nat.{_+_, _*_, _≤_, _<_};
 ghost use lib.ListN.{length};
 ghost use Rattle.base.specs.Bytes.{wordAt};
 ghost use Rattle.records.specs.Maps.{mapValue};
+ghost use Rattle.table.specs.Formulas.{longAt};
 ghost use Rattle.decoding.specs.Models.{assigned};
-ghost use Rattle.evaluation.specs.Evaluations.{longAt, formulaIn, valueIn, stored, memoryBehind, cellBack, wordIn, isFalse, givenBy, falseIn};
+ghost use Rattle.evaluation.specs.Evaluations.{formulaIn, valueIn, stored, memoryBehind, cellBack, wordIn, isFalse, givenBy, falseIn};
 use table::Formula;
 
 // The word whose two bytes stand from index at on.

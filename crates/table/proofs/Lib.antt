@@ -3,11 +3,9 @@ pub mod Sequences
 pub mod Renamed
 pub mod Meaning
 pub mod Written
-pub mod Copied
-mod Stored
+pub mod Numbered
 pub mod Sorted
 pub mod Counted
 pub mod Ordered
 pub mod Read
-pub mod Loads
 pub mod Repeated

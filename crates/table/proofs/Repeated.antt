@@ -9,10 +9,9 @@ use lib.Dec.{leb, ltb}
 use lib.ListN.{length, getD}
 use borrow.Author.Tests.{leb-true, le-leb}
 use Rattle.base.proofs.Choice.{chosen, passed, and-true, and-left, and-right}
-use Rattle.table.specs.Copies.{longAt}
-use Rattle.table.specs.Repeats.{movedBy, recordAt, repeated, repeatable, repeatedAt}
+use Rattle.table.specs.Repeats.{movedBy, repeated, repeatable, repeatedAt}
 use Rattle.table.specs.declared.Formula.{Formula}
-use Rattle.table.specs.Formulas.{formulaBytes, writtenAt}
+use Rattle.table.specs.Formulas.{formulaBytes, writtenAt, longAt, formulaAt}
 use Rattle.table.specs.Programs.{upto}
 use Rattle.table.proofs.Read.{written-before, read-record, read-long}
 use Rattle.table.proofs.Renamed.{renamed, Bounded, AllBounded}
@@ -73,8 +72,8 @@ module _ (xs ys : List ℕ) (limit : ℕ) (same : (k : ℕ) → k < limit → ge
   same-long i h = λ z.
       same i (omega arith) z + 256 * same (i + 1) (omega arith) z + 65536 * same (i + 2) (omega arith) z + 16777216 * same (i + 3) (omega arith) z
 
-  same-record : (i : ℕ) → 16 * i + 15 < limit → recordAt xs i ≡ recordAt ys i
-  unfolding recordAt
+  same-record : (i : ℕ) → 16 * i + 15 < limit → formulaAt xs i ≡ formulaAt ys i
+  unfolding formulaAt
   same-record i h = λ z. record {
     operation = same (16 * i) (omega arith) z;
     sort = same (16 * i + 1) (omega arith) z;
@@ -85,7 +84,7 @@ module _ (xs ys : List ℕ) (limit : ℕ) (same : (k : ℕ) → k < limit → ge
   }
 
 -- a record before those that are written
-pub record-before : (out : List ℕ) (n : ℕ) (table : List Formula) (i : ℕ) → i < n → recordAt (writtenAt out n table) i ≡ recordAt out i
+pub record-before : (out : List ℕ) (n : ℕ) (table : List Formula) (i : ℕ) → i < n → formulaAt (writtenAt out n table) i ≡ formulaAt out i
 record-before out n table i h = same-record (writtenAt out n table) out (16 * n) (written-before out n table) i (omega arith)
 
 -- the fields of a record fit into its bytes
@@ -139,8 +138,8 @@ module _ (none : Formula) (out : List ℕ) (n : ℕ) (table : List Formula) (fit
   operand i y p q r s h = (λ z. p z + 256 * q z + 65536 * r z + 16777216 * s z) ∙ read-long y h
 
   -- a record that was written is read back
-  pub record-read : InRange x → recordAt bytes (n + j) ≡ x
-  unfolding recordAt formulaBytes
+  pub record-read : InRange x → formulaAt bytes (n + j) ≡ x
+  unfolding formulaAt formulaBytes
   record-read r =
       let operation : getD bytes at 0 ≡ x .operation = byte at 0 (omega arith) (omega arith) in
       let sort : getD bytes (at + 1) 0 ≡ x .sort = byte (at + 1) 1 refl (omega arith) in
@@ -171,7 +170,7 @@ module _ (size at count stride : ℕ) where
 module _ (out : List ℕ) (at count first stride : ℕ) where
   -- where there is room the records are repeated
   pub repeats : count ≤ stride → stride ≤ at → at + count ≤ 2000000000 → 16 * (at + count) ≤ length out →
-      repeatedAt out at count first stride ≡ writtenAt out at (upto (λ j. repeated first stride (recordAt out (at - stride + j)) ∷ []) count)
+      repeatedAt out at count first stride ≡ writtenAt out at (upto (λ j. repeated first stride (formulaAt out (at - stride + j)) ∷ []) count)
   unfolding repeatedAt
   repeats p q r s = chosen _ _ (room-repeatable (length out) at count stride p q r s)
 
@@ -211,16 +210,16 @@ module _ (start out : List ℕ) (n e : ℕ) (before part after : List Formula)
       ∙ (ap (λ (m : ℕ). writtenAt (writtenAt start n before) m (part ++ after)) (sym from)
       ∙ written-++ (writtenAt start n before) e part after))
 
-  pub part-read : (none : Formula) (j : ℕ) → j < length part → recordAt out (e + j) ≡ getD part j none
+  pub part-read : (none : Formula) (j : ℕ) → j < length part → formulaAt out (e + j) ≡ getD part j none
   part-read none j h =
       let kept = written-length start n before in
-      ap (λ (l : List ℕ). recordAt l (e + j)) cut
+      ap (λ (l : List ℕ). formulaAt l (e + j)) cut
       ∙ (record-before (writtenAt (writtenAt start n before) e part) (e + length part) after (e + j) (omega arith)
       ∙ record-read none (writtenAt start n before) e part (omega arith) j h (in-range-at none part j range h))
 
-  pub part-repeated : (first stride : ℕ) → upto (λ j. repeated first stride (recordAt out (e + j)) ∷ []) (length part) ≡ map (repeated first stride) part
+  pub part-repeated : (first stride : ℕ) → upto (λ j. repeated first stride (formulaAt out (e + j)) ∷ []) (length part) ≡ map (repeated first stride) part
   part-repeated first stride =
-      upto-map blank (λ j. repeated first stride (recordAt out (e + j))) (repeated first stride) part (λ j h. ap (repeated first stride) (part-read blank j h))
+      upto-map blank (λ j. repeated first stride (formulaAt out (e + j))) (repeated first stride) part (λ j h. ap (repeated first stride) (part-read blank j h))
 
   -- what the code writes where the part lies `stride` before record `at`
   pub part-written : (at first stride : ℕ) → at ≡ e + stride → length part ≤ stride → at + length part ≤ 2000000000 → 16 * (at + length part) ≤ length start →
@@ -230,7 +229,7 @@ module _ (start out : List ℕ) (n e : ℕ) (before part after : List Formula)
       let here : at - stride ≡ e = omega arith in
       repeats out at (length part) first stride p (omega arith) q (omega arith)
       ∙ ap (writtenAt out at)
-      (ap (λ (m : ℕ). upto (λ j. repeated first stride (recordAt out (m + j)) ∷ []) (length part)) here ∙ part-repeated first stride)
+      (ap (λ (m : ℕ). upto (λ j. repeated first stride (formulaAt out (m + j)) ∷ []) (length part)) here ∙ part-repeated first stride)
 
 -- the same of the table's last records
 module _ (start out : List ℕ) (n e : ℕ) (before last : List Formula) (written : out ≡ writtenAt start n (before ++ last)) (from : e ≡ n + length before)
@@ -238,8 +237,8 @@ module _ (start out : List ℕ) (n e : ℕ) (before last : List Formula) (writte
   none-after : out ≡ writtenAt start n (before ++ (last ++ []))
   none-after = written ∙ ap (λ (l : List Formula). writtenAt start n (before ++ l)) (sym (append-nil last))
 
-  pub last-read : (none : Formula) (j : ℕ) → j < length last → recordAt out (e + j) ≡ getD last j none
+  pub last-read : (none : Formula) (j : ℕ) → j < length last → formulaAt out (e + j) ≡ getD last j none
   last-read = part-read start out n e before last [] none-after from fits range
 
-  pub last-repeated : (first stride : ℕ) → upto (λ j. repeated first stride (recordAt out (e + j)) ∷ []) (length last) ≡ map (repeated first stride) last
+  pub last-repeated : (first stride : ℕ) → upto (λ j. repeated first stride (formulaAt out (e + j)) ∷ []) (length last) ≡ map (repeated first stride) last
   last-repeated = part-repeated start out n e before last [] none-after from fits range

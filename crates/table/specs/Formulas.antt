@@ -1,7 +1,8 @@
 -- Formula records: their operations and sorts, and their bytes (document 01, "Records"). Assumes nothing.
-use Prim.Native.Nat.{ℕ, suc, _*_, _/_, _%_}
-use Rattle.base.specs.Bytes.{placed}
+use Prim.Native.Nat.{ℕ, suc, _+_, _*_, _/_, _%_}
 use mathlib.Core.List.{List, [], _∷_, _++_}
+use lib.ListN.{getD}
+use Rattle.base.specs.Bytes.{placed, wordAt}
 use Rattle.table.specs.declared.Formula.{Formula}
 
 -- ---- sorts: 1 bit, 2 word, 3 memory, 0 none
@@ -88,3 +89,20 @@ tableBytes (f ∷ table) = formulaBytes f ++ tableBytes table
 unfoldable pub writtenAt : List ℕ → ℕ → List Formula → List ℕ
 writtenAt out n [] = out
 writtenAt out n (f ∷ table) = writtenAt (placed out (16 * n) (formulaBytes f)) (suc n) table
+
+-- ---- records in bytes
+
+-- the index whose four bytes stand from byte i on, low byte first
+abbrev pub longAt : List ℕ → ℕ → ℕ
+longAt bytes i = getD bytes i 0 + 256 * getD bytes (i + 1) 0 + 65536 * getD bytes (i + 2) 0 + 16777216 * getD bytes (i + 3) 0
+
+-- record i of a table's bytes
+unfoldable pub formulaAt : List ℕ → ℕ → Formula
+formulaAt bytes i = record {
+  operation = getD bytes (16 * i) 0;
+  sort = getD bytes (16 * i + 1) 0;
+  constant = wordAt bytes (16 * i + 2);
+  a = longAt bytes (16 * i + 4);
+  b = longAt bytes (16 * i + 8);
+  c = longAt bytes (16 * i + 12);
+}

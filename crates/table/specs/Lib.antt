@@ -3,5 +3,4 @@ pub mod Formulas
 pub mod Programs
 pub mod Tables
 pub mod Values
-pub mod Copies
 pub mod Repeats

@@ -3,27 +3,14 @@ use Prim.Native.Nat.{ℕ, _+_, _-_, _*_}
 use mathlib.Core.Bool.{Bool, cond, _&&_}
 use mathlib.Core.List.{List, [], _∷_}
 use lib.Dec.{leb, ltb}
-use lib.ListN.{length, getD}
-use Rattle.base.specs.Bytes.{wordAt}
-use Rattle.table.specs.Copies.{longAt}
+use lib.ListN.{length}
 use Rattle.table.specs.declared.Formula.{Formula}
-use Rattle.table.specs.Formulas.{writtenAt}
+use Rattle.table.specs.Formulas.{formulaAt, writtenAt}
 use Rattle.table.specs.Programs.{upto}
 
 -- what lies before record `first` stays, the others lie `stride` records further
 unfoldable pub movedBy : (first stride x : ℕ) → ℕ
 movedBy first stride x = cond (ltb x first) x (x + stride)
-
--- record i of a table's bytes
-unfoldable pub recordAt : List ℕ → ℕ → Formula
-recordAt bytes i = record {
-  operation = getD bytes (16 * i) 0;
-  sort = getD bytes (16 * i + 1) 0;
-  constant = wordAt bytes (16 * i + 2);
-  a = longAt bytes (16 * i + 4);
-  b = longAt bytes (16 * i + 8);
-  c = longAt bytes (16 * i + 12);
-}
 
 -- a record with its operands moved; the operations up to 3 have none
 unfoldable pub repeated : (first stride : ℕ) → Formula → Formula
@@ -45,4 +32,4 @@ repeatable size at count stride = leb count stride && leb stride at && leb (at +
 unfoldable pub repeatedAt : (out : List ℕ) (at count first stride : ℕ) → List ℕ
 repeatedAt out at count first stride =
     cond (repeatable (length out) at count stride)
-    (writtenAt out at (upto (λ j. repeated first stride (recordAt out (at - stride + j)) ∷ []) count)) out
+    (writtenAt out at (upto (λ j. repeated first stride (formulaAt out (at - stride + j)) ∷ []) count)) out

@@ -4,7 +4,6 @@ ghost use Prim.Native.Nat.{_*_};
 ghost use Rattle.base.specs.Bytes.{placed};
 ghost use Rattle.table.specs.Formulas.{formulaBytes};
 
-pub mod copies;
 pub mod repeats;
 
 // A formula record; operands that an operation does not use are 0. A record holds 32 bits of each operand; the fields are wider, so

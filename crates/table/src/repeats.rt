@@ -4,8 +4,8 @@ ghost use mathlib.Core.Bool.{cond};
 ghost use Prim.Native.Nat.{_+_, _*_, _≤_, _<_};
 ghost use lib.Dec.{ltb};
 ghost use lib.ListN.{length};
-ghost use Rattle.table.specs.Copies.{longAt};
-ghost use Rattle.table.specs.Repeats.{movedBy, recordAt, repeated, repeatable, repeatedAt};
+ghost use Rattle.table.specs.Formulas.{longAt, formulaAt};
+ghost use Rattle.table.specs.Repeats.{movedBy, repeated, repeatable, repeatedAt};
 use crate::Formula;
 
 // The number of two bytes, low byte first.
@@ -53,7 +53,7 @@ fn distance(operation: u8, stride: u32) -> u32
 // Record n with its operands moved: by 0 where it has none, so that no branch has to be guessed.
 fn moved_record(bytes: &[u8], n: u32, first: u32, stride: u32) -> Formula
     requires { ⌜ 16 * n + 16 ≤ length (now bytes) ⌝ }
-    ensures { λ r. ⌜ r ≡ repeated first stride (recordAt (now (bytes .entry)) n) ⌝ }
+    ensures { λ r. ⌜ r ≡ repeated first stride (formulaAt (now (bytes .entry)) n) ⌝ }
 {
     let i = 16 * (n as usize);
     let operation = bytes[i];

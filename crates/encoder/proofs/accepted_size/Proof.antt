@@ -1,38 +1,56 @@
+-- `encoder::accepted_size` meets its contract. Assumes nothing.
+use denote.Ref.{now}
+use lib.ListN.{length}
+use mathlib.Core.Path.{ap, sym, _∙_}
+use native.Mathlib.Omega.{arith}
 use borrow.Author.Needs.{needs}
+use Rattle.records.proofs.Maps.{few-cells}
+use Rattle.encoder.specs.Answers.{sizeAnswer}
+use Rattle.encoder.specs.declared.Answer.the-variants.{Encoded}
+use Rattle.encoder.proofs.Accepted.{bound-zero, bound-large, bound-fits, limits-start, table-is}
 use Rattle.encoder.proofs.accepted_size.Statement.{statement}
 use Rattle.encoder.proofs.accepted_size.Tie as tie
-use Rattle.encoder.proofs.accepted_size.Reads as reads
-use Rattle.encoder.proofs.accepted_size.Lts as lts
-use Rattle.checkpoints.proofs.points.Reads as points-reads
-use Rattle.sizes.proofs.table_records.Reads as table-records-reads
 
--- src/lib.rt:835:9
 returns : tie.Need-returns
-returns c = ?
+unfolding sizeAnswer
+returns c =
+    let a = c .before .before .before .args in
+    let p = c .before .before .before .pre in
+    sym (bound-zero (now (a .set)) (now (a .map)) (a .bound) _ (p .0) (p .1) (c .if1 .taken))
 
--- src/lib.rt:841:9
 returns-2 : tie.Need-returns-2
-returns-2 c = ?
+unfolding sizeAnswer
+returns-2 c =
+    let a = c .before .before .before .before .args in
+    let p = c .before .before .before .before .pre in
+    sym (bound-large (now (a .set)) (now (a .map)) (a .bound) _ (p .0) (p .1) (c .if2 .taken))
 
--- src/lib.rt:846:9
 points-requires : tie.Need-points-requires
 points-requires c κs = search needs
 
--- src/lib.rt:847:66
 cast-table-records : tie.Need-cast-table-records
 cast-table-records c = search needs
 
--- src/lib.rt:847:9
 table-records-requires : tie.Need-table-records-requires
 table-records-requires c κs = search needs
 
--- src/lib.rt:849:18
 cast-t9 : tie.Need-cast-t9
-cast-t9 c = ?
+cast-t9 c =
+    let a = c .before .before .before .before .before .before .args in
+    let p = c .before .before .before .before .before .before .pre in
+    let points = c .before .points in
+    let l = limits-start (now (a .set)) (a .layout) (points .result) (p .0) (p .2) (points .ensures) in
+    let few = c .table-records .ensures .1 (l .fourThreads) (l .fewStatements) (few-cells 128 (now (a .map)) (p .1)) (omega arith) in
+    omega arith
 
--- src/lib.rt:830:1
 returns-3 : tie.Need-returns-3
-returns-3 c = ?
+unfolding sizeAnswer
+returns-3 c =
+    let a = c .before .before .before .before .before .before .args in
+    let p = c .before .before .before .before .before .before .pre in
+    let points = c .before .points in
+    ap Encoded (c .table-records .ensures .0 ∙ ap length (table-is (now (a .set)) (a .layout) (points .result) (p .0) (p .2) (points .ensures) (now (a .map)) (a .bound)))
+    ∙ sym (bound-fits (now (a .set)) (now (a .map)) (a .bound) _ (p .0) (p .1) (c .before .before .before .if1 .left) (c .before .before .if2 .left))
 
 pub accepted-size-spec : {M : Type 1} → statement M
 accepted-size-spec =

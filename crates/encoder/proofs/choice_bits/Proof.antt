@@ -12,7 +12,7 @@ use Rattle.base.specs.Bytes.{placed}
 use Rattle.table.specs.declared.Formula.{Formula}
 use Rattle.table.specs.Formulas.{formulaBytes, writtenAt}
 use Rattle.table.specs.Programs.{leafFormula, choiceBit, upto}
-use Rattle.table.proofs.Copied.{copies-none, copies-more}
+use Rattle.table.proofs.Numbered.{numbered-none, numbered-more}
 use Rattle.encoder.proofs.choice_bits.Statement.{statement}
 use Rattle.encoder.proofs.choice_bits.Tie as tie
 
@@ -32,7 +32,7 @@ add-count c = search needs
 loop-holds : tie.Need-loop-holds Inv-loop μ-loop
 loop-holds c =
     let a = c .before .args in
-    (omega arith, omega arith, refl, copies-none (bit (a .threads) (a .step)) (now (a .out)) (a .n))
+    (omega arith, omega arith, refl, numbered-none (bit (a .threads) (a .step)) (now (a .out)) (a .n))
 
 choice-bit-requires : tie.Need-choice-bit-requires Inv-loop μ-loop
 choice-bit-requires c κs = search needs
@@ -61,7 +61,7 @@ loop-again c =
       c .before .before .put .kept .0 ∙ l .inv .2,
       c .before .before .put .ensures
           ∙ (ap (λ (x : Formula). placed (l .out) (16 * (a .n + l .j)) (formulaBytes x)) (c .before .before .before .before .choice-bit .ensures)
-          ∙ copies-more (bit (a .threads) (a .step)) (now (a .out)) (l .out) (a .n) (l .j) (l .inv .3)),
+          ∙ numbered-more (bit (a .threads) (a .step)) (now (a .out)) (l .out) (a .n) (l .j) (l .inv .3)),
     )
 
 same-length : tie.Need-same-length Inv-loop μ-loop

@@ -1,38 +1,34 @@
+-- `encoder::repeated_step` meets its contract. Assumes nothing.
+use denote.Ref.{now}
+use native.Mathlib.Omega.{arith}
 use borrow.Author.Needs.{needs}
+use Rattle.encoder.proofs.Repeating.{repeated-next}
 use Rattle.encoder.proofs.repeated_step.Statement.{statement}
 use Rattle.encoder.proofs.repeated_step.Tie as tie
-use Rattle.encoder.proofs.repeated_step.Reads as reads
-use Rattle.encoder.proofs.repeated_step.Lts as lts
-use Rattle.encoder.proofs.choice_bits.Reads as choice-bits-reads
-use Rattle.table.proofs.repeats.repeat.Reads as repeat-reads
 
--- src/lib.rt:733:5
 choice-bits-requires : tie.Need-choice-bits-requires
 choice-bits-requires c κs = search needs
 
--- src/lib.rt:734:16
 mul-bits : tie.Need-mul-bits
 mul-bits c = search needs
 
--- src/lib.rt:735:33
 add-repeat : tie.Need-add-repeat
 add-repeat c = search needs
 
--- src/lib.rt:735:43
 sub-repeat : tie.Need-sub-repeat
 sub-repeat c = search needs
 
--- src/lib.rt:735:5
 repeat-requires : tie.Need-repeat-requires
 repeat-requires c κs = search needs
 
--- src/lib.rt:727:1
 same-length : tie.Need-same-length
 same-length c = search needs
 
--- src/lib.rt:727:1
 returns : tie.Need-returns
-returns c = ?
+returns c S cs start begun s late room w =
+    let a = c .before .before .before .before .before .before .before .before .before .args in
+    repeated-next S cs start (a .threads) (a .first) (a .stride) s (a .k) late begun (now (a .out)) _ _ (a .n) w
+    (c .before .before .before .before .before .before .choice-bits .ensures) (c .before .before .repeat .ensures) room (omega arith)
 
 pub repeated-step-spec : {M : Type 1} → statement M
 repeated-step-spec =

@@ -2,7 +2,8 @@
 use Prim.Native.Nat.{_+_, _*_}
 use denote.Ref.{now}
 use lib.ListN.{getD}
-use Rattle.evaluation.specs.Evaluations.{formulaAt, noFormula}
+use Rattle.table.specs.Formulas.{formulaAt}
+use Rattle.evaluation.specs.Evaluations.{noFormula}
 use Rattle.base.proofs.Choice.{chosen, passed}
 use borrow.Author.Tests.{lt-ltb, le-ltb}
 use mathlib.Core.Path.{sym, _∙_}

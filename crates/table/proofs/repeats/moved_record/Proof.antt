@@ -5,7 +5,8 @@ use native.Mathlib.Omega.{arith}
 use lib.ListN.{getD}
 use denote.Ref.{now}
 use borrow.Author.Needs.{needs}
-use Rattle.table.specs.Repeats.{movedBy, recordAt}
+use Rattle.table.specs.Formulas.{formulaAt}
+use Rattle.table.specs.Repeats.{movedBy}
 use Rattle.table.proofs.Repeated.{moved-repeated}
 use Rattle.table.proofs.repeats.moved_record.Statement.{statement}
 use Rattle.table.proofs.repeats.moved_record.Tie as tie
@@ -68,10 +69,10 @@ moved-requires-3 : tie.Need-moved-requires-3
 moved-requires-3 c κs = search needs
 
 returns : tie.Need-returns
-unfolding recordAt
+unfolding formulaAt
 returns c =
     let args = c .before .before .before .before .before .before .before .before .before .before .before .before .before .args in
-    let x = recordAt (now (args .bytes)) (args .n) in
+    let x = formulaAt (now (args .bytes)) (args .n) in
     let by = c .before .before .before .before .before .before .before .before .before .before .distance .ensures in
     let high : 16 * args .n + 3 ≡ 16 * args .n + 2 + 1 = omega arith in
     let constant = c .before .before .before .before .before .before .word .ensures ∙ ap (λ (k : ℕ). getD (now (args .bytes)) (16 * args .n + 2) 0 + 256 * getD (now (args .bytes)) k 0) high in

@@ -8,18 +8,18 @@ use denote.Ref.{now}
 use borrow.Author.Needs.{needs}
 use borrow.Author.Tests.{not-true, not-false}
 use Rattle.base.specs.Bytes.{placed}
-use Rattle.table.specs.Repeats.{recordAt, repeated}
+use Rattle.table.specs.Repeats.{repeated}
 use Rattle.table.specs.Programs.{upto}
-use Rattle.table.specs.Formulas.{formulaBytes, writtenAt}
+use Rattle.table.specs.Formulas.{formulaBytes, writtenAt, formulaAt}
 use Rattle.table.specs.declared.Formula.{Formula}
 use Rattle.table.proofs.Repeated.{record-before, repeatable-room, repeats, repeats-nothing}
-use Rattle.table.proofs.Copied.{copies-none, copies-more}
+use Rattle.table.proofs.Numbered.{numbered-none, numbered-more}
 use Rattle.table.proofs.repeats.repeat.Statement.{statement}
 use Rattle.table.proofs.repeats.repeat.Tie as tie
 
 -- the record that number j becomes
 abbrev record-of : (out : List ℕ) (at first stride j : ℕ) → Formula
-record-of out at first stride j = repeated first stride (recordAt out (at - stride + j))
+record-of out at first stride j = repeated first stride (formulaAt out (at - stride + j))
 
 abbrev Inv-loop : tie.InvT-loop
 Inv-loop out₀ at count first stride j₀ out j =
@@ -44,7 +44,7 @@ loop-holds c =
     let r = c .before .can-repeat in
     let room = repeatable-room (length (now (a .out))) (a .at) (a .count) (a .stride) (sym (r .ensures) ∙ not-false (r .result) (c .if1 .left)) in
     let f = record-of (now (a .out)) (a .at) (a .first) (a .stride) in
-    (omega arith, room .0, room .1, room .2, room .3, refl, copies-none f (now (a .out)) (a .at))
+    (omega arith, room .0, room .1, room .2, room .3, refl, numbered-none f (now (a .out)) (a .at))
 
 sub-moved-record : tie.Need-sub-moved-record Inv-loop μ-loop
 sub-moved-record c = search needs
@@ -73,7 +73,7 @@ loop-again c =
     let l = c .before .before .before .before .before .before .before .loop in
     let i = a .at - a .stride + l .j in
     let f = record-of (now (a .out)) (a .at) (a .first) (a .stride) in
-    let old : recordAt (l .out) i ≡ recordAt (now (a .out)) i = ap (λ (o : List ℕ). recordAt o i) (l .inv .6) ∙ record-before (now (a .out)) (a .at) (upto (λ k. f k ∷ []) (l .j)) i (omega arith) in
+    let old : formulaAt (l .out) i ≡ formulaAt (now (a .out)) i = ap (λ (o : List ℕ). formulaAt o i) (l .inv .6) ∙ record-before (now (a .out)) (a .at) (upto (λ k. f k ∷ []) (l .j)) i (omega arith) in
     let formula = c .before .before .before .before .moved-record .ensures ∙ ap (repeated (a .first) (a .stride)) old in (
       omega arith,
       l .inv .1,
@@ -83,7 +83,7 @@ loop-again c =
       c .before .before .put .kept .0 ∙ l .inv .5,
       c .before .before .put .ensures
           ∙ (ap (λ (x : Formula). placed (l .out) (16 * (a .at + l .j)) (formulaBytes x)) formula
-          ∙ copies-more f (now (a .out)) (l .out) (a .at) (l .j) (l .inv .6)),
+          ∙ numbered-more f (now (a .out)) (l .out) (a .at) (l .j) (l .inv .6)),
     )
 
 same-length : tie.Need-same-length Inv-loop μ-loop

@@ -1,0 +1,86 @@
+-- `encoder::write` meets its contract. Assumes nothing.
+use denote.Ref.{now}
+use native.Mathlib.Omega.{arith}
+use lib.ListN.{replicate}
+use borrow.Author.Needs.{needs}
+use Rattle.records.specs.Sets.{setBy}
+use Rattle.links.proofs.Following.{nexts-none}
+use Rattle.places.specs.Places.{listed}
+use Rattle.encoder.proofs.Pieces.{limits-after}
+use Rattle.encoder.proofs.Repeating.{encoded-ended, ended-room}
+use Rattle.encoder.proofs.Sizes.{early}
+use Rattle.encoder.proofs.write.Statement.{statement}
+use Rattle.encoder.proofs.write.Tie as tie
+
+slice-aggregate-make : tie.Need-slice-aggregate-make
+slice-aggregate-make c = search needs
+
+make-requires : tie.Need-make-requires
+make-requires c κs = search needs
+
+firsts-requires : tie.Need-firsts-requires
+firsts-requires c κs = search needs
+
+slice-aggregate-before-steps : tie.Need-slice-aggregate-before-steps
+slice-aggregate-before-steps c = search needs
+
+slice-aggregate-before-steps-2 : tie.Need-slice-aggregate-before-steps-2
+slice-aggregate-before-steps-2 c = search needs
+
+before-steps-requires : tie.Need-before-steps-requires
+before-steps-requires c κs =
+    let a = c .before .before .before .before .before .before .before .before .before .before .before .before .before .args in
+    let p = c .before .before .before .before .before .before .before .before .before .before .before .before .before .pre in
+    (p .0, p .1, c .before .before .before .before .before .before .before .before .make .ensures .1 (nexts-none (setBy (now (a .set)) (a .layout)) 1188))
+
+slice-aggregate-all-steps : tie.Need-slice-aggregate-all-steps
+slice-aggregate-all-steps c = search needs
+
+slice-aggregate-all-steps-2 : tie.Need-slice-aggregate-all-steps-2
+slice-aggregate-all-steps-2 c = search needs
+
+all-steps-requires : tie.Need-all-steps-requires
+all-steps-requires c κs =
+    let a = c .before .before .before .before .before .before .before .before .before .before .before .before .before .before .before .before .before .before .before .before .args in
+    let p = c .before .before .before .before .before .before .before .before .before .before .before .before .before .before .before .before .before .before .before .before .pre in
+    let S = setBy (now (a .set)) (a .layout) in
+    let cs = listed (a .points) in
+    let w = c .before .before .before .before .before .before .before-steps .ensures in (
+      limits-after (a .layout) (a .points) (early S cs (now (a .map))) _ _ _ _ _ _ (w .0) (p .0),
+      (let l = w .1 in omega arith),
+      p .2,
+      c .before .before .before .before .before .before .before .before .before .before .before .before .before .before .before .make .ensures .1 (nexts-none S 1188),
+      ended-room S cs (now (a .map)) (a .bound) (now (a .table)) _ _ _ _ (c .before .before .before .before .before .before .before .before .before .before .before .before .firsts .ensures) (w .0) (p .3),
+    )
+
+goal-requires : tie.Need-goal-requires
+goal-requires c κs = search needs
+
+same-length : tie.Need-same-length
+same-length c = search needs
+
+returns : tie.Need-returns
+returns c =
+    let a = c .before .before .before .before .before .before .before .before .before .before .before .before .before .before .before .before .before .before .before .before .before .before .before .before .before .before .before .before .args in
+    let S = setBy (now (a .set)) (a .layout) in
+    let cs = listed (a .points) in
+    let e = c .before .before .before .before .before .before .before .all-steps .ensures .0 in
+    encoded-ended S cs (now (a .map)) (a .bound) (now (a .table)) _ _ _ _ _ _ _ _ _ (c .before .before .before .before .before .before .before .before .before .before .before .before .before .before .before .before .before .before .before .before .firsts .ensures) (c .before .before .before .before .before .before .before .before .before .before .before .before .before .before .before-steps .ensures .0) e
+    (c .before .before .goal .ensures _ (e .codeIs) (e .noughtIs))
+
+pub write-spec : {M : Type 1} → statement M
+write-spec =
+    tie.close
+    (tie.spec
+    slice-aggregate-make
+    make-requires
+    firsts-requires
+    slice-aggregate-before-steps
+    slice-aggregate-before-steps-2
+    before-steps-requires
+    slice-aggregate-all-steps
+    slice-aggregate-all-steps-2
+    all-steps-requires
+    goal-requires
+    same-length
+    returns)
