@@ -1,0 +1,7 @@
+//! The command `deepchalk`.
+
+mod draw;
+
+fn main() {
+    print!("{}", draw::svg(&[]));
+}
