@@ -2,6 +2,8 @@
 
 use crate::failure::Failure;
 use std::ffi::{OsStr, OsString};
+use std::fs;
+use std::path::PathBuf;
 
 /// What a command takes.
 pub struct Form {
@@ -69,6 +71,7 @@ impl Arguments {
             return Err(Failure::bad_input(line));
         }
         self.accept_options()?;
+        self.keep_inputs()?;
         let from_input = self.inputs.iter().chain(self.option("--map"));
         if from_input.filter(|word| *word == "-").count() > 1 {
             let line = "- stands for standard input, which can be read once only";
@@ -94,6 +97,20 @@ impl Arguments {
             }
             if OUTPUTS.contains(name) && value == "-" && self.json() {
                 return both(name, "--json", value);
+            }
+        }
+        Ok(())
+    }
+
+    /// No output replaces a file that is read.
+    fn keep_inputs(&self) -> Result<(), Failure> {
+        let real = |word: &OsString| fs::canonicalize(word).ok().filter(|path| path.is_file());
+        let inputs = self.inputs.iter().chain(self.option("--map"));
+        let inputs: Vec<PathBuf> = inputs.filter_map(real).collect();
+        for (name, value) in &self.options {
+            if OUTPUTS.contains(name) && real(value).is_some_and(|path| inputs.contains(&path)) {
+                let line = format!("{name} would replace the input {}", shown(value));
+                return Err(Failure::bad_input(line));
             }
         }
         Ok(())
@@ -126,6 +143,9 @@ fn option_of(form: &Form, word: &OsStr) -> Result<&'static str, Failure> {
 
 /// The word as one line of text.
 pub fn shown(word: &OsStr) -> String {
+    if word.is_empty() {
+        return "''".to_string();
+    }
     let text = word.to_string_lossy();
     let letters = text.chars().map(|letter| match letter {
         letter if letter.is_control() => letter.escape_default().to_string(),

@@ -125,7 +125,7 @@ fn prepare(output: &Output) -> io::Result<Prepared> {
 
 fn temporary(target: PathBuf, bytes: &[u8]) -> io::Result<Temporary> {
     let mut name = OsString::from(".");
-    name.push(target.file_name().ok_or(io::ErrorKind::IsADirectory)?);
+    name.push(target.file_name().ok_or(io::ErrorKind::NotFound)?);
     name.push(format!(".{}.tmp", process::id()));
     let path = target.with_file_name(name);
     let mut file = OpenOptions::new()

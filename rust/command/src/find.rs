@@ -16,8 +16,14 @@ use deepchalk::{End, FailingRun};
 use reference::decode::FirstCells;
 use reference::{formulas, Cell, Choice, Machine, Memory, Model};
 
-/// The most states that the search keeps: about 2 GB.
+/// The most states that the search keeps, in about 1.5 GB.
 const MOST_STATES: usize = 10_000_000;
+
+/// Whose word it is: Z3 with its version, or the search with the states that it saw.
+struct By {
+    name: String,
+    states: Option<usize>,
+}
 
 /// What a solver or the search says.
 enum Word {
@@ -32,13 +38,16 @@ pub fn find(arguments: &Arguments) -> Result<Answer, Failure> {
     let given = Given::read(&arguments.inputs[0])?;
     let bound = bound(&given.set, &arguments.inputs[1])?;
     let (by, word) = match chosen(arguments)? {
-        Some(version) => (version, solved(&given, bound)?),
+        Some(name) => {
+            let states = None;
+            (By { name, states }, solved(&given, bound)?)
+        }
         None => searched(&given, bound),
     };
     match word {
         Word::Fails(run, cells) => {
             let (failing, end) = confirmed(&given, bound, &run, &cells)
-                .map_err(|why| Failure::of_solver(&format!("{by} gave a run, but {why}")))?;
+                .map_err(|why| Failure::of_solver(&format!("{} gave a run, but {why}", by.name)))?;
             Ok(fails(arguments, bound, &by, failing, end))
         }
         Word::None => Ok(none(bound, &by)),
@@ -93,9 +102,12 @@ fn solved(given: &Given, bound: u64) -> Result<Word, Failure> {
     }
 }
 
-fn searched(given: &Given, bound: u64) -> (String, Word) {
+fn searched(given: &Given, bound: u64) -> (By, Word) {
     let searched = search(&given.statements, &given.map, bound as usize, MOST_STATES);
-    let by = format!("the search, which saw {} states", searched.states);
+    let by = By {
+        name: "search".to_string(),
+        states: Some(searched.states),
+    };
     let complete = searched.complete();
     let word = match searched.failing {
         // Unlisted cells are 0, as the search had them.
@@ -109,12 +121,17 @@ fn searched(given: &Given, bound: u64) -> (String, Word) {
 fn reasons(searched: &Searched) -> String {
     let mut reasons = Vec::new();
     if searched.stopped {
-        reasons.push("it stopped there".to_string());
+        reasons.push(format!("it stopped at {} states", searched.states));
     }
     if !searched.lacking.is_empty() {
-        let cells: Vec<String> = searched.lacking.iter().map(u16::to_string).collect();
-        let line = "it took cells that the map lacks as 0";
-        reasons.push(format!("{line}: {}", cells.join(" ")));
+        let cells = searched.lacking.iter().take(8).map(u16::to_string);
+        let more = if searched.lacking.len() > 8 {
+            " ..."
+        } else {
+            ""
+        };
+        let cells = cells.collect::<Vec<String>>().join(" ") + more;
+        reasons.push(format!("it took cells that the map lacks as 0: {cells}"));
     }
     reasons.join(", and ")
 }
@@ -161,11 +178,22 @@ fn model(given: &Given, bound: u64, run: &[Choice], cells: &[Cell]) -> Model {
 
 // ---- answers
 
-fn fails(arguments: &Arguments, bound: u64, by: &str, failing: FailingRun, end: End) -> Answer {
+impl By {
+    fn text(&self) -> String {
+        match self.states {
+            Some(states) => format!("the search, which saw {states} states"),
+            None => self.name.clone(),
+        }
+    }
+}
+
+fn fails(arguments: &Arguments, bound: u64, by: &By, failing: FailingRun, end: End) -> Answer {
     let run = Run::new(&failing.trace, Some(end)).over(&failing.map);
     let text = format!(
-        "a run of {} steps fails: found by {by}; the library checked its model, and its trace replays\n\n{}",
+        "a run of {} steps fails\n\
+         found by {}; its model passed the check, and its trace replays over the map below\n\n{}",
         run.steps(),
+        by.text(),
         run.text()
     );
     let mut members = head("fails", bound, by);
@@ -181,16 +209,24 @@ fn fails(arguments: &Arguments, bound: u64, by: &str, failing: FailingRun, end: 
         .with_file(arguments, "--svg", picture.unwrap_or_default().into_bytes())
 }
 
-fn none(bound: u64, by: &str) -> Answer {
+fn none(bound: u64, by: &By) -> Answer {
+    let complete = match by.states {
+        Some(_) => " and is complete",
+        None => "",
+    };
     let text = format!(
-        "no run of at most {bound} steps fails: that is the word of {by}; there is nothing to replay\n"
+        "no run of at most {bound} steps fails\n\
+         that is the word of {}{complete}; there is nothing to replay\n",
+        by.text()
     );
     Answer::new(text, Json::Object(head("none", bound, by)))
 }
 
-fn unknown(bound: u64, by: &str, why: &str) -> Answer {
+fn unknown(bound: u64, by: &By, why: &str) -> Answer {
     let text = format!(
-        "no failing run of at most {bound} steps found by {by}, but there may be one: {why}\n"
+        "no failing run of at most {bound} steps found, but there may be one\n\
+         that is the word of {}; it is not complete: {why}\n",
+        by.text()
     );
     let mut members = head("unknown", bound, by);
     members.push(("why", Json::from(why)));
@@ -200,10 +236,12 @@ fn unknown(bound: u64, by: &str, why: &str) -> Answer {
     }
 }
 
-fn head(answer: &str, bound: u64, by: &str) -> Vec<(&'static str, Json)> {
+fn head(answer: &str, bound: u64, by: &By) -> Vec<(&'static str, Json)> {
+    let states = by.states.map(|states| Json::from(states as u64));
     vec![
         ("answer", Json::from(answer)),
         ("bound", Json::from(bound)),
-        ("by", Json::from(by)),
+        ("by", Json::from(by.name.as_str())),
+        ("states", states.unwrap_or(Json::Null)),
     ]
 }

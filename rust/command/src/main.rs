@@ -21,6 +21,7 @@ mod z3;
 use answer::Answer;
 use arguments::{shown, Arguments, Form};
 use failure::{status, Failure};
+use std::any::Any;
 use std::ffi::OsString;
 use std::io::{self, Write};
 use std::panic;
@@ -77,19 +78,21 @@ fn main() -> ExitCode {
     // A panic is a fault of ours; it gets its one line below.
     panic::set_hook(Box::new(|_| {}));
     let words: Vec<OsString> = std::env::args_os().skip(1).collect();
-    let ended = panic::catch_unwind(|| start(&words)).unwrap_or_else(|cause| {
-        let cause = cause.downcast_ref::<String>().map(String::as_str);
-        let line = format!(
-            "a fault of deepchalk itself: {}",
-            cause.unwrap_or("a panic")
-        );
-        Err(Failure::new(status::FAULT, line))
-    });
+    let ended = panic::catch_unwind(|| start(&words));
+    let ended = ended.unwrap_or_else(|cause| Err(fault(&*cause)));
     ExitCode::from(ended.unwrap_or_else(|failure| {
         // Where standard error is closed there is nobody to tell.
         let _ = writeln!(io::stderr(), "deepchalk: {}", failure.line);
         failure.status
     }))
+}
+
+fn fault(cause: &(dyn Any + Send)) -> Failure {
+    let text = cause.downcast_ref::<&str>().copied();
+    let text = text.or(cause.downcast_ref::<String>().map(String::as_str));
+    let text = text.unwrap_or("a panic").escape_debug();
+    let line = format!("a fault of deepchalk itself: {text}");
+    Failure::new(status::FAULT, line)
 }
 
 fn start(words: &[OsString]) -> Result<u8, Failure> {

@@ -28,8 +28,8 @@ struct Search<'a> {
     map: &'a [Cell],
     limit: usize,
     seen: HashSet<Box<[u8]>>,
-    /// For each state kept, the one before it and the choice between them: not the whole run.
-    parents: Vec<(u32, Choice)>,
+    /// For each state kept, the one before it and the schedule byte between them: not the whole run.
+    parents: Vec<(u32, u8)>,
     lacking: BTreeSet<u16>,
 }
 
@@ -44,7 +44,7 @@ pub fn search(set: &Set, map: &[Cell], bound: usize, limit: usize) -> Searched {
         map,
         limit,
         seen: HashSet::from([key(&start, map)]),
-        parents: vec![(0, Choice::Execute(0))],
+        parents: vec![(0, 0)],
         lacking: BTreeSet::new(),
     };
     let mut reached = vec![(0, start)];
@@ -80,7 +80,7 @@ impl<'a> Search<'a> {
                 End::Open => {
                     if self.seen.insert(key(&after, self.map)) {
                         next.push((self.parents.len() as u32, after));
-                        self.parents.push((index, choice));
+                        self.parents.push((index, choice.schedule_byte()));
                     }
                 }
             }
@@ -101,8 +101,8 @@ impl<'a> Search<'a> {
     fn run_to(&self, mut index: u32, last: Choice) -> Vec<Choice> {
         let mut run = vec![last];
         while index != 0 {
-            let (before, choice) = self.parents[index as usize];
-            run.push(choice);
+            let (before, byte) = self.parents[index as usize];
+            run.push(Choice::from_schedule(byte));
             index = before;
         }
         run.reverse();
@@ -148,4 +148,73 @@ fn key(machine: &Machine, map: &[Cell]) -> Box<[u8]> {
         }
     }
     key.into()
+}
+
+#[cfg(test)]
+mod tests {
+    use super::*;
+    use reference::litmus::{amd, intel};
+    use reference::search::shortest_failing;
+    use reference::{accept_set, records::set_bytes, Instruction::*, Statement};
+
+    fn set(threads: &[Vec<Statement>]) -> Set {
+        accept_set(&set_bytes(threads)).unwrap()
+    }
+
+    #[test]
+    fn shortest_runs_of_the_litmus_tests() {
+        for litmus in intel().iter().chain(&amd()) {
+            let sample = litmus.judged();
+            let (set, bound) = (set(&sample.threads), litmus.judged_bound());
+            let searched = search(&set, &sample.map, bound, usize::MAX);
+            let shortest = shortest_failing(&set, &sample.map, bound);
+            let length = |run: &Option<Vec<Choice>>| run.as_ref().map(Vec::len);
+            assert_eq!(length(&searched.failing), length(&shortest));
+            assert_eq!(searched.failing.is_some(), litmus.allowed);
+            assert!(searched.complete());
+        }
+    }
+
+    #[test]
+    fn cells_that_the_map_lacks() {
+        // Fails only where cell 5 is not 0.
+        let set = set(&[vec![
+            Statement::new(Load, 5),
+            Statement::new(Jz, 3),
+            Statement::new(Exit, 1),
+            Statement::new(Exit, 0),
+        ]]);
+        let searched = search(&set, &[], 9, usize::MAX);
+        assert_eq!(searched.failing, None);
+        assert_eq!(searched.lacking, BTreeSet::from([5]));
+        assert!(!searched.complete());
+        let map = |value| [Cell { address: 5, value }];
+        assert!(search(&set, &map(0), 9, usize::MAX).complete());
+        let found = search(&set, &map(1), 9, usize::MAX).failing;
+        assert_eq!(found, Some(vec![Choice::Execute(0); 3]));
+        // A bound too small for it.
+        assert_eq!(search(&set, &map(1), 2, usize::MAX).failing, None);
+    }
+
+    #[test]
+    fn a_written_cell_is_not_lacking() {
+        let set = set(&[vec![
+            Statement::new(Store, 5),
+            Statement::new(Fence, 0),
+            Statement::new(Load, 5),
+            Statement::new(Halt, 0),
+        ]]);
+        assert!(search(&set, &[], 9, usize::MAX).complete());
+    }
+
+    #[test]
+    fn it_stops_at_the_limit() {
+        // Counts for ever: each state is new.
+        let counting = [Statement::new(Addi, 1), Statement::new(Jmp, 0)];
+        let set = set(&[counting.to_vec()]);
+        let searched = search(&set, &[], 64, 10);
+        assert!(searched.stopped && searched.failing.is_none());
+        assert_eq!(searched.states, 10);
+        assert!(search(&set, &[], 64, usize::MAX).complete());
+    }
 }

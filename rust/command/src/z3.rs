@@ -30,7 +30,9 @@ pub fn ask(script: String, records: usize) -> Result<String, Failure> {
         match receiver.recv_timeout(Duration::from_millis(200)) {
             Ok(output) => break output.map_err(failed)?,
             Err(RecvTimeoutError::Timeout) => {
-                progress.say(|| format!("z3 works on a table of {records} records"));
+                progress.say(|| {
+                    format!("z3 works on a table of {records} records (--search may be quicker)")
+                });
             }
             Err(RecvTimeoutError::Disconnected) => {
                 return Err(Failure::of_solver("z3's answer was lost"));
