@@ -245,3 +245,63 @@ fn head(answer: &str, bound: u64, by: &By) -> Vec<(&'static str, Json)> {
         ("states", states.unwrap_or(Json::Null)),
     ]
 }
+
+#[cfg(test)]
+mod tests {
+    use super::*;
+    use std::ops::Range;
+
+    fn given(text: &str) -> Given {
+        Given::of(deepchalk::Set::read(text.as_bytes()).unwrap())
+    }
+
+    fn cells(addresses: Range<u16>) -> Vec<Cell> {
+        let cell = |address| Cell { address, value: 1 };
+        addresses.map(cell).collect()
+    }
+
+    /// A solver may name more cells than a model can list.
+    #[test]
+    fn a_model_lists_what_its_run_reads() {
+        let given = given("LOAD [9]\nSTORE 3\nLOAD 3\nEXIT 1\nLOAD 4\nHALT\n.\n2 1\n");
+        let run = [Choice::Execute(0); 4];
+        let model = model(&given, 6, &run, &cells(0..2_000));
+        let listed: Vec<u16> = model.cells.iter().map(|cell| cell.address).collect();
+        assert_eq!(listed, [1, 2, 9]);
+        let (failing, end) = confirmed(&given, 6, &run, &cells(0..2_000)).unwrap();
+        assert_eq!((failing.trace.len() / 24, end), (4, End::Code(1)));
+    }
+
+    #[test]
+    fn what_is_no_failing_run_is_refused() {
+        let given = given("LOAD 9\nEXIT 0\n.\n");
+        for run in [
+            &[Choice::Flush(0)][..],
+            &[Choice::Execute(0); 2],
+            &[Choice::Execute(0); 1],
+            &[],
+        ] {
+            let why = confirmed(&given, 6, run, &[]).unwrap_err();
+            assert!(
+                why.starts_with("the model check says: refused 16: "),
+                "{why}"
+            );
+        }
+    }
+
+    #[test]
+    fn reasons_name_a_few_cells() {
+        let searched = |stopped, cells: Range<u16>| Searched {
+            failing: None,
+            states: 5,
+            lacking: cells.collect(),
+            stopped,
+        };
+        let stopped = "it stopped at 5 states";
+        assert_eq!(reasons(&searched(true, 0..0)), stopped);
+        let lacking = "it took cells that the map lacks as 0: 0 1 2 3 4 5 6 7";
+        assert_eq!(reasons(&searched(false, 0..8)), lacking);
+        let both = format!("{stopped}, and {lacking} ...");
+        assert_eq!(reasons(&searched(true, 0..9)), both);
+    }
+}

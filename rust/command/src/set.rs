@@ -22,7 +22,7 @@ impl Given {
         Ok(Given::of(set))
     }
 
-    fn of(set: deepchalk::Set) -> Given {
+    pub fn of(set: deepchalk::Set) -> Given {
         Given {
             statements: accept_set(set.statements()).expect("the library accepted them"),
             map: accept_map(set.map(), MAX_SET_MAP).expect("the library accepted it"),
