@@ -9,6 +9,7 @@ pub mod check;
 pub mod decode;
 pub mod encode;
 pub mod evaluate;
+pub mod example_files;
 pub mod examples;
 pub mod formula;
 pub mod instructions;
