@@ -31,6 +31,11 @@ impl Memory {
         }
     }
 
+    /// The listed cells, by ascending address.
+    pub fn cells(&self) -> &[Cell] {
+        &self.cells
+    }
+
     pub fn read(&self, address: u16) -> Option<u16> {
         match self.find(address) {
             Ok(index) => Some(self.cells[index].value),
