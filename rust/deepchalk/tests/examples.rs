@@ -1,14 +1,19 @@
 //! Every example is read by the library, and the answer in its first line is that of an exhaustive
 //! search: the length of a shortest failing run, which the library runs, or that none fails.
 
-use deepchalk::{simulate, CELL_BYTES, MAX_SET_MAP, MAX_STATEMENTS, STATEMENT_BYTES};
+use deepchalk::{End, Set, MAX_SET_MAP, MAX_STEPS};
 use reference::example_files::answer;
-use reference::{accept_map, accept_set, records::MAX_GIVEN_MAP, search, trace::MAX_STEPS};
+use reference::search::shortest_failing;
+use reference::{accept_map, accept_set, Cell};
 use std::fs;
 use std::path::{Path, PathBuf};
 
+fn folder() -> PathBuf {
+    Path::new(env!("CARGO_MANIFEST_DIR")).join("../../examples")
+}
+
 fn examples() -> Vec<PathBuf> {
-    let folder = Path::new(env!("CARGO_MANIFEST_DIR")).join("../../examples");
+    let folder = folder();
     let folders = [
         folder.clone(),
         folder.join("litmus"),
@@ -23,14 +28,12 @@ fn examples() -> Vec<PathBuf> {
         .collect()
 }
 
-/// Set and map as the library reads them.
-fn read(text: &[u8]) -> (Vec<u8>, Vec<u8>) {
-    let mut set = vec![0; MAX_STATEMENTS * STATEMENT_BYTES];
-    let mut map = vec![0; MAX_SET_MAP * CELL_BYTES];
-    let read = deepchalk::read(text, &mut set, &mut map).expect("an accepted text");
-    set.truncate(usize::from(read.statements) * STATEMENT_BYTES);
-    map.truncate(usize::from(read.cells) * CELL_BYTES);
-    (set, map)
+/// As the library reads it, and as the search takes it.
+fn read(path: &Path) -> (Set, reference::Set, Vec<Cell>) {
+    let set = Set::read(&fs::read(path).expect("a text")).expect("an accepted text");
+    let accepted = accept_set(set.statements()).expect("an accepted set");
+    let map = accept_map(set.map(), MAX_SET_MAP).expect("an accepted map");
+    (set, accepted, map)
 }
 
 #[test]
@@ -38,29 +41,24 @@ fn answers_in_first_lines() {
     let examples = examples();
     assert_eq!(examples.len(), 3 + 19 + 6);
     for path in examples {
+        let (_, set, map) = read(&path);
         let text = fs::read_to_string(&path).expect("a text");
         let first = text.lines().next().expect("a first line");
-        let (set, map) = read(text.as_bytes());
-        let accepted = accept_set(&set).expect("an accepted set");
-        let cells = accept_map(&map, MAX_GIVEN_MAP).expect("an accepted map");
-        let answer = answer(&accepted, &cells);
+        let answer = format!(": {}", answer(&set, &map));
         let path = path.display();
         assert!(
-            first.starts_with("# ") && first.ends_with(&format!(": {answer}")),
-            "{path}: {answer}"
+            first.starts_with("# ") && first.ends_with(&answer),
+            "{path}{answer}"
         );
     }
 }
 
 #[test]
 fn the_scratch_buffer_fails_in_the_library() {
-    let path = Path::new(env!("CARGO_MANIFEST_DIR")).join("../../examples/scratch-faulty.txt");
-    let (set, map) = read(&fs::read(path).expect("a text"));
-    let accepted = accept_set(&set).expect("an accepted set");
-    let cells = accept_map(&map, MAX_GIVEN_MAP).expect("an accepted map");
-    let run = search::shortest_failing(&accepted, &cells, MAX_STEPS).expect("a failing run");
+    let (set, accepted, map) = read(&folder().join("scratch-faulty.txt"));
+    let run = shortest_failing(&accepted, &map, MAX_STEPS).expect("a failing run");
     let schedule: Vec<u8> = run.iter().map(|choice| choice.schedule_byte()).collect();
-    let mut trace = vec![0; schedule.len() * deepchalk::STEP_BYTES];
-    let ran = simulate(&set, &map, &schedule, &mut trace).expect("a permitted schedule");
-    assert!(matches!(ran.end, deepchalk::End::Code(1 | 2)));
+    let (trace, ran) = set.simulate(&schedule).expect("a permitted schedule");
+    assert!(matches!(ran.end, End::Code(1 | 2)));
+    assert_eq!(set.replay(&trace), Ok(ran));
 }
