@@ -24,6 +24,7 @@ pub mod records;
 pub mod replay;
 pub mod search;
 pub mod simulate;
+pub mod sizes;
 pub mod trace;
 pub mod well_formed;
 
