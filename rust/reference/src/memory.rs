@@ -36,6 +36,11 @@ impl Memory {
         &self.cells
     }
 
+    /// Whether the cell is listed, by the map or by a write.
+    pub fn lists(&self, address: u16) -> bool {
+        self.find(address).is_ok()
+    }
+
     pub fn read(&self, address: u16) -> Option<u16> {
         match self.find(address) {
             Ok(index) => Some(self.cells[index].value),
