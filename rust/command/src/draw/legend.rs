@@ -74,9 +74,9 @@ fn signs(run: &Run) -> Vec<(Sign, &'static str)> {
         (
             missed,
             Sign::Word(OLD),
-            "the cell as it is before a store that still waits elsewhere",
+            "another thread's store to that cell still waits",
         ),
-        (missed, Sign::Missed, "the store that waits meanwhile"),
+        (missed, Sign::Missed, "that store, at that step"),
         (
             !run.rows.is_empty(),
             Sign::Word("accu"),
