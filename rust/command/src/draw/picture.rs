@@ -12,6 +12,7 @@ pub struct Picture {
     elements: Elements,
 }
 
+const FONTS: &str = "ui-monospace, 'DejaVu Sans Mono', Menlo, Consolas, monospace";
 const BOLD: &str = r#" font-weight="bold""#;
 const END: &str = r#" text-anchor="end""#;
 pub const HEADING: &str = r##" font-size="10.5" fill="#444""##;
@@ -47,29 +48,28 @@ impl Picture {
         for at in 0..steps {
             self.words(at);
         }
-        let last = if self.run.leaves_stores() {
-            steps + 1
-        } else {
-            steps
-        };
-        let (right, bottom) = legend::draw(&self.run, &mut self.elements, top(last) + 16.0);
+        // Below the last step it is said which stores are not flushed.
+        let rows = steps + usize::from(self.run.leaves_stores());
+        let (right, bottom) = legend::draw(&self.run, &mut self.elements, top(rows) + 16.0);
         self.document(right.max(self.layout.right), bottom)
     }
 
     /// A page narrower than the picture, on screen or paper, shows all of it smaller.
     fn document(&self, width: f64, height: f64) -> String {
-        let (title, description) = (self.run.title(), self.run.description());
+        let size = format!(r#"width="{width:.0}" height="{height:.0}""#);
+        let view = format!(r#"viewBox="0 0 {width:.0} {height:.0}""#);
+        let namespace = "http://www.w3.org/2000/svg";
+        let title = escaped(&self.run.title());
+        let description = escaped(&self.run.description());
         format!(
-            r#"<svg xmlns="http://www.w3.org/2000/svg" role="img" width="{width:.0}" height="{height:.0}" viewBox="0 0 {width:.0} {height:.0}" style="max-width:100%;height:auto">
-<title>{}</title>
-<desc>{}</desc>
+            r#"<svg xmlns="{namespace}" role="img" {size} {view} style="max-width:100%;height:auto">
+<title>{title}</title>
+<desc>{description}</desc>
 <rect width="100%" height="100%" fill="white"/>
-<g font-family="ui-monospace, 'DejaVu Sans Mono', Menlo, Consolas, monospace" font-size="{FONT}" fill="black">
+<g font-family="{FONTS}" font-size="{FONT}" fill="black">
 {}</g>
 </svg>
 "#,
-            escaped(&title),
-            escaped(&description),
             self.elements.markup,
         )
     }

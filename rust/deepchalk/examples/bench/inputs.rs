@@ -73,8 +73,8 @@ pub fn store_loop() -> Workload {
     Workload::in_turn(name, set, Vec::new(), &[0, 0, 128, 0])
 }
 
-/// Four threads of so many statements over a map of 128 cells; of eight statements six touch memory,
-/// half of these indirectly.
+/// Four threads of so many statements over a map of 128 cells; of eight statements seven touch memory,
+/// three of these indirectly.
 pub fn memory_heavy(statements: usize) -> Workload {
     let threads: Vec<Vec<Statement>> = (0..4)
         .map(|thread| memory_heavy_thread(thread, statements))

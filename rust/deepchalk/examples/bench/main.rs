@@ -11,6 +11,7 @@ mod texts;
 mod timing;
 
 fn main() {
+    timing::settle_allocator();
     calls::print();
     growth::print();
     sizes::print();

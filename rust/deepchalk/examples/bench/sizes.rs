@@ -6,9 +6,9 @@ use reference::sizes::{beside_document_002, full_sets};
 pub fn print() {
     heading(
         "Table sizes beside document 002's",
-        "Records of a table and the expressions of document 002's functional encoding (its Tables 8, 9, \
-         12 and 14) for the same program and bound. Above 64, which is no bound here, the number of \
-         records is that of the same form.",
+        "Records of a table, and expressions of document 002's functional encoding (its Tables 8, 9, 12 \
+         and 14) of the same program for the same bound. Bounds above 64 are refused here; the records \
+         are counted all the same.",
     );
     columns(1, &["Program", "K", "records", "expressions", "share"]);
     for size in beside_document_002() {

@@ -9,6 +9,12 @@ pub const TIMINGS: usize = 201;
 /// seldom falls into it.
 const TIMING: Duration = Duration::from_micros(300);
 
+/// The second implementation allocates, the library does not. The allocator keeps freed memory for later
+/// calls only after it has freed a large piece once; without this the first rows would be slower.
+pub fn settle_allocator() {
+    drop(black_box(vec![1_u8; 31 << 20]));
+}
+
 /// What both must answer: a number that tells answers apart, or the refusal's number and place.
 pub type Answer = Result<u64, (u8, u32)>;
 
