@@ -48,3 +48,9 @@ pub fn print(text: &str, json: Option<&Json>) -> Result<(), Failure> {
         None => files::print(text.as_bytes()),
     }
 }
+
+/// Such as "1 step" and "2 steps".
+pub fn counted(number: u64, what: &str) -> String {
+    let ending = if number == 1 { "" } else { "s" };
+    format!("{number} {what}{ending}")
+}

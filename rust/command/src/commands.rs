@@ -1,6 +1,6 @@
 //! The commands that need no solver.
 
-use crate::answer::Answer;
+use crate::answer::{counted, Answer};
 use crate::arguments::{shown, text, Arguments};
 use crate::choices;
 use crate::draw;
@@ -103,7 +103,8 @@ pub fn replay(arguments: &Arguments) -> Result<Answer, Failure> {
     let ran = ran.map_err(|refusal| refused_run(arguments, &files::name(file), refusal))?;
     let mut members = vec![("steps", Json::from(ran.steps))];
     members.extend(steps::end_json(Some(ran.end)));
-    let text = format!("replays: {} steps, {}\n", ran.steps, ran.end);
+    let steps = counted(ran.steps.into(), "step");
+    let text = format!("replays: {steps}, {}\n", ran.end);
     Ok(Answer::new(text, Json::Object(members)))
 }
 
@@ -210,7 +211,8 @@ pub fn draw(arguments: &Arguments) -> Result<Answer, Failure> {
         return Err(Failure::bad_input("draw needs -o FILE.svg"));
     };
     let (trace, run) = trace_of(&arguments.inputs[0])?;
-    let text = format!("{} steps, drawn in {}\n", run.steps(), shown(file));
+    let steps = counted(run.steps(), "step");
+    let text = format!("{steps}, drawn in {}\n", shown(file));
     let json = Json::object([("steps", Json::from(run.steps()))]);
     let answer = Answer::new(text, json);
     Ok(answer.with_file(arguments, "-o", draw::svg(&trace).into_bytes()))

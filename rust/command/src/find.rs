@@ -1,7 +1,7 @@
 //! The whole job: a failing run of a set within a bound, by a solver or by search, confirmed by the
 //! library.
 
-use crate::answer::Answer;
+use crate::answer::{counted, Answer};
 use crate::arguments::{text, Arguments};
 use crate::commands::bound;
 use crate::draw;
@@ -16,7 +16,7 @@ use deepchalk::{End, FailingRun};
 use reference::decode::FirstCells;
 use reference::{formulas, Cell, Choice, Machine, Memory, Model};
 
-/// The most states that the search keeps, in about 1.5 GB.
+/// The most states that the search keeps, in about 2 GB.
 const MOST_STATES: usize = 10_000_000;
 
 /// Whose word it is: Z3 with its version, or the search with the states that it saw.
@@ -181,7 +181,10 @@ fn model(given: &Given, bound: u64, run: &[Choice], cells: &[Cell]) -> Model {
 impl By {
     fn text(&self) -> String {
         match self.states {
-            Some(states) => format!("the search, which saw {states} states"),
+            Some(states) => {
+                let states = counted(states as u64, "state");
+                format!("the search, which saw {states}")
+            }
             None => self.name.clone(),
         }
     }
@@ -190,9 +193,9 @@ impl By {
 fn fails(arguments: &Arguments, bound: u64, by: &By, failing: FailingRun, end: End) -> Answer {
     let run = Run::new(&failing.trace, Some(end)).over(&failing.map);
     let text = format!(
-        "a run of {} steps fails\n\
+        "a run of {} fails\n\
          found by {}; its model passed the check, and its trace replays over the map below\n\n{}",
-        run.steps(),
+        counted(run.steps(), "step"),
         by.text(),
         run.text()
     );
@@ -215,8 +218,9 @@ fn none(bound: u64, by: &By) -> Answer {
         None => "",
     };
     let text = format!(
-        "no run of at most {bound} steps fails\n\
+        "no run of at most {} fails\n\
          that is the word of {}{complete}; there is nothing to replay\n",
+        counted(bound, "step"),
         by.text()
     );
     Answer::new(text, Json::Object(head("none", bound, by)))
@@ -224,8 +228,9 @@ fn none(bound: u64, by: &By) -> Answer {
 
 fn unknown(bound: u64, by: &By, why: &str) -> Answer {
     let text = format!(
-        "no failing run of at most {bound} steps found, but there may be one\n\
+        "no failing run of at most {} found, but there may be one\n\
          that is the word of {}; it is not complete: {why}\n",
+        counted(bound, "step"),
         by.text()
     );
     let mut members = head("unknown", bound, by);

@@ -233,3 +233,20 @@ fn broken_pipe() {
         "deepchalk: cannot write standard output: Broken pipe\n"
     );
 }
+
+#[test]
+fn one_step_is_one() {
+    let folder = Folder::new("one_step");
+    folder.put("set.txt", b"EXIT 1\n.\n");
+    let found = folder.run("find set.txt 1 --search -o trace");
+    let head = "a run of 1 step fails\nfound by the search, which saw 1 state; ";
+    assert!(found.text().starts_with(head), "{}", found.text());
+    assert_eq!(
+        folder.text("replay set.txt trace"),
+        "replays: 1 step, end 1\n"
+    );
+    assert_eq!(
+        folder.text("draw trace -o d.svg"),
+        "1 step, drawn in d.svg\n"
+    );
+}
