@@ -4,6 +4,7 @@ mod answer;
 mod arguments;
 mod choices;
 mod commands;
+mod confirm;
 mod draw;
 mod failure;
 mod files;

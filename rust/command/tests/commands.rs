@@ -4,8 +4,7 @@ mod shell;
 
 use reference::litmus::{amd, intel};
 use reference::records::{map_bytes, set_bytes};
-use reference::{Cell, Statement};
-use shell::{ended, Folder, EXAMPLE, MODEL, SHORTEST};
+use shell::{ended, set_text, Folder, EXAMPLE, MODEL, SHORTEST};
 use std::process::Command;
 use testing::{texts, Random};
 
@@ -206,15 +205,6 @@ fn litmus_texts() {
         let listed = folder.run_words(&["list", "-"], text.as_bytes());
         assert_eq!(listed.out, reference::listing(text.as_bytes()));
     }
-}
-
-fn set_text(threads: &[Vec<Statement>], map: &[Cell]) -> String {
-    let line = |statement: &Statement| format!("{statement}\n");
-    let thread =
-        |statements: &Vec<Statement>| statements.iter().map(line).collect::<String>() + ".\n";
-    let cell = |cell: &Cell| format!("{} {}\n", cell.address, cell.value);
-    let threads: String = threads.iter().map(thread).collect();
-    threads + &map.iter().map(cell).collect::<String>()
 }
 
 /// Standard output that is closed while the command prints.

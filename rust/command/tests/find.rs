@@ -4,28 +4,22 @@ mod shell;
 
 use reference::litmus::{amd, intel, Litmus};
 use reference::records::{map_bytes, set_bytes};
-use reference::{accept_set, Cell, Statement};
-use shell::{Ended, Folder, EXAMPLE, SHORTEST};
+use reference::{accept_set, Cell};
+use shell::{set_text, Ended, Folder, EXAMPLE, SHORTEST};
 use std::fs;
 use std::os::unix::fs::PermissionsExt;
 use std::process::{Child, Stdio};
 use std::thread::sleep;
 use std::time::Duration;
 
-/// The set as a text.
-fn text(threads: &[Vec<Statement>], map: &[Cell]) -> String {
-    let line = |statement: &Statement| format!("{statement}\n");
-    let thread = |thread: &Vec<Statement>| thread.iter().map(line).collect::<String>() + ".\n";
-    let cell = |cell: &Cell| format!("{} {}\n", cell.address, cell.value);
-    let threads: String = threads.iter().map(thread).collect();
-    threads + &map.iter().map(cell).collect::<String>()
-}
-
 /// Two threads that each store 1 and load the other's cell: both can read 0.
 fn store_buffers() -> (String, usize) {
     let litmus = intel().swap_remove(2);
     let sample = litmus.judged();
-    (text(&sample.threads, &sample.map), litmus.judged_bound())
+    (
+        set_text(&sample.threads, &sample.map),
+        litmus.judged_bound(),
+    )
 }
 
 /// The run that was kept replays to code 1, over the kept map alone and by the second simulator too.
@@ -129,7 +123,7 @@ fn agree(name: &str, litmus: &[Litmus]) {
     let folder = Folder::new(name);
     for litmus in litmus {
         let (sample, bound) = (litmus.judged(), litmus.judged_bound());
-        let text = text(&sample.threads, &sample.map);
+        let text = set_text(&sample.threads, &sample.map);
         let read = reference::read(text.as_bytes(), usize::MAX, usize::MAX).expect("accepted");
         assert_eq!(read.set, set_bytes(&sample.threads));
         assert_eq!(read.map, map_bytes(&sample.map));

@@ -1,6 +1,7 @@
 //! The command as a shell runs it, in a folder of its own for each test.
 #![allow(dead_code)]
 
+use reference::{Cell, Statement};
 use std::ffi::OsStr;
 use std::fs;
 use std::io::Write;
@@ -138,6 +139,15 @@ pub fn ended(mut command: Command, input: &[u8]) -> Ended {
         out: output.stdout,
         error: String::from_utf8(output.stderr).expect("text"),
     }
+}
+
+/// The set as a text.
+pub fn set_text(threads: &[Vec<Statement>], map: &[Cell]) -> String {
+    let line = |statement: &Statement| format!("{statement}\n");
+    let thread = |thread: &Vec<Statement>| thread.iter().map(line).collect::<String>() + ".\n";
+    let cell = |cell: &Cell| format!("{} {}\n", cell.address, cell.value);
+    let threads: String = threads.iter().map(thread).collect();
+    threads + &map.iter().map(cell).collect::<String>()
 }
 
 /// Whether z3 can be run. Says so where it cannot, past the test runner, which keeps what passing
