@@ -120,3 +120,48 @@ pub fn choice_of(step: &[u8]) -> Choice {
         Choice::Execute(thread)
     }
 }
+
+#[cfg(test)]
+mod tests {
+    use super::*;
+
+    /// CAS [5] of thread 1 at pc 3, after a step that wrote 10 at 4.
+    const STEP: [u8; STEP_BYTES] = [
+        1, 16, 3, 0, 5, 0, 1, 0, 7, 0, 8, 0, 9, 0, 2, 1, 1, 0, 4, 0, 10, 0, 0, 0,
+    ];
+
+    #[test]
+    fn fields_and_bytes() {
+        let step = Step::from_bytes(STEP).unwrap();
+        assert_eq!((step.thread, step.pc, step.word()), (1, 3, "CAS"));
+        assert_eq!(
+            step.statement,
+            Some(Statement::indirect(Instruction::Cas, 5))
+        );
+        assert_eq!([step.accu, step.mem, step.adr, step.val], [7, 8, 9, 258]);
+        let (address, value) = (4, 10);
+        assert_eq!(step.written, Some(Cell { address, value }));
+        assert_eq!(step.bytes(), STEP);
+        let mut flush = [0; STEP_BYTES];
+        (flush[1], flush[7]) = (FLUSH, 1);
+        let step = Step::from_bytes(flush).unwrap();
+        assert_eq!(
+            (step.statement, step.word(), step.full),
+            (None, "FLUSH", true)
+        );
+        assert_eq!(step.bytes(), flush);
+    }
+
+    #[test]
+    fn bytes_that_no_step_has() {
+        for (at, value) in [(1, 21), (6, 2), (7, 2), (16, 0), (16, 2), (17, 1), (22, 1)] {
+            let mut bytes = STEP;
+            bytes[at] = value;
+            assert_eq!(Step::from_bytes(bytes), None, "byte {at}");
+        }
+        // A flush has no argument.
+        let mut bytes = STEP;
+        bytes[1] = FLUSH;
+        assert_eq!(Step::from_bytes(bytes), None);
+    }
+}
