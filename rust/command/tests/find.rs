@@ -11,6 +11,7 @@ use std::os::unix::fs::PermissionsExt;
 use std::process::{Child, Stdio};
 use std::thread::sleep;
 use std::time::Duration;
+use testing::{maps, sets, Random};
 
 /// Two threads that each store 1 and load the other's cell: both can read 0.
 fn store_buffers() -> (String, usize) {
@@ -163,6 +164,37 @@ fn agreement_on_the_other_litmus_tests() {
 
 fn records(litmus: &Litmus) -> Vec<u8> {
     set_bytes(&litmus.judged().threads)
+}
+
+/// Where the search is complete Z3 says the same; where it finds a run Z3 finds one.
+#[test]
+fn agreement_on_random_sets() {
+    if !shell::z3_installed("find: random sets") {
+        return;
+    }
+    let folder = Folder::new("random_sets");
+    let mut reached = [0; 5];
+    for seed in 1..=60 {
+        let mut random = Random::new(seed);
+        let threads = sets::exiting(&mut random);
+        let mut map = maps::cells(&mut random);
+        map.truncate(random.pick(&[2, 20, 128]));
+        folder.put("set.txt", set_text(&threads, &map).as_bytes());
+        let bound = random.pick(&[3, 6, 9]);
+        let searched = folder.run(&format!("find set.txt {bound} --search"));
+        let solved = folder.run(&format!("find set.txt {bound} --solver z3"));
+        let agree = match (searched.status, solved.status) {
+            (4, solved) => solved == 0 || solved == 1,
+            (searched, solved) => searched == solved && searched < 2,
+        };
+        assert!(agree, "seed {seed}: {searched:?} {solved:?}");
+        reached[searched.status as usize] += 1;
+    }
+    println!("answers of the search by status: {reached:?}");
+    assert!(
+        [0, 1, 4].iter().all(|&status| reached[status] > 0),
+        "{reached:?}"
+    );
 }
 
 /// The search's run is a shortest one.
