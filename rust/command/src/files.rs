@@ -53,6 +53,22 @@ impl Output {
     }
 }
 
+/// Whether the file can be written, before long work is put into its bytes.
+pub fn try_output(file: &OsStr) -> Result<(), Failure> {
+    let found = fs::metadata(file);
+    // Opening a pipe would already tell its reader something.
+    let special = found.is_ok_and(|found| !found.is_file() && !found.is_dir());
+    let output = Output {
+        file: file.to_os_string(),
+        bytes: Vec::new(),
+    };
+    if special || output.is_standard() {
+        return Ok(());
+    }
+    let tried = prepare(&output).map(drop);
+    tried.map_err(|error| cannot_write(file, &error))
+}
+
 /// Writes all or none: no file takes its name before the bytes of each are written.
 pub fn write(outputs: &[Output]) -> Result<(), Failure> {
     let mut written = Vec::new();

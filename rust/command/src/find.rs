@@ -2,11 +2,12 @@
 //! library.
 
 use crate::answer::{counted, Answer};
-use crate::arguments::{text, Arguments};
+use crate::arguments::{text, Arguments, OUTPUTS};
 use crate::commands::bound;
 use crate::confirm::confirmed;
 use crate::draw;
 use crate::failure::{status, Failure};
+use crate::files;
 use crate::json::Json;
 use crate::run::Run;
 use crate::script::{script, verdict, Verdict};
@@ -37,6 +38,9 @@ enum Word {
 pub fn find(arguments: &Arguments) -> Result<Answer, Failure> {
     let given = Given::read(&arguments.inputs[0])?;
     let bound = bound(&given.set, &arguments.inputs[1])?;
+    for file in OUTPUTS.iter().filter_map(|name| arguments.option(name)) {
+        files::try_output(file)?;
+    }
     let (by, word) = match chosen(arguments)? {
         Some(name) => {
             let states = None;

@@ -36,7 +36,7 @@ struct Search<'a> {
 /// A state of the last step reached, with its index.
 type Reached<'a> = (u32, Machine<'a>);
 
-/// Keeps at most `limit` states.
+/// Stops once it has kept `limit` states.
 pub fn search(set: &Set, map: &[Cell], bound: usize, limit: usize) -> Searched {
     let mut progress = Progress::start();
     let start = Machine::start(set, Memory::full(map.to_vec()));

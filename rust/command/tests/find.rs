@@ -288,6 +288,26 @@ fn wrong_solvers() {
     assert_eq!(folder.names(), ["model", "set.txt", "z3"]);
 }
 
+/// An output that cannot be written is told before the solver is asked.
+#[test]
+fn outputs_are_tried_first() {
+    let folder = Folder::with_example("tried");
+    for option in ["-o", "-m", "--svg"] {
+        let line = format!("find set.txt 3 {option} missing/x");
+        let ended = with_solver(&folder, "touch asked; echo unsat", &line);
+        assert_eq!(ended.status, 2);
+        assert_eq!(
+            ended.error,
+            "deepchalk: cannot write missing/x: No such file or directory\n"
+        );
+    }
+    // One that can be is left as it is where no run fails.
+    folder.put("old", b"old");
+    let ended = with_solver(&folder, "echo unsat", "find set.txt 3 -o old -m new");
+    assert_eq!((ended.status, folder.get("old")), (0, b"old".to_vec()));
+    assert_eq!(folder.names(), ["model", "old", "set.txt", "z3"]);
+}
+
 #[test]
 fn progress_after_some_seconds() {
     let folder = Folder::with_example("progress");
