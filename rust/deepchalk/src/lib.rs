@@ -1,10 +1,46 @@
 //! Deepchalk for Rust: safe calls to the proved library.
 //! Set texts, records, trace steps, schedules, formula tables, models and refusals are document 01's.
+//!
+//! [`Set`] holds what its calls need and gives owned answers. The functions beside it, such as
+//! [`simulate`], take and fill buffers that the caller lends.
+//!
+//! ```
+//! use deepchalk::{End, FailingRun, Refusal, Set};
+//!
+//! // Thread 0 stores 1 at address 0; thread 1 fails if it still reads 0 there.
+//! let set = Set::read(b"ADDI 1\nSTORE 0\n.\nLOAD 0\nJZ 3\nEXIT 0\nEXIT 7\n.\n0 0\n")?;
+//!
+//! // The store waits in thread 0's buffer while thread 1 runs.
+//! let (trace, ran) = set.simulate(&[0, 0, 1, 1, 1])?;
+//! assert_eq!(ran.end, End::Code(7));
+//! assert_eq!(set.replay(&trace), Ok(ran));
+//!
+//! // A byte of the trace changed: step 4 is no longer the run's.
+//! let mut changed = trace.clone();
+//! changed[4 * deepchalk::STEP_BYTES + 8] = 1;
+//! assert_eq!(set.replay(&changed), Err(Refusal::Differs { step: 4 }));
+//!
+//! // A table for a solver, and a model that one may give: in each step a bit for each thread's
+//! // execute, then one for each thread's flush.
+//! let table = set.encode(3)?;
+//! assert_eq!(table.len() % deepchalk::FORMULA_BYTES, 0);
+//! let model = [0, 1, 0, 0, 0, 1, 0, 0, 0, 1, 0, 0];
+//! set.check(3, &model)?;
+//! let FailingRun { trace, map } = set.decode(3, &model)?;
+//! assert_eq!(set.replay_over(&map, &trace)?.end, End::Code(7));
+//! # Ok::<(), Refusal>(())
+//! ```
 
 mod answers;
+mod calls;
 pub mod raw;
+mod refusal;
+mod set;
 
-pub use answers::{Decoded, End, Ran, Read, Refusal};
+pub use answers::{Decoded, End, Ran, Read};
+pub use calls::{check, decode, encode, read, replay, simulate, table_size};
+pub use refusal::Refusal;
+pub use set::{FailingRun, Set};
 
 /// The most bytes of a set text.
 pub const MAX_TEXT: usize = 16_384;
@@ -26,149 +62,3 @@ pub const FORMULA_BYTES: usize = 16;
 pub const WORK_BYTES: usize = 32;
 /// Bytes of output that a decoded map needs.
 pub const MAP_ROOM: usize = 1_024;
-
-/// Reads the set text and writes its statement records, 8 bytes each, to the front of `set` and its
-/// map records, 4 bytes each, to the front of `map`. A refusal leaves both as they were; a success
-/// leaves the bytes beyond the records.
-pub fn read(text: &[u8], set: &mut [u8], map: &mut [u8]) -> Result<Read, Refusal> {
-    // SAFETY: each pointer comes with its slice's length. The library reads and writes inside these
-    // alone, for any content, and keeps none of them; a slice's pointer is never null.
-    let packed = unsafe {
-        raw::deepchalk_read(
-            text.as_ptr(),
-            text.len(),
-            set.as_mut_ptr(),
-            set.len(),
-            map.as_mut_ptr(),
-            map.len(),
-        )
-    };
-    answers::read_answer(packed)
-}
-
-/// Runs the schedule over the set and the map and writes its trace, 24 bytes a step, to the front
-/// of `trace`. A refusal leaves `trace` as it was; a success leaves the bytes beyond the steps.
-pub fn simulate(set: &[u8], map: &[u8], schedule: &[u8], trace: &mut [u8]) -> Result<Ran, Refusal> {
-    // SAFETY: as in `read`.
-    let packed = unsafe {
-        raw::deepchalk_simulate(
-            set.as_ptr(),
-            set.len(),
-            map.as_ptr(),
-            map.len(),
-            schedule.as_ptr(),
-            schedule.len(),
-            trace.as_mut_ptr(),
-            trace.len(),
-        )
-    };
-    answers::run_answer(packed)
-}
-
-/// Compares the trace, step by step, with the run that its choices make over the set and the map.
-pub fn replay(set: &[u8], map: &[u8], trace: &[u8]) -> Result<Ran, Refusal> {
-    // SAFETY: as in `read`.
-    let packed = unsafe {
-        raw::deepchalk_replay(
-            set.as_ptr(),
-            set.len(),
-            map.as_ptr(),
-            map.len(),
-            trace.as_ptr(),
-            trace.len(),
-        )
-    };
-    answers::run_answer(packed)
-}
-
-/// How many formula records the table of the set, the map and the bound has.
-#[cfg(feature = "encode")]
-pub fn table_size(set: &[u8], map: &[u8], bound: u64) -> Result<u32, Refusal> {
-    // SAFETY: as in `read`.
-    let packed = unsafe {
-        raw::deepchalk_table_size(set.as_ptr(), set.len(), map.as_ptr(), map.len(), bound)
-    };
-    answers::table_answer(packed)
-}
-
-/// Writes the table of the set, the map and the bound, 16 bytes a record, to the front of `table`
-/// and gives the number of its records. A refusal leaves `table` as it was; a success leaves the
-/// bytes beyond the records.
-#[cfg(feature = "encode")]
-pub fn encode(set: &[u8], map: &[u8], bound: u64, table: &mut [u8]) -> Result<u32, Refusal> {
-    // SAFETY: as in `read`.
-    let packed = unsafe {
-        raw::deepchalk_encode(
-            set.as_ptr(),
-            set.len(),
-            map.as_ptr(),
-            map.len(),
-            bound,
-            table.as_mut_ptr(),
-            table.len(),
-        )
-    };
-    answers::table_answer(packed)
-}
-
-/// Whether the model satisfies the table of the set, the map and the bound. `work` needs 32 bytes for
-/// each record of the table. A refusal other than 16 leaves `work` as it was; else all of it is 0.
-#[cfg(feature = "check")]
-pub fn check(
-    set: &[u8],
-    map: &[u8],
-    bound: u64,
-    model: &[u8],
-    work: &mut [u8],
-) -> Result<(), Refusal> {
-    // SAFETY: as in `read`.
-    let packed = unsafe {
-        raw::deepchalk_check(
-            set.as_ptr(),
-            set.len(),
-            map.as_ptr(),
-            map.len(),
-            bound,
-            model.as_ptr(),
-            model.len(),
-            work.as_mut_ptr(),
-            work.len(),
-        )
-    };
-    answers::check_answer(packed)
-}
-
-/// Writes the trace of the model's run, 24 bytes a step, to the front of `trace` and the map that it
-/// replays over, 4 bytes a cell, to the front of `decoded_map`. `trace` needs 24 bytes for each step of
-/// the bound, `decoded_map` 1,024 bytes. A refusal leaves both as they were; a success leaves the bytes
-/// beyond. `work` is as in `check`.
-#[cfg(feature = "decode")]
-pub fn decode(
-    set: &[u8],
-    map: &[u8],
-    bound: u64,
-    model: &[u8],
-    work: &mut [u8],
-    trace: &mut [u8],
-    decoded_map: &mut [u8],
-) -> Result<Decoded, Refusal> {
-    // SAFETY: as in `read`.
-    let packed = unsafe {
-        raw::deepchalk_decode(
-            set.as_ptr(),
-            set.len(),
-            map.as_ptr(),
-            map.len(),
-            bound,
-            model.as_ptr(),
-            model.len(),
-            work.as_mut_ptr(),
-            work.len(),
-            trace.as_mut_ptr(),
-            trace.len(),
-            decoded_map.as_mut_ptr(),
-            decoded_map.len(),
-        )
-    };
-    answers::decode_answer(packed)
-}

@@ -27,7 +27,6 @@ static void read_texts(void)
     print_read(deepchalk_read(malformed, sizeof malformed - 1, set, 24, map, 8));
 }
 
-#ifdef ENCODE
 static void print_table(uint64_t answer)
 {
     printf("%u %u\n", deepchalk_number(answer), (unsigned)deepchalk_records(answer));
@@ -46,9 +45,7 @@ static void encode_table(void)
     printf("%u\n", (unsigned)table[16 * (deepchalk_records(size) - 1)]);
     print_table(deepchalk_encode(set, 8, map, 0, 1, table, 16 * deepchalk_records(size) - 1));
 }
-#endif
 
-#ifdef CHECK
 /* LOAD 5, EXIT 1 for K 2, whose run reads cell 5, and its model. */
 static const uint8_t models_set[16] = {0, 0, 0, 0, 5, 0, 0, 0, 0, 18, 0, 0, 1, 0, 1, 0};
 static uint8_t model[8] = {1, 0, 1, 0, 5, 0, 9, 0};
@@ -64,9 +61,7 @@ static void print_check(uint64_t answer)
 {
     printf("%u %u\n", deepchalk_number(answer), (unsigned)deepchalk_place(answer));
 }
-#endif
 
-#ifdef DECODE
 static void decode_model(size_t trace_len)
 {
     const uint8_t *map = model; /* not read: its length is 0 */
@@ -78,26 +73,19 @@ static void decode_model(size_t trace_len)
     printf("%u %u %u %u\n", (unsigned)trace[24 + 1], (unsigned)trace[24 + 8], (unsigned)decoded_map[0],
            (unsigned)decoded_map[2]);
 }
-#endif
 
 int main(void)
 {
     read_texts();
-#ifdef ENCODE
     encode_table();
-#endif
-#ifdef CHECK
     print_check(check_model());
-#ifdef DECODE
     decode_model(48);
     decode_model(47);
-#endif
     /* The run stops after its LOAD; then a byte is no bit. */
     model[2] = 0;
     print_check(check_model());
     model[0] = 2;
     print_check(check_model());
-#endif
 
     /* Sample 4: threads (JMP 0) and (ADDI 1, EXIT 3), schedule 1, 0, 1. */
     const uint8_t set[24] = {0, 9, 0, 0, 0, 0, 0, 0, 1, 4, 0, 0, 1, 0, 0, 0, 1, 18, 0, 0, 3, 0, 1, 0};

@@ -1,6 +1,5 @@
 //! The library's model check and decoding against the second ones: answers with their places, traces,
 //! maps, work memory, and every lent byte with the guards around it. A failure prints its seed.
-#![cfg(feature = "check")]
 
 use deepchalk::{MAP_ROOM, STEP_BYTES};
 use reference::litmus::faulty_counters;
@@ -85,19 +84,15 @@ impl Comparison {
         }
     }
 
-    /// Both calls with these rooms; the answer is decoding's where the feature is on.
+    /// Both calls with these rooms; the answer is decoding's.
     fn both(&mut self, input: &ModelInput, rooms: Rooms) -> Answer {
-        let answer = self.check(input, rooms.work);
-        #[cfg(feature = "decode")]
-        let answer = {
-            let decoded = self.decode(input, rooms).map(|_| ());
-            // The model check does not ask for outputs.
-            self.demand(
-                decoded == answer || decoded == Err(Refusal::ROOM),
-                "check beside decode",
-            );
-            decoded
-        };
+        let checked = self.check(input, rooms.work);
+        let answer = self.decode(input, rooms).map(|_| ());
+        // The model check does not ask for outputs.
+        self.demand(
+            answer == checked || answer == Err(Refusal::ROOM),
+            "check beside decode",
+        );
         self.answers[answer.map_or_else(|refusal| usize::from(refusal.number), |()| 0)] += 1;
         answer
     }
@@ -138,7 +133,6 @@ impl Comparison {
         answer
     }
 
-    #[cfg(feature = "decode")]
     fn decode(&mut self, input: &ModelInput, rooms: Rooms) -> Result<reference::Decoded, Refusal> {
         let lent = self.lend(input);
         let mut outputs =
@@ -203,8 +197,10 @@ impl Inputs {
 
 /// The wrapper's refusal in the second decoder's type.
 fn second(refusal: deepchalk::Refusal) -> Refusal {
-    let deepchalk::Refusal { number, place } = refusal;
-    Refusal { number, place }
+    Refusal {
+        number: refusal.number(),
+        place: refusal.place(),
+    }
 }
 
 #[test]
@@ -233,7 +229,6 @@ fn library_and_second_decoder_agree() {
 }
 
 /// The decoded trace replays over the decoded map, by the library alone.
-#[cfg(feature = "decode")]
 #[test]
 fn decoded_traces_replay() {
     use deepchalk::CELL_BYTES;

@@ -33,7 +33,7 @@ fn ran(steps: u16, end: End) -> Result<Ran, Refusal> {
 }
 
 fn refused(number: u8, place: u32) -> Result<Ran, Refusal> {
-    Err(Refusal { number, place })
+    Err(Refusal::new(number, place).expect("1 to 17"))
 }
 
 #[test]

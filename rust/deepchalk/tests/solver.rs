@@ -1,7 +1,6 @@
 //! A real solver between the library's calls: the tables that the library encodes for litmus tests
 //! with allowed outcomes and for the faulty counter go to z3, and its models come back through the
 //! library's model check, decoding and replay. Skipped where z3 is not installed.
-#![cfg(all(feature = "encode", feature = "decode"))]
 
 use deepchalk::{
     check, decode, encode, replay, table_size, End, Ran, CELL_BYTES, FORMULA_BYTES, MAP_ROOM,

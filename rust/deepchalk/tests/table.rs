@@ -1,6 +1,5 @@
 //! The library's encoder against the second encoder: sizes, tables, refusals, and every lent byte
 //! with the guards around it. A failure prints its seed.
-#![cfg(feature = "encode")]
 
 use deepchalk::FORMULA_BYTES;
 use reference::litmus::{amd, faulty_counters, intel, valid_counters, Sample};
@@ -113,7 +112,10 @@ fn first_difference(table: &[u8], expected: &[u8]) -> Option<usize> {
 
 /// The wrapper's answer in the second encoder's types.
 fn unwrapped(answer: Result<u32, deepchalk::Refusal>) -> Answer {
-    answer.map_err(|deepchalk::Refusal { number, place }| Refusal { number, place })
+    answer.map_err(|refusal| Refusal {
+        number: refusal.number(),
+        place: refusal.place(),
+    })
 }
 
 fn bound(random: &mut Random) -> u64 {

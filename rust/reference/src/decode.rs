@@ -64,21 +64,21 @@ fn follow(set: &Set, map: &[Cell], model: &Model) -> (Vec<u8>, Vec<Cell>) {
 
 /// "The set's cells and every first cell read (by a load not forwarded or a CAS, before any write to
 /// it), with first values."
-struct FirstCells {
+pub struct FirstCells {
     values: BTreeMap<u16, u16>,
     written: BTreeSet<u16>,
 }
 
 impl FirstCells {
-    fn new(map: &[Cell]) -> FirstCells {
+    pub fn new(map: &[Cell]) -> FirstCells {
         FirstCells {
             values: map.iter().map(|cell| (cell.address, cell.value)).collect(),
             written: BTreeSet::new(),
         }
     }
 
-    /// Takes the choice and what it read first.
-    fn step(&mut self, machine: &mut Machine, choice: Choice) {
+    /// Takes a permitted choice and what it read first. The machine's memory has every cell.
+    pub fn step(&mut self, machine: &mut Machine, choice: Choice) {
         let report = machine.step(choice).expect("the memory has every cell");
         let loads = [report.address_word, report.data_word];
         for loaded in loads.into_iter().flatten() {
@@ -90,7 +90,7 @@ impl FirstCells {
     }
 
     /// Ascending.
-    fn cells(self) -> Vec<Cell> {
+    pub fn cells(self) -> Vec<Cell> {
         let cell = |(address, value)| Cell { address, value };
         self.values.into_iter().map(cell).collect()
     }

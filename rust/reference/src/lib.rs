@@ -9,6 +9,7 @@ pub mod check;
 pub mod decode;
 pub mod encode;
 pub mod evaluate;
+pub mod example_files;
 pub mod examples;
 pub mod formula;
 pub mod instructions;
@@ -23,6 +24,7 @@ pub mod records;
 pub mod replay;
 pub mod search;
 pub mod simulate;
+pub mod sizes;
 pub mod trace;
 pub mod well_formed;
 

@@ -1,7 +1,7 @@
 //! The second listing: what document 01's listing program prints for a set text.
 
 use crate::records::MAX_SET_MAP;
-use crate::trace::MAX_STEPS;
+use crate::trace::{Step, MAX_STEPS};
 use crate::{accept_map, accept_set, read, Cell, Choice, End, Machine, Statement};
 
 /// The lines of the steps, then "end CODE", "stuck", "open" or "refused NUMBER".
@@ -18,7 +18,7 @@ pub fn listing(text: &[u8]) -> Vec<u8> {
         let Some(choice) = next_choice(&machine) else {
             break;
         };
-        let line = step_line(&machine, choice);
+        let line = step_line(&Step::of(&machine, choice));
         // "14 comes after the lines of the steps before it."
         if machine.step(choice).is_err() {
             return (lines + "refused 14\n").into_bytes();
@@ -36,36 +36,28 @@ fn next_choice(machine: &Machine) -> Option<Choice> {
 
 /// "Thread, pc, word, argument (- for none), accu, mem, adr, val, full, and the cell that the
 /// previous step wrote."
-fn step_line(machine: &Machine, choice: Choice) -> String {
-    let number = choice.thread();
-    let thread = &machine.threads()[number];
-    let (word, argument) = match choice {
-        Choice::Flush(_) => ("FLUSH", "-".to_string()),
-        Choice::Execute(_) => {
-            let statement = machine.statement(number);
-            (statement.instruction.word(), argument_item(statement))
-        }
-    };
+pub fn step_line(step: &Step) -> String {
     format!(
-        "{number} {} {word} {argument} {} {} {} {} {} {}\n",
-        thread.pc,
-        thread.accu,
-        thread.mem,
-        thread.adr,
-        thread.val,
-        u8::from(thread.full),
-        written_item(machine.written()),
+        "{} {} {} {} {} {} {} {} {} {}\n",
+        step.thread,
+        step.pc,
+        step.word(),
+        argument_item(step.statement),
+        step.accu,
+        step.mem,
+        step.adr,
+        step.val,
+        u8::from(step.full),
+        written_item(step.written),
     )
 }
 
 /// "An indirect argument prints in brackets." A jump's is its pc, also where the text has a label.
-fn argument_item(statement: Statement) -> String {
-    if !statement.instruction.has_argument() {
-        "-".to_string()
-    } else if statement.indirect {
-        format!("[{}]", statement.argument)
-    } else {
-        statement.argument.to_string()
+fn argument_item(statement: Option<Statement>) -> String {
+    match statement {
+        Some(statement) if statement.indirect => format!("[{}]", statement.argument),
+        Some(statement) if statement.instruction.has_argument() => statement.argument.to_string(),
+        _ => "-".to_string(),
     }
 }
 

@@ -426,7 +426,28 @@ const VALID: Rows = [
 /// Listing 10, with Table 12. The bounds above 64 are no bounds here; the closed form counts for
 /// them all the same.
 pub fn faulty_counters() -> Vec<Counter> {
-    counters("faulty", &FAULTY, |local| {
+    counters("faulty", &FAULTY, faulty_counter)
+}
+
+/// Listing 12, with Table 14.
+pub fn valid_counters() -> Vec<Counter> {
+    counters("valid", &VALID, valid_counter)
+}
+
+fn counters(name: &str, rows: &Rows, sample: fn(u16, u16) -> Sample) -> Vec<Counter> {
+    rows.iter()
+        .map(|&(count, increments, bound, expressions)| Counter {
+            name: format!("{name} counter {count}x{increments}"),
+            bound,
+            expressions,
+            sample: sample(count, increments),
+        })
+        .collect()
+}
+
+/// So many threads that count, each so often, and the checker.
+pub fn faulty_counter(count: u16, increments: u16) -> Sample {
+    counter(count, increments, |local| {
         vec![
             (Load, 0),
             (Addi, 1),
@@ -441,9 +462,10 @@ pub fn faulty_counters() -> Vec<Counter> {
     })
 }
 
-/// Listing 12, which our copy lacks, made again from the prose and its step counts, with Table 14.
-pub fn valid_counters() -> Vec<Counter> {
-    counters("valid", &VALID, |local| {
+/// The same with a CAS: Listing 12, which our copy lacks, made again from the prose and its step
+/// counts.
+pub fn valid_counter(count: u16, increments: u16) -> Sample {
+    counter(count, increments, |local| {
         vec![
             (Mem, 0),
             (Addi, 1),
@@ -459,25 +481,15 @@ pub fn valid_counters() -> Vec<Counter> {
     })
 }
 
-fn counters(name: &str, rows: &Rows, counting: impl Fn(u16) -> Program) -> Vec<Counter> {
-    rows.iter()
-        .map(|&(count, increments, bound, expressions)| {
-            let locals = 10..10 + count;
-            let mut threads: Vec<Vec<Statement>> = locals
-                .clone()
-                .map(|local| statements(&counting(local)))
-                .collect();
-            threads.push(statements(&checker(count * increments)));
-            let mut map = vec![cell(0, 0)];
-            map.extend(locals.map(|local| cell(local, increments)));
-            Counter {
-                name: format!("{name} counter {count}x{increments}"),
-                bound,
-                expressions,
-                sample: Sample { threads, map },
-            }
-        })
-        .collect()
+fn counter(count: u16, increments: u16, counting: impl Fn(u16) -> Program) -> Sample {
+    let locals = 10..10 + count;
+    let counting = locals.clone().map(|local| statements(&counting(local)));
+    let checker = statements(&checker(count * increments));
+    let locals = locals.map(|local| cell(local, increments));
+    Sample {
+        threads: counting.chain([checker]).collect(),
+        map: [cell(0, 0)].into_iter().chain(locals).collect(),
+    }
 }
 
 /// Listing 11 with SUB for CMP, which is malformed here: Table 5 of document 002 gives both one

@@ -31,6 +31,16 @@ impl Memory {
         }
     }
 
+    /// The listed cells, by ascending address.
+    pub fn cells(&self) -> &[Cell] {
+        &self.cells
+    }
+
+    /// Whether the cell is listed, by the map or by a write.
+    pub fn lists(&self, address: u16) -> bool {
+        self.find(address).is_ok()
+    }
+
     pub fn read(&self, address: u16) -> Option<u16> {
         match self.find(address) {
             Ok(index) => Some(self.cells[index].value),

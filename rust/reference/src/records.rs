@@ -2,6 +2,7 @@
 //! and the bytes of given statements and cells.
 
 use crate::{Cell, Instruction, Refusal};
+use std::fmt;
 
 pub const STATEMENT_BYTES: usize = 8;
 pub const CELL_BYTES: usize = 4;
@@ -39,6 +40,18 @@ impl Statement {
             instruction,
             indirect: true,
             argument,
+        }
+    }
+}
+
+/// The line of a set text, a jump's target as its pc.
+impl fmt::Display for Statement {
+    fn fmt(&self, f: &mut fmt::Formatter<'_>) -> fmt::Result {
+        f.write_str(self.instruction.word())?;
+        match (self.instruction.has_argument(), self.indirect) {
+            (false, _) => Ok(()),
+            (true, false) => write!(f, " {}", self.argument),
+            (true, true) => write!(f, " [{}]", self.argument),
         }
     }
 }

@@ -142,6 +142,9 @@ fn unwrapped(answer: Result<deepchalk::Ran, deepchalk::Refusal>) -> Answer {
             };
             Ok(Ran { steps, end })
         }
-        Err(deepchalk::Refusal { number, place }) => Err(Refusal { number, place }),
+        Err(refusal) => Err(Refusal {
+            number: refusal.number(),
+            place: refusal.place(),
+        }),
     }
 }

@@ -92,8 +92,8 @@ fn same(wrapped: Result<deepchalk::Read, deepchalk::Refusal>, answer: &Answer) -
             usize::from(statements) * deepchalk::STATEMENT_BYTES == read.set.len()
                 && usize::from(cells) * deepchalk::CELL_BYTES == read.map.len()
         }
-        (Err(deepchalk::Refusal { number, place }), Err(refusal)) => {
-            Refusal { number, place } == *refusal
+        (Err(wrapped), Err(refusal)) => {
+            (wrapped.number(), wrapped.place()) == (refusal.number, refusal.place)
         }
         _ => false,
     }
