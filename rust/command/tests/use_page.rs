@@ -1,12 +1,13 @@
-//! docs/USE.md: each command in its blocks marked `console` runs, and prints what stands there. With
-//! DEEPCHALK_WRITE_PAGE=1 the page is written anew.
+//! docs/USE.md and README.md: each command in their blocks marked `console` runs, and prints what stands
+//! there; the README's picture is the one that its command draws. With DEEPCHALK_WRITE_PAGE=1 pages and
+//! picture are written anew.
 
 mod shell;
 
 use shell::{ended, Folder};
 use std::fs;
 use std::os::unix::fs::symlink;
-use std::path::Path;
+use std::path::{Path, PathBuf};
 use std::process::Command;
 
 /// The page with what the commands print now.
@@ -40,23 +41,43 @@ fn output(line: &str, folder: &Folder) -> String {
     ended(command, b"").text()
 }
 
-#[test]
-fn the_page_shows_what_is_printed() {
-    let top = Path::new(env!("CARGO_MANIFEST_DIR")).join("../..");
-    let folder = Folder::new("use_page");
-    fs::create_dir(folder.path("tools")).expect("a folder");
-    let binary = env!("CARGO_BIN_EXE_deepchalk");
-    symlink(binary, folder.path("tools/deepchalk")).expect("a link");
+/// A folder that the pages' commands run in: like the repository's top, as far as they look.
+fn top_folder(name: &str) -> Folder {
+    let folder = Folder::new(name);
+    for tools in ["tools", "bin"] {
+        fs::create_dir(folder.path(tools)).expect("a folder");
+        let command = folder.path(tools).join("deepchalk");
+        symlink(env!("CARGO_BIN_EXE_deepchalk"), command).expect("a link");
+    }
     for part in ["examples", "crates"] {
-        symlink(top.join(part), folder.path(part)).expect("a link");
+        symlink(repository().join(part), folder.path(part)).expect("a link");
     }
-    let file = top.join("docs/USE.md");
-    let page = fs::read_to_string(&file).expect("the page");
-    let now = printed(&page, &folder);
+    folder
+}
+
+fn repository() -> PathBuf {
+    Path::new(env!("CARGO_MANIFEST_DIR")).join("../..")
+}
+
+/// Compares a file of the repository with what it should hold, or writes it.
+fn hold(file: &str, now: &str) {
+    let file = repository().join(file);
     if std::env::var_os("DEEPCHALK_WRITE_PAGE").is_some() {
-        fs::write(&file, &now).expect("written");
-    } else {
-        assert_eq!(now, page);
+        fs::write(&file, now).expect("written");
     }
-    assert!(page.matches("```console").count() > 5);
+    assert_eq!(now, fs::read_to_string(&file).expect("the file"));
+}
+
+#[test]
+fn the_pages_show_what_is_printed() {
+    for (file, blocks) in [("docs/USE.md", 6), ("README.md", 2)] {
+        let folder = top_folder("use_page");
+        let page = fs::read_to_string(repository().join(file)).expect("the page");
+        assert!(page.matches("```console").count() >= blocks);
+        hold(file, &printed(&page, &folder));
+        if file == "README.md" {
+            let picture = fs::read_to_string(folder.path("run.svg")).expect("the picture");
+            hold("docs/scratch-faulty.svg", &picture);
+        }
+    }
 }
