@@ -40,7 +40,7 @@ further-requires c κs =
     let p = c .before .before .before .before .before .pre in
     let few : a .bound - 2 ≤ 62 = (let q = p .2 in omega arith) in
     let m = mul-le-mul-right ((a .second .next - a .first) / 2) few in
-    (p .5, omega arith)
+    (let q = p .5 in let r = p .6 in omega arith, omega arith)
 
 further-requires-2 : tie.Need-further-requires-2
 further-requires-2 c κs =
@@ -48,7 +48,7 @@ further-requires-2 c κs =
     let p = c .before .before .before .before .before .before .pre in
     let few : a .bound - 2 ≤ 62 = (let q = p .2 in omega arith) in
     let m = mul-le-mul-right ((a .second .next - a .first) / 2) few in
-    (p .6, omega arith)
+    (let q = p .6 in omega arith, omega arith)
 
 same-length : tie.Need-same-length
 same-length c = search needs
