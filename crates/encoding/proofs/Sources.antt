@@ -124,7 +124,7 @@ module _ (P Q : Slot → ℕ) (n m : ℕ) where
 
   -- what both runs keep to: a slot that was set comes from a record or a slot that it may come from, and any slot does or is as before
   record Runs (done : Slot → Bool) (p q : Slot → ℕ) : Type 0 where
-    set : (s : Slot) → done s ≡ true → Comes s (p s) (q s)
+    wasSet : (s : Slot) → done s ≡ true → Comes s (p s) (q s)
     any : (s : Slot) → Comes s (p s) (q s) ⊎ At s (p s) (q s)
 
   module _ (done : Slot → Bool) (p q : Slot → ℕ) (runs : Runs done p q) where
@@ -138,7 +138,7 @@ module _ (P Q : Slot → ℕ) (n m : ℕ) where
 
     root-comes : (s : Slot) (t : Term) (i j d : ℕ) → i ≡ n + d → j ≡ m + d → MayRoot done s t → Comes s (root p i t) (root q j t)
     unfolding root
-    root-comes s (ref x) i j d e f h = ⊎-elim (λ e. widen (runs .set x e)) (λ k. ⊎-elim widen (λ r. inr (subst (λ (v : ℕ). Kept s (p x) v) (sym (r .1)) (subst (λ (u : ℕ). Kept s u (Q x)) (sym (r .0)) k))) (runs .any x)) (h .1)
+    root-comes s (ref x) i j d e f h = ⊎-elim (λ e. widen (runs .wasSet x e)) (λ k. ⊎-elim widen (λ r. inr (subst (λ (v : ℕ). Kept s (p x) v) (sym (r .1)) (subst (λ (u : ℕ). Kept s u (Q x)) (sym (r .0)) k))) (runs .any x)) (h .1)
       where
         widen : Comes x (p x) (q x) → Comes s (p x) (q x)
         widen c = ⊎-elim inl (λ k. inr (h .0 (p x) (q x) k)) c
@@ -151,14 +151,14 @@ module _ (P Q : Slot → ℕ) (n m : ℕ) where
         inl (next-own c (next (next i a) b) (next (next j a) b) (w .offset) (w .here) (w .there))
 
     put-runs : (s : Slot) (x y : ℕ) → Comes s x y → Runs (with done s) (put same p s x) (put same q s y)
-    put-runs s x y c = record { set = λ z. at (same z s) z refl; any = λ z. among (same z s) z refl }
+    put-runs s x y c = record { wasSet = λ z. at (same z s) z refl; any = λ z. among (same z s) z refl }
       where
         moved : (z : Slot) → same z s ≡ true → Comes z x y
         moved z e = subst (λ (z : Slot). Comes z x y) (sym (same-slot z s e)) c
 
         at : (b : Bool) (z : Slot) → same z s ≡ b → (b || done z) ≡ true → Comes z (cond b x (p z)) (cond b y (q z))
         at true z e h = moved z e
-        at false z e h = runs .set z h
+        at false z e h = runs .wasSet z h
 
         among : (b : Bool) (z : Slot) → same z s ≡ b → Comes z (cond b x (p z)) (cond b y (q z)) ⊎ At z (cond b x (p z)) (cond b y (q z))
         among true z e = inl (moved z e)
@@ -273,7 +273,7 @@ module _ (P Q : Slot → ℕ) (n m : ℕ) where
         Own (placesAfter same P n (step S cs 0) s) (placesAfter same Q m (step S cs 0) s) ⊎ At s (placesAfter same P n (step S cs 0) s) (placesAfter same Q m (step S cs 0) s)
     stays-or-own (slot k a b) still =
         ⊎-elim (λ c. ⊎-elim inl (λ h. inr (go (way k) refl h)) c) inr
-        (follow (step S cs 0) (λ x. false) P Q n m 0 (omega arith) (omega arith) (record { set = λ s e. absurd (true≢false (sym e)); any = λ s. inr (refl, refl) }) step-fine .any (slot k a b))
+        (follow (step S cs 0) (λ x. false) P Q n m 0 (omega arith) (omega arith) (record { wasSet = λ s e. absurd (true≢false (sym e)); any = λ s. inr (refl, refl) }) step-fine .any (slot k a b))
       where
         go : {x y : ℕ} (w : Way) → way k ≡ w → KeptBy w (slot k a b) x y → At (slot k a b) x y
         go stays e h = h

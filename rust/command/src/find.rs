@@ -10,11 +10,12 @@ use crate::failure::{status, Failure};
 use crate::files;
 use crate::json::Json;
 use crate::run::Run;
-use crate::script::{script, verdict, Verdict};
 use crate::search::{search, Searched};
 use crate::set::Given;
+use crate::verdict::{verdict, Verdict};
 use crate::z3;
 use deepchalk::{End, FailingRun};
+use reference::script::script;
 use reference::{formulas, Cell, Choice};
 
 /// The most states that the search keeps, in about 2 GB.

@@ -12,11 +12,11 @@ mod find;
 mod json;
 mod progress;
 mod run;
-mod script;
 mod search;
 mod set;
 mod steps;
 mod usage;
+mod verdict;
 mod z3;
 
 use answer::Answer;

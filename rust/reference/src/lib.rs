@@ -22,6 +22,7 @@ pub mod model;
 pub mod read;
 pub mod records;
 pub mod replay;
+pub mod script;
 pub mod search;
 pub mod simulate;
 pub mod sizes;

@@ -1,7 +1,7 @@
-//! A formula table as an SMT-LIB script, and a solver's answer to it.
+//! A formula table as an SMT-LIB script, and the values in a solver's answer to it.
 
-use reference::formula::{operation::*, sort};
-use reference::{Cell, Choice, Formula, Model};
+use crate::formula::{operation::*, sort, Formula};
+use crate::Cell;
 use std::collections::BTreeMap;
 use std::fmt::Write;
 
@@ -77,46 +77,29 @@ fn values_asked(script: &mut String, table: &[Formula]) {
     *script += "))\n";
 }
 
-// ---- the answer
+// ---- the values
 
-#[derive(Debug, PartialEq, Eq)]
-pub enum Verdict {
-    /// The run, and a first memory with all cells that it reads.
-    Satisfiable(Vec<Choice>, Vec<Cell>),
-    Unsatisfiable,
-    /// What came instead, on one line.
-    Other(String),
+/// What a solver says of what the script asks.
+pub struct Values {
+    /// By step, executes before flushes, as in a model: in a table choice bits stand so.
+    pub bits: Vec<bool>,
+    /// The first cells at the addresses of all reads, by address.
+    pub cells: Vec<Cell>,
 }
 
-/// From what the solver printed. In a table choice bits stand by step, executes before flushes, as in
-/// a model.
-pub fn verdict(printed: &str, threads: usize, bound: usize) -> Verdict {
-    let (first, values) = printed.split_once('\n').unwrap_or((printed, ""));
-    match first.trim() {
-        "unsat" => Verdict::Unsatisfiable,
-        "sat" => satisfiable(values, threads, bound)
-            .unwrap_or_else(|| Verdict::Other("sat, but not all values".to_string())),
-        other => Verdict::Other(other.to_string()),
-    }
-}
-
-fn satisfiable(values: &str, threads: usize, bound: usize) -> Option<Verdict> {
-    let words = || values.split(|c: char| c.is_whitespace() || "()".contains(c));
-    let bits: Vec<bool> = words().filter_map(|word| word.parse().ok()).collect();
+/// From what is printed after `sat`. None where it is not as it must be.
+pub fn values(printed: &str) -> Option<Values> {
+    let words = || printed.split(|c: char| c.is_whitespace() || "()".contains(c));
+    let bits = words().filter_map(|word| word.parse().ok()).collect();
     let hexadecimal = words().filter_map(|word| word.strip_prefix("#x"));
     let numbers: Result<Vec<u16>, _> = hexadecimal.map(|d| u16::from_str_radix(d, 16)).collect();
     let numbers = numbers.ok()?;
-    if bits.len() != 2 * threads * bound || numbers.len() % 2 != 0 {
+    if numbers.len() % 2 != 0 {
         return None;
     }
-    // By address: reads of the same cell stand here more than once.
+    // Reads of the same cell stand here more than once.
     let cells: BTreeMap<u16, u16> = numbers.chunks_exact(2).map(|p| (p[0], p[1])).collect();
     let cell = |(address, value)| Cell { address, value };
-    let model = Model {
-        threads,
-        bits,
-        cells: Vec::new(),
-    };
     let cells = cells.into_iter().map(cell).collect();
-    Some(Verdict::Satisfiable(model.run(), cells))
+    Some(Values { bits, cells })
 }
