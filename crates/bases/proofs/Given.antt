@@ -16,11 +16,14 @@ use Rattle.base.proofs.Choice.{passed, or-false, clash}
 use Rattle.records.specs.Sets.{Set}
 use Rattle.records.specs.declared.Statement.{Statement}
 use Rattle.table.specs.declared.Formula.{Formula}
+use Rattle.table.specs.Formulas.{writtenAt}
 use Rattle.table.specs.Programs.{Leaf, Unary, Binary, Ternary, ref, leaf, unary, binary, ternary, if3, and2, or2, equal2, read2, not1, top1, binaryNumber, binarySort, leafFormula, unaryFormula, ternaryFormula, next, root, records}
 use Rattle.encoding.specs.Slots.{Slot, slot, Term, kinds, kindAt, choice, loaded, result, test}
 use Rattle.encoding.specs.Steps.{base as baseOf, resultTree, testTree}
 use Rattle.bases.specs.declared.Few.{Few}
-use Rattle.bases.specs.Fews.{Gives, plain, One, Three, ofStatement}
+use Rattle.bases.specs.declared.written.Written.{Written}
+use Rattle.bases.specs.Fews.{Gives, formulas, Puts, plain, One, Three, oneFew, threeFew, ofStatement}
+use Rattle.bases.proofs.Records.{recordAt, written-1, written-3, written-4}
 
 -- the same records are of a tree that is the same
 pub gives-as : {few : Few} {at : Slot → ℕ} {n : ℕ} {t u : Term} → u ≡ t → Gives few at n t → Gives few at n u
@@ -143,6 +146,33 @@ gives-load at n s t u v w f g h k p q r o m = record {
     two : n + 2 ≡ suc (suc n)
     two = omega arith
 
+-- ---- trees written
+
+module _ (at : Slot → ℕ) (n : ℕ) (t : Term) (out after : List ℕ) where
+  puts-few : (few : Few) → Gives few at n t → after ≡ writtenAt out n (formulas few) → Puts (record { count = few .count; root = few .root }) at n t out after
+  puts-few few g e = record { written = e ∙ ap (writtenAt out n) (g .formulasAre); rootPut = g .rootIs; countPut = g .countIs; fewPut = g .few }
+
+  pub puts-one : (f : Formula) → Gives (oneFew n f) at n t → after ≡ recordAt n f out → Puts (record { count = 1; root = n }) at n t out after
+  puts-one f g e = puts-few (oneFew n f) g (e ∙ written-1 out n f)
+
+  pub puts-three : (f g h : Formula) → Gives (threeFew n f g h) at n t → after ≡ recordAt (n + 2) h (recordAt (n + 1) g (recordAt n f out)) →
+      Puts (record { count = 3; root = n + 2 }) at n t out after
+  puts-three f g h gives e = puts-few (threeFew n f g h) gives (e ∙ written-3 out n f g h)
+
+  pub puts-four : (f g h k : Formula) → Gives (record { count = 4; root = n + 3; first = f; second = g; third = h; fourth = k }) at n t →
+      after ≡ recordAt (n + 3) k (recordAt (n + 2) h (recordAt (n + 1) g (recordAt n f out))) → Puts (record { count = 4; root = n + 3 }) at n t out after
+  puts-four f g h k gives e =
+      puts-few (record { count = 4; root = n + 3; first = f; second = g; third = h; fourth = k }) gives (e ∙ written-4 out n f g h k)
+
+-- no record
+pub puts-ref : (at : Slot → ℕ) (n : ℕ) (s : Slot) (out : List ℕ) {x : ℕ} → x ≡ at s → Puts (record { count = 0; root = x }) at n (ref s) out out
+unfolding next root records writtenAt
+puts-ref at n s out e = record { written = refl; rootPut = e; countPut = omega arith; fewPut = omega arith }
+
+-- the same records are of a tree that is the same
+pub puts-as : {r : Written} {at : Slot → ℕ} {n : ℕ} {t u : Term} {out after : List ℕ} → u ≡ t → Puts r at n t out after → Puts r at n u out after
+puts-as {r} {at} {n} {t} {u} {out} {after} e p = subst (λ (x : Term). Puts r at n x out after) (sym e) p
+
 -- ---- by number
 
 -- the base of the kind that a number names
@@ -150,20 +180,24 @@ pub gives-kind : {few : Few} {at : Slot → ℕ} {n : ℕ} (S : Set) (cs : List 
     Gives few at n (baseOf S cs k (kindAt m) a b) → Gives few at n (baseOf S cs k (kindAt kind) a b)
 gives-kind S cs k a b kind m e g = gives-as (ap (λ (x : ℕ). baseOf S cs k (kindAt x) a b) e) g
 
+pub puts-kind : {r : Written} {at : Slot → ℕ} {n : ℕ} {out after : List ℕ} (S : Set) (cs : List ℕ) (k a b kind m : ℕ) → kind ≡ m →
+    Puts r at n (baseOf S cs k (kindAt m) a b) out after → Puts r at n (baseOf S cs k (kindAt kind) a b) out after
+puts-kind S cs k a b kind m e p = puts-as (ap (λ (x : ℕ). baseOf S cs k (kindAt x) a b) e) p
+
 -- past the last kind
 pub kind-past : (kind : ℕ) → 41 ≤ kind → kindAt kind ≡ choice
 unfolding kinds
 kind-past kind h = List·getD-eq-default kinds choice h
 
 -- the test of a statement
-pub gives-test : {few : Few} {at : Slot → ℕ} {n : ℕ} (S : Set) (cs : List ℕ) (k t i : ℕ) (s : Statement) → S .statement t i ≡ s →
-    Gives few at n (testTree S cs k (s .number) t) → Gives few at n (baseOf S cs k test t i)
-gives-test S cs k t i s e g = gives-as (ap (λ (x : Statement). testTree S cs k (x .number) t) e) g
+pub puts-test : {r : Written} {at : Slot → ℕ} {n : ℕ} {out after : List ℕ} (S : Set) (cs : List ℕ) (k t i : ℕ) (s : Statement) → S .statement t i ≡ s →
+    Puts r at n (testTree S cs k (s .number) t) out after → Puts r at n (baseOf S cs k test t i) out after
+puts-test S cs k t i s e p = puts-as (ap (λ (x : Statement). testTree S cs k (x .number) t) e) p
 
 -- what accu becomes by the instruction of a statement
-pub gives-result : {few : Few} {at : Slot → ℕ} {n : ℕ} (S : Set) (cs : List ℕ) (k t i : ℕ) (s : Statement) (m : ℕ) → S .statement t i ≡ s → s .number ≡ m →
-    Gives few at n (resultTree S cs k m t i) → Gives few at n (baseOf S cs k result t i)
-gives-result S cs k t i s m e f g = gives-as (ap (λ (x : Statement). resultTree S cs k (x .number) t i) e ∙ ap (λ (x : ℕ). resultTree S cs k x t i) f) g
+pub puts-result : {r : Written} {at : Slot → ℕ} {n : ℕ} {out after : List ℕ} (S : Set) (cs : List ℕ) (k t i : ℕ) (s : Statement) (m : ℕ) → S .statement t i ≡ s → s .number ≡ m →
+    Puts r at n (resultTree S cs k m t i) out after → Puts r at n (baseOf S cs k result t i) out after
+puts-result S cs k t i s m e f p = puts-as (ap (λ (x : Statement). resultTree S cs k (x .number) t i) e ∙ ap (λ (x : ℕ). resultTree S cs k x t i) f) p
 
 -- by one that only loads
 pub result-loads : (S : Set) (cs : List ℕ) (k n t i : ℕ) → (n ≡ 3 → ⊥) → (n ≡ 4 → ⊥) → (n ≡ 5 → ⊥) → (n ≡ 6 → ⊥) → (n ≡ 7 → ⊥) → (n ≡ 8 → ⊥) → (n ≡ 16 → ⊥) →

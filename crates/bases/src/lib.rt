@@ -2,18 +2,19 @@
 ghost use mathlib.Core.Path.{_≡_};
 ghost use mathlib.Core.Bool.{true, false};
 ghost use mathlib.Core.List.{List};
-ghost use Prim.Native.Nat.{ℕ};
+ghost use Prim.Native.Nat.{ℕ, _≤_};
 ghost use Rattle.records.specs.Sets.{setBy};
 ghost use Rattle.encoding.specs.Slots.{kindAt};
 ghost use Rattle.encoding.specs.Steps.{base as baseOf};
 ghost use Rattle.places.specs.Places.{placeOf};
-ghost use Rattle.bases.specs.Fews.{Gives, ofStatement};
+ghost use Rattle.bases.specs.Fews.{Gives, Puts, ofStatement};
 
 mod choices;
 mod operations;
 mod state;
 mod statements;
 mod trees;
+mod written;
 
 use choices::choice_base;
 use choices::fit_base;
@@ -27,20 +28,22 @@ use state::full_base;
 use state::heap_base;
 use state::may_base;
 use state::shut_base;
-use statements::active_base;
-use statements::address_base;
 use statements::argument_base;
-pub use statements::flag_base;
-use statements::loaded_base;
-use statements::result_base;
-use statements::swaps_base;
-use statements::test_base;
-use statements::untest_base;
+use statements::put_active;
+use statements::put_address;
+pub use statements::put_flag;
+use statements::put_loaded;
+use statements::put_result;
+use statements::put_swaps;
+use statements::put_test;
+use statements::put_untest;
 use table::Formula;
 use trees::constant;
 use trees::joined;
 use trees::previous;
 use trees::same;
+pub use written::Written;
+use written::put_none;
 
 // At most four records from one index on, and the index of the tree they are of: the last, or a record that is there already.
 pub struct Few {
@@ -65,24 +68,33 @@ pub fn of_statement(kind: u8) -> bool
         | (kind == kinds::UNTEST)
 }
 
-// The base of the tree of such a kind for statement i of thread t, its records from index n on.
-pub fn statement(set: &[u8], layout: Layout, slots: &[u32], kind: u8, t: u8, i: u16, n: u32) -> Few
-    ensures { λ r. ⌜ ((cs : List ℕ) (k : ℕ) → ofStatement kind ≡ true
-        → Gives r (placeOf (now (slots .entry))) n (baseOf (setBy (now (set .entry)) layout) cs k (kindAt kind) t i)) ⌝ }
+// Writes the tree of such a kind for statement i of thread t, its records from index n on.
+pub fn put_statement(
+    set: &[u8],
+    layout: Layout,
+    slots: &[u32],
+    out: &mut [u8],
+    kind: u8,
+    t: u8,
+    i: u16,
+    n: u32,
+) -> Written
+    ensures { λ r. ⌜ ((cs : List ℕ) (k : ℕ) → ofStatement kind ≡ true → n ≤ 2000000000
+        → Puts r (placeOf (now (slots .entry))) n (baseOf (setBy (now (set .entry)) layout) cs k (kindAt kind) t i) (now (out .entry)) (now (out .exit))) ⌝ }
 {
     match kind {
-        kinds::ACTIVE => active_base(slots, t, i, n),
-        kinds::ADDRESS => address_base(set, layout, slots, t, i, n),
-        kinds::LOADED => loaded_base(set, layout, slots, t, i, n),
-        kinds::SWAPS => swaps_base(set, layout, slots, t, i, n),
-        kinds::RESULT => result_base(set, layout, slots, t, i, n),
-        kinds::TEST => test_base(set, layout, slots, t, i, n),
-        kinds::UNTEST => untest_base(set, layout, slots, t, i, n),
-        _ => same(slots, kinds::NO, 0, 0, 0),
+        kinds::ACTIVE => put_active(slots, out, t, i, n),
+        kinds::ADDRESS => put_address(set, layout, slots, out, t, i, n),
+        kinds::LOADED => put_loaded(set, layout, slots, out, t, i, n),
+        kinds::SWAPS => put_swaps(set, layout, slots, out, t, i, n),
+        kinds::RESULT => put_result(set, layout, slots, out, t, i, n),
+        kinds::TEST => put_test(set, layout, slots, out, t, i, n),
+        kinds::UNTEST => put_untest(set, layout, slots, out, t, i, n),
+        _ => put_none(slots, kinds::NO, 0, 0, 0),
     }
 }
 
-// The base of another kind's tree for a and b, its records from index n on; that of a flag is `flag_base`.
+// The base of another kind's tree for a and b, its records from index n on; that of a flag is `put_flag`.
 pub fn base(
     set: &[u8],
     layout: Layout,

@@ -3,22 +3,14 @@ ghost use mathlib.Core.Path.{_≡_};
 ghost use mathlib.Core.Bool.{cond};
 ghost use Prim.Native.Nat.{ℕ, _-_};
 ghost use lib.Dec.{eqb};
-ghost use Rattle.table.specs.Programs.{Binary, binaryNumber, binarySort, ref, leaf, binary, ternary, constantWord, and2, equal2, read2, if3};
-ghost use Rattle.encoding.specs.Slots.{Kind, Slot, slot, kindNumber, startPlace, full, adr, val, heap};
+ghost use Rattle.table.specs.Programs.{Binary, binaryNumber, binarySort, ref, leaf, binary, constantWord};
+ghost use Rattle.encoding.specs.Slots.{Kind, Slot, slot, kindNumber, startPlace};
 ghost use Rattle.places.specs.Places.{placeOf};
 ghost use Rattle.bases.specs.Fews.{Gives, One, Three, plain};
 use crate::Few;
-use crate::operations::AND;
 use crate::operations::BIT;
 use crate::operations::CONSTANT;
-use crate::operations::EQUAL;
-use crate::operations::IF;
-use crate::operations::READ;
 use crate::operations::WORD;
-use places::kinds::ADR;
-use places::kinds::FULL;
-use places::kinds::HEAP;
-use places::kinds::VAL;
 use places::place;
 use table::Formula;
 
@@ -100,27 +92,6 @@ pub fn same(slots: &[u32], kind: u8, a: u8, b: u16, start: u64) -> Few
         second: none,
         third: none,
         fourth: none,
-    }
-}
-
-// A load of the address at index x by thread t: if full and adr is x then val else the cell.
-pub fn load(slots: &[u32], t: u8, x: u64, n: u32) -> Few
-    ensures { λ r. ⌜ ((s : Slot) → x ≡ placeOf (now (slots .entry)) s → Gives r (placeOf (now (slots .entry))) n
-        (ternary (if3 2) (binary and2 (ref (slot full t 0)) (binary equal2 (ref (slot adr t 0)) (ref s))) (ref (slot val t 0)) (binary read2 (ref (slot heap 0 0)) (ref s)))) ⌝ }
-{
-    let k = n as u64;
-    let root = k + 3;
-    let first = formula(EQUAL, BIT, place(slots, ADR, t, 0, 2), x, 0);
-    let second = formula(AND, BIT, place(slots, FULL, t, 0, 0), k, 0);
-    let third = formula(READ, WORD, place(slots, HEAP, 0, 0, 3), x, 0);
-    let fourth = formula(IF, WORD, k + 1, place(slots, VAL, t, 0, 2), k + 2);
-    Few {
-        count: 4,
-        root,
-        first,
-        second,
-        third,
-        fourth,
     }
 }
 

@@ -16,8 +16,9 @@ use Rattle.table.specs.Programs.{next, records, Command, sets, put, compiled, n
 use Rattle.encoding.specs.Slots.{Kind, choice, active, opening, shut, barred, held, waits, may, none, fit, one, address, loaded, swaps, result, test, untest, flushTo, writeTo, flushValue, writeValue, raised, exits, codes, heap, val, adr, mem, accu, full, halted, flag, mark, halts, ended, code, no, yes, nought, unit, argument, Slot, slot, same, Term, kinds, kindAt}
 use Rattle.encoding.specs.Steps.{Shape, perChoice, perThread, perStatement, perCheckpoint, perMark, beforeThread, beforeChoice, single, shape, chain, link, links, base, tree, rows, columns, kept, entry, line, leads}
 use Rattle.places.specs.Places.{placeOf}
-use Rattle.bases.specs.Fews.{Gives, formulas, ofStatement}
+use Rattle.bases.specs.Fews.{Gives, Puts, formulas, ofStatement}
 use Rattle.bases.specs.declared.Few.{Few}
+use Rattle.bases.specs.declared.written.Written.{Written}
 use Rattle.encoder.specs.Pieces.{Writes, WritesTree}
 use Rattle.encoder.proofs.Pieces.{writes-none}
 
@@ -182,6 +183,10 @@ base-written few places n t g out after e = record {
   treeNext = g .countIs;
   treeRoot = g .rootIs;
 }
+
+-- and so is a base that was written
+pub put-written : (r : Written) (places : Slot → ℕ) (n : ℕ) (t : Term) (out after : List ℕ) → Puts r places n t out after → WritesTree places t out n after (n + r .count) (r .root)
+put-written r places n t out after p = record { treeWritten = p .written; treeNext = p .countPut; treeRoot = p .rootPut }
 
 module _ (S : Set) (cs : List ℕ) (k : ℕ) (kind : Kind) (a b : ℕ) (out slots : List ℕ) (n : ℕ) where
   pub entry-none : kept S cs 0 (shape kind) a b ≡ false → Writes (entry S cs k kind a b) out slots n out slots n

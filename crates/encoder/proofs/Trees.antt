@@ -18,7 +18,7 @@ use Rattle.bases.specs.declared.Few.{Few}
 use Rattle.links.specs.Placed.{placedLink}
 use Rattle.links.specs.declared.Link.{Link}
 use Rattle.encoder.specs.Pieces.{WritesTree}
-use Rattle.encoder.proofs.Records.{recordAt, written-1, written-2, written-3, written-4}
+use Rattle.bases.proofs.Records.{recordAt, written-1, written-2, written-3, written-4}
 
 -- ---- a few records
 

@@ -218,10 +218,9 @@ fn statement_value(
         (now (out .entry)) (now (slots .entry)) n (now (out .exit)) (now (slots .exit)) r)
         × (r ≤ n + 36) ⌝ }
 {
-    let few = bases::statement(set, layout, slots, kind, t, i, n);
-    put_few(out, n, few);
-    places::set_place(slots, kind, t, i, few.root);
-    n + (few.count as u32)
+    let tree = bases::put_statement(set, layout, slots, out, kind, t, i, n);
+    places::set_place(slots, kind, t, i, tree.root);
+    n + tree.count
 }
 
 // Writes the values of a kind of statements for thread t.
@@ -299,10 +298,9 @@ fn flag(
         (now (out .entry)) (now (slots .entry)) n (now (out .exit)) (now (slots .exit)) r)
         × (r ≤ n + 36) ⌝ }
 {
-    let few = bases::flag_base(set, layout, slots, t, j, n);
-    put_few(out, n, few);
-    let next = n + (few.count as u32);
-    let tree = flag_chain(set, layout, nexts, slots, out, t, j, count, next, few.root);
+    let base = bases::put_flag(set, layout, slots, out, t, j, n);
+    let next = n + base.count;
+    let tree = flag_chain(set, layout, nexts, slots, out, t, j, count, next, base.root);
     places::set_place(slots, FLAG, t, j, tree.at);
     tree.next
 }
