@@ -5,7 +5,6 @@ use mathlib.Core.Bool.{Bool, true, false, _||_}
 use mathlib.Core.List.{List, [], _∷_}
 use native.Mathlib.Omega.{arith}
 use native.Mathlib.Decide.{decLt}
-use native.Mathlib.Nat.{add-zero}
 use native.Mathlib.Numerals.{add-one}
 use lib.Dec.{eqb}
 use lib.ListN.{take, List·getD-eq-default}
@@ -20,30 +19,13 @@ use Rattle.table.specs.Formulas.{writtenAt}
 use Rattle.table.specs.Programs.{Leaf, Unary, Binary, Ternary, ref, leaf, unary, binary, ternary, if3, and2, or2, equal2, read2, not1, top1, binaryNumber, binarySort, leafFormula, unaryFormula, ternaryFormula, next, root, records}
 use Rattle.encoding.specs.Slots.{Slot, slot, Term, kinds, kindAt, choice, loaded, result, test}
 use Rattle.encoding.specs.Steps.{base as baseOf, resultTree, testTree}
-use Rattle.bases.specs.declared.Few.{Few}
 use Rattle.bases.specs.declared.written.Written.{Written}
-use Rattle.bases.specs.Fews.{Gives, formulas, Puts, plain, One, Three, oneFew, threeFew, ofStatement}
+use Rattle.bases.specs.Fews.{Few, Gives, formulas, Puts, plain, One, Three, oneFew, threeFew, ofStatement}
 use Rattle.bases.proofs.Records.{recordAt, written-1, written-3, written-4}
-
--- the same records are of a tree that is the same
-pub gives-as : {few : Few} {at : Slot → ℕ} {n : ℕ} {t u : Term} → u ≡ t → Gives few at n t → Gives few at n u
-gives-as {few} {at} {n} e g = subst (λ (x : Term). Gives few at n x) (sym e) g
-
-pub gives-ref-as : {few : Few} {at : Slot → ℕ} {n : ℕ} {s t : Slot} → t ≡ s → Gives few at n (ref s) → Gives few at n (ref t)
-gives-ref-as {few} {at} {n} e g = subst (λ (x : Slot). Gives few at n (ref x)) (sym e) g
 
 -- ---- numbers of records
 
 module _ (at : Slot → ℕ) (n : ℕ) (t : Term) (few : Few) where
-  -- no record
-  pub gives-none : few .count ≡ 0 → few .root ≡ root at n t → records at n t [] ≡ [] → next n t ≡ n → Gives few at n t
-  gives-none count index list after = record {
-    formulasAre = ap (λ (k : ℕ). take k (few .first ∷ few .second ∷ few .third ∷ few .fourth ∷ [])) count ∙ sym list;
-    rootIs = index;
-    countIs = ap (λ (k : ℕ). n + k) count ∙ add-zero n ∙ sym after;
-    few = rw count (omega arith);
-  }
-
   pub gives-one : (first : Formula) → One few n first → records at n t [] ≡ first ∷ [] → root at n t ≡ n → next n t ≡ suc n → Gives few at n t
   gives-one first (count, (index, same)) list own after = record {
     formulasAre = (λ z. take (count z) (same z ∷ few .second ∷ few .third ∷ few .fourth ∷ [])) ∙ sym list;
@@ -64,10 +46,6 @@ module _ (at : Slot → ℕ) (n : ℕ) (t : Term) (few : Few) where
 -- ---- trees of one record
 
 module _ (at : Slot → ℕ) (n : ℕ) (few : Few) where
-  pub gives-ref : (s : Slot) → few .count ≡ 0 → few .root ≡ at s → Gives few at n (ref s)
-  unfolding next root records
-  gives-ref s count index = gives-none at n (ref s) few count index refl refl
-
   pub gives-leaf : (x y : Leaf) → y ≡ x → One few n (leafFormula x) → Gives few at n (leaf y)
   unfolding next root records
   gives-leaf x y e one = gives-one at n (leaf y) few (leafFormula x) one (λ z. leafFormula (e z) ∷ []) refl refl
@@ -176,10 +154,6 @@ puts-as {r} {at} {n} {t} {u} {out} {after} e p = subst (λ (x : Term). Puts r at
 -- ---- by number
 
 -- the base of the kind that a number names
-pub gives-kind : {few : Few} {at : Slot → ℕ} {n : ℕ} (S : Set) (cs : List ℕ) (k a b kind m : ℕ) → kind ≡ m →
-    Gives few at n (baseOf S cs k (kindAt m) a b) → Gives few at n (baseOf S cs k (kindAt kind) a b)
-gives-kind S cs k a b kind m e g = gives-as (ap (λ (x : ℕ). baseOf S cs k (kindAt x) a b) e) g
-
 pub puts-kind : {r : Written} {at : Slot → ℕ} {n : ℕ} {out after : List ℕ} (S : Set) (cs : List ℕ) (k a b kind m : ℕ) → kind ≡ m →
     Puts r at n (baseOf S cs k (kindAt m) a b) out after → Puts r at n (baseOf S cs k (kindAt kind) a b) out after
 puts-kind S cs k a b kind m e p = puts-as (ap (λ (x : ℕ). baseOf S cs k (kindAt x) a b) e) p

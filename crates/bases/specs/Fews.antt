@@ -1,4 +1,4 @@
--- A tree of at most four records as the code gives it: its records, and the index of its own. Assumes nothing.
+-- A tree of at most four records as the code writes it: its records, and the index of its own. Assumes nothing.
 use Prim.Native.Nat.{ℕ, _+_, _≤_}
 use mathlib.Core.Path.{_≡_}
 use mathlib.Core.Bool.{Bool, _||_}
@@ -9,8 +9,16 @@ use Rattle.table.specs.declared.Formula.{Formula}
 use Rattle.table.specs.Formulas.{writtenAt}
 use Rattle.table.specs.Programs.{next, root, records}
 use Rattle.encoding.specs.Slots.{Slot, Term}
-use Rattle.bases.specs.declared.Few.{Few}
 use Rattle.bases.specs.declared.written.Written.{Written}
+
+-- how many records, the index of the tree's own, and the records
+pub record Few : Type 0 where
+  pub count : ℕ
+  pub root : ℕ
+  pub first : Formula
+  pub second : Formula
+  pub third : Formula
+  pub fourth : Formula
 
 abbrev pub formulas : Few → List Formula
 formulas few = take (few .count) (few .first ∷ few .second ∷ few .third ∷ few .fourth ∷ [])

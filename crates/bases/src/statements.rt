@@ -1,14 +1,13 @@
-// The bases of what statements give.
+// What statements give.
 ghost use mathlib.Core.Path.{_≡_};
 ghost use mathlib.Core.List.{List};
 ghost use Prim.Native.Nat.{ℕ, _≤_};
 ghost use Rattle.records.specs.Sets.{setBy};
 ghost use Rattle.table.specs.Programs.{Binary, binaryNumber, binarySort, ref, binary, and2};
-ghost use Rattle.encoding.specs.Slots.{Kind, slot, kindNumber, startPlace, choice, active, address, loaded, swaps, result, test, untest, flag, accu, argument};
+ghost use Rattle.encoding.specs.Slots.{Kind, Slot, slot, kindNumber, startPlace, choice, active, address, loaded, swaps, result, test, untest, flag, accu, argument};
 ghost use Rattle.encoding.specs.Steps.{base as baseOf};
 ghost use Rattle.places.specs.Places.{placeOf};
-ghost use Rattle.bases.specs.Fews.{Gives, Puts};
-use crate::Few;
+ghost use Rattle.bases.specs.Fews.{Puts};
 use crate::operations::AND;
 use crate::operations::BIT;
 use crate::operations::EQUAL;
@@ -21,9 +20,9 @@ use crate::operations::READ;
 use crate::operations::TIMES;
 use crate::operations::TOP;
 use crate::operations::WORD;
-use crate::trees::constant;
-use crate::trees::formula;
 use crate::written::Written;
+use crate::written::formula;
+use crate::written::put_constant;
 use crate::written::put_load;
 use crate::written::put_none;
 use crate::written::put_one;
@@ -268,9 +267,9 @@ pub fn put_flag(
 }
 
 // The argument of a statement.
-pub fn argument_base(set: &[u8], layout: Layout, slots: &[u32], t: u8, i: u16, n: u32) -> Few
-    ensures { λ r. ⌜ ((cs : List ℕ) (k : ℕ) → Gives r (placeOf (now (slots .entry))) n (baseOf (setBy (now (set .entry)) layout) cs k argument t i)) ⌝ }
+pub fn put_argument(set: &[u8], layout: Layout, out: &mut [u8], t: u8, i: u16, n: u32) -> Written
+    ensures { λ r. ⌜ ((at : Slot → ℕ) (cs : List ℕ) (k : ℕ) → Puts r at n (baseOf (setBy (now (set .entry)) layout) cs k argument t i) (now (out .entry)) (now (out .exit))) ⌝ }
 {
     let statement = fetch(set, layout, t, i);
-    constant(n, statement.argument)
+    put_constant(out, n, statement.argument)
 }

@@ -1,18 +1,20 @@
-// Trees of few records written as they are made: a value of most statements is one that is there already, and has no record.
+// Trees of few records from the indexes of their operands, written as they are made.
 ghost use mathlib.Core.Path.{_≡_};
 ghost use mathlib.Core.List.{List};
-ghost use Prim.Native.Nat.{ℕ, _+_, _≤_};
-ghost use Rattle.table.specs.Programs.{ref, binary, ternary, and2, equal2, read2, if3};
+ghost use mathlib.Core.Bool.{cond};
+ghost use Prim.Native.Nat.{ℕ, _+_, _-_, _≤_};
+ghost use lib.Dec.{eqb};
+ghost use Rattle.table.specs.Programs.{Binary, binaryNumber, binarySort, ref, leaf, binary, ternary, constantWord, and2, equal2, read2, if3};
 ghost use Rattle.encoding.specs.Slots.{Kind, Slot, slot, Term, kindNumber, startPlace, full, adr, val, heap};
 ghost use Rattle.places.specs.Places.{placeOf};
 ghost use Rattle.bases.specs.Fews.{Gives, Puts, plain, oneFew, threeFew};
 use crate::operations::AND;
 use crate::operations::BIT;
+use crate::operations::CONSTANT;
 use crate::operations::EQUAL;
 use crate::operations::IF;
 use crate::operations::READ;
 use crate::operations::WORD;
-use crate::trees::formula;
 use places::kinds::ADR;
 use places::kinds::FULL;
 use places::kinds::HEAP;
@@ -38,6 +40,20 @@ fn after(n: u32, k: u32) -> u32
     n
 }
 
+// A record without a constant.
+pub fn formula(operation: u8, sort: u8, a: u64, b: u64, c: u64) -> Formula
+    ensures { λ r. ⌜ r ≡ plain operation sort a b c ⌝ }
+{
+    Formula {
+        operation,
+        sort,
+        constant: 0,
+        a,
+        b,
+        c,
+    }
+}
+
 // No record: the tree is another value, which lies at `start` unless it was set.
 pub fn put_none(slots: &[u32], kind: u8, a: u8, b: u16, start: u64) -> Written
     ensures { λ r. ⌜ ((n : ℕ) (k : Kind) (out : List ℕ) → kind ≡ kindNumber k → start ≡ startPlace (slot k a b) → Puts r (placeOf (now (slots .entry))) n (ref (slot k a b)) out out) ⌝ }
@@ -51,6 +67,25 @@ pub fn put_one(out: &mut [u8], n: u32, operation: u8, sort: u8, a: u64, b: u64, 
     ensures { λ r. ⌜ ((at : Slot → ℕ) (t : Term) → Gives (oneFew n (plain operation sort a b c)) at n t → Puts r at n t (now (out .entry)) (now (out .exit))) ⌝ }
 {
     let first = formula(operation, sort, a, b, c);
+    table::put(out, n, first);
+    Written {
+        count: 1,
+        root: n as u64,
+    }
+}
+
+// A word that is known.
+pub fn put_constant(out: &mut [u8], n: u32, word: u16) -> Written
+    ensures { λ r. ⌜ ((at : Slot → ℕ) → Puts r at n (leaf (constantWord word)) (now (out .entry)) (now (out .exit))) ⌝ }
+{
+    let first = Formula {
+        operation: CONSTANT,
+        sort: WORD,
+        constant: word,
+        a: 0,
+        b: 0,
+        c: 0,
+    };
     table::put(out, n, first);
     Written {
         count: 1,
@@ -87,4 +122,36 @@ pub fn put_load(slots: &[u32], out: &mut [u8], t: u8, x: u64, n: u32) -> Written
     table::put(out, after(n, 2), third);
     table::put(out, after(n, 3), fourth);
     Written { count: 4, root }
+}
+
+// No record: the tree is the value of one kind for the thread before t, or before the first thread the value of another kind.
+pub fn put_previous(slots: &[u32], kind: u8, first: u8, t: u16, start: u64) -> Written
+    ensures { λ r. ⌜ ((n : ℕ) (k l : Kind) (out : List ℕ) → kind ≡ kindNumber k → first ≡ kindNumber l → start ≡ startPlace (slot k 0 (t - 1)) → start ≡ startPlace (slot l 0 0)
+        → Puts r (placeOf (now (slots .entry))) n (ref (cond (eqb t 0) (slot l 0 0) (slot k 0 (t - 1)))) out out) ⌝ }
+{
+    if t == 0 {
+        return put_none(slots, first, 0, 0, start);
+    }
+    put_none(slots, kind, 0, t - 1, start)
+}
+
+// Two bits that lie at 0 at the start, joined.
+pub fn put_joined(
+    slots: &[u32],
+    out: &mut [u8],
+    operation: u8,
+    kind: u8,
+    a: u8,
+    b: u16,
+    other: u8,
+    c: u8,
+    d: u16,
+    n: u32,
+) -> Written
+    ensures { λ r. ⌜ ((o : Binary) (k l : Kind) → operation ≡ binaryNumber o → 1 ≡ binarySort o → kind ≡ kindNumber k → other ≡ kindNumber l
+        → 0 ≡ startPlace (slot k a b) → 0 ≡ startPlace (slot l c d) → Puts r (placeOf (now (slots .entry))) n (binary o (ref (slot k a b)) (ref (slot l c d))) (now (out .entry)) (now (out .exit))) ⌝ }
+{
+    let first = place(slots, kind, a, b, 0);
+    let second = place(slots, other, c, d, 0);
+    put_one(out, n, operation, BIT, first, second, 0)
 }

@@ -15,14 +15,13 @@ ghost use Rattle.encoding.specs.Slots.{Slot, same, Term, kindAt, code as codeKi
 ghost use Rattle.encoding.specs.Steps.{only, word0, Link as ChainLink, linked, chain as chainOf, link as linkOf, links as linksOf, leads as leadsOf, entry as entryOf, line as lineOf, block as blockOf, blocks as blocksOf, ruled, step as stepOf};
 ghost use Rattle.encoding.proofs.Templates.{Marked};
 ghost use Rattle.places.specs.Places.{placeOf, listed, size as placesCount};
-ghost use Rattle.bases.specs.Fews.{formulas, ofStatement};
+ghost use Rattle.bases.specs.Fews.{ofStatement};
 ghost use Rattle.links.specs.Nexts.{Nexts};
 ghost use Rattle.links.specs.Placed.{placedLink};
 ghost use Rattle.marks.specs.Marks.{Marking, Settled};
 ghost use Rattle.encoder.specs.Answers.{sizeAnswer, encodeAnswer, tableOutput};
 ghost use Rattle.encoder.specs.Pieces.{Writes, WritesTree, Limits};
 ghost use Rattle.encoder.specs.Templates.{Ready, Copied, Prepared, Filled};
-use bases::Few;
 use links::Link;
 use places::Points;
 use places::kinds::ARGUMENT;
@@ -50,34 +49,6 @@ struct Root {
 }
 
 // ---- trees
-
-// Writes the few records of a base.
-fn put_few(out: &mut [u8], n: u32, few: Few)
-    requires { ⌜ (n ≤ 2000000000) × (few .count ≤ 4) ⌝ }
-    ensures { λ _. ⌜ now (out .exit) ≡ writtenAt (now (out .entry)) n (formulas few) ⌝ }
-{
-    let count = few.count;
-    if count == 0 {
-        return;
-    }
-    let first = few.first;
-    table::put(out, n, first);
-    if count == 1 {
-        return;
-    }
-    let second = few.second;
-    table::put(out, n + 1, second);
-    if count == 2 {
-        return;
-    }
-    let third = few.third;
-    table::put(out, n + 2, third);
-    if count == 3 {
-        return;
-    }
-    let fourth = few.fourth;
-    table::put(out, n + 3, fourth);
-}
 
 // Writes a link over a tree.
 fn put_link(out: &mut [u8], n: u32, at: u64, link: Link) -> Root
@@ -178,9 +149,8 @@ fn entry(
         × (r ≤ n + 36) ⌝ }
 {
     if links::kept(set, layout, points, kind, a, b) {
-        let few = bases::base(set, layout, slots, step, kind, a, b, n);
-        put_few(out, n, few);
-        let next = n + (few.count as u32);
+        let base = bases::put_base(set, layout, slots, out, step, kind, a, b, n);
+        let next = n + base.count;
         let tree = chain(
             set,
             layout,
@@ -192,7 +162,7 @@ fn entry(
             a,
             b,
             next,
-            few.root,
+            base.root,
         );
         places::set_place(slots, kind, a, b, tree.at);
         return tree.next;
