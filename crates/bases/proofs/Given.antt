@@ -5,7 +5,6 @@ use mathlib.Core.Bool.{Bool, true, false, _||_}
 use mathlib.Core.List.{List, [], _∷_}
 use native.Mathlib.Omega.{arith}
 use native.Mathlib.Decide.{decLt}
-use native.Mathlib.Nat.{add-zero}
 use native.Mathlib.Numerals.{add-one}
 use lib.Dec.{eqb}
 use lib.ListN.{take, List·getD-eq-default}
@@ -16,31 +15,17 @@ use Rattle.base.proofs.Choice.{passed, or-false, clash}
 use Rattle.records.specs.Sets.{Set}
 use Rattle.records.specs.declared.Statement.{Statement}
 use Rattle.table.specs.declared.Formula.{Formula}
+use Rattle.table.specs.Formulas.{writtenAt}
 use Rattle.table.specs.Programs.{Leaf, Unary, Binary, Ternary, ref, leaf, unary, binary, ternary, if3, and2, or2, equal2, read2, not1, top1, binaryNumber, binarySort, leafFormula, unaryFormula, ternaryFormula, next, root, records}
 use Rattle.encoding.specs.Slots.{Slot, slot, Term, kinds, kindAt, choice, loaded, result, test}
 use Rattle.encoding.specs.Steps.{base as baseOf, resultTree, testTree}
-use Rattle.bases.specs.declared.Few.{Few}
-use Rattle.bases.specs.Fews.{Gives, plain, One, Three, ofStatement}
-
--- the same records are of a tree that is the same
-pub gives-as : {few : Few} {at : Slot → ℕ} {n : ℕ} {t u : Term} → u ≡ t → Gives few at n t → Gives few at n u
-gives-as {few} {at} {n} e g = subst (λ (x : Term). Gives few at n x) (sym e) g
-
-pub gives-ref-as : {few : Few} {at : Slot → ℕ} {n : ℕ} {s t : Slot} → t ≡ s → Gives few at n (ref s) → Gives few at n (ref t)
-gives-ref-as {few} {at} {n} e g = subst (λ (x : Slot). Gives few at n (ref x)) (sym e) g
+use Rattle.bases.specs.declared.written.Written.{Written}
+use Rattle.bases.specs.Fews.{Few, Gives, formulas, Puts, plain, One, Three, oneFew, threeFew, ofStatement}
+use Rattle.bases.proofs.Records.{recordAt, written-1, written-3, written-4}
 
 -- ---- numbers of records
 
 module _ (at : Slot → ℕ) (n : ℕ) (t : Term) (few : Few) where
-  -- no record
-  pub gives-none : few .count ≡ 0 → few .root ≡ root at n t → records at n t [] ≡ [] → next n t ≡ n → Gives few at n t
-  gives-none count index list after = record {
-    formulasAre = ap (λ (k : ℕ). take k (few .first ∷ few .second ∷ few .third ∷ few .fourth ∷ [])) count ∙ sym list;
-    rootIs = index;
-    countIs = ap (λ (k : ℕ). n + k) count ∙ add-zero n ∙ sym after;
-    few = rw count (omega arith);
-  }
-
   pub gives-one : (first : Formula) → One few n first → records at n t [] ≡ first ∷ [] → root at n t ≡ n → next n t ≡ suc n → Gives few at n t
   gives-one first (count, (index, same)) list own after = record {
     formulasAre = (λ z. take (count z) (same z ∷ few .second ∷ few .third ∷ few .fourth ∷ [])) ∙ sym list;
@@ -61,10 +46,6 @@ module _ (at : Slot → ℕ) (n : ℕ) (t : Term) (few : Few) where
 -- ---- trees of one record
 
 module _ (at : Slot → ℕ) (n : ℕ) (few : Few) where
-  pub gives-ref : (s : Slot) → few .count ≡ 0 → few .root ≡ at s → Gives few at n (ref s)
-  unfolding next root records
-  gives-ref s count index = gives-none at n (ref s) few count index refl refl
-
   pub gives-leaf : (x y : Leaf) → y ≡ x → One few n (leafFormula x) → Gives few at n (leaf y)
   unfolding next root records
   gives-leaf x y e one = gives-one at n (leaf y) few (leafFormula x) one (λ z. leafFormula (e z) ∷ []) refl refl
@@ -143,12 +124,39 @@ gives-load at n s t u v w f g h k p q r o m = record {
     two : n + 2 ≡ suc (suc n)
     two = omega arith
 
+-- ---- trees written
+
+module _ (at : Slot → ℕ) (n : ℕ) (t : Term) (out after : List ℕ) where
+  puts-few : (few : Few) → Gives few at n t → after ≡ writtenAt out n (formulas few) → Puts (record { count = few .count; root = few .root }) at n t out after
+  puts-few few g e = record { written = e ∙ ap (writtenAt out n) (g .formulasAre); rootPut = g .rootIs; countPut = g .countIs; fewPut = g .few }
+
+  pub puts-one : (f : Formula) → Gives (oneFew n f) at n t → after ≡ recordAt n f out → Puts (record { count = 1; root = n }) at n t out after
+  puts-one f g e = puts-few (oneFew n f) g (e ∙ written-1 out n f)
+
+  pub puts-three : (f g h : Formula) → Gives (threeFew n f g h) at n t → after ≡ recordAt (n + 2) h (recordAt (n + 1) g (recordAt n f out)) →
+      Puts (record { count = 3; root = n + 2 }) at n t out after
+  puts-three f g h gives e = puts-few (threeFew n f g h) gives (e ∙ written-3 out n f g h)
+
+  pub puts-four : (f g h k : Formula) → Gives (record { count = 4; root = n + 3; first = f; second = g; third = h; fourth = k }) at n t →
+      after ≡ recordAt (n + 3) k (recordAt (n + 2) h (recordAt (n + 1) g (recordAt n f out))) → Puts (record { count = 4; root = n + 3 }) at n t out after
+  puts-four f g h k gives e =
+      puts-few (record { count = 4; root = n + 3; first = f; second = g; third = h; fourth = k }) gives (e ∙ written-4 out n f g h k)
+
+-- no record
+pub puts-ref : (at : Slot → ℕ) (n : ℕ) (s : Slot) (out : List ℕ) {x : ℕ} → x ≡ at s → Puts (record { count = 0; root = x }) at n (ref s) out out
+unfolding next root records writtenAt
+puts-ref at n s out e = record { written = refl; rootPut = e; countPut = omega arith; fewPut = omega arith }
+
+-- the same records are of a tree that is the same
+pub puts-as : {r : Written} {at : Slot → ℕ} {n : ℕ} {t u : Term} {out after : List ℕ} → u ≡ t → Puts r at n t out after → Puts r at n u out after
+puts-as {r} {at} {n} {t} {u} {out} {after} e p = subst (λ (x : Term). Puts r at n x out after) (sym e) p
+
 -- ---- by number
 
 -- the base of the kind that a number names
-pub gives-kind : {few : Few} {at : Slot → ℕ} {n : ℕ} (S : Set) (cs : List ℕ) (k a b kind m : ℕ) → kind ≡ m →
-    Gives few at n (baseOf S cs k (kindAt m) a b) → Gives few at n (baseOf S cs k (kindAt kind) a b)
-gives-kind S cs k a b kind m e g = gives-as (ap (λ (x : ℕ). baseOf S cs k (kindAt x) a b) e) g
+pub puts-kind : {r : Written} {at : Slot → ℕ} {n : ℕ} {out after : List ℕ} (S : Set) (cs : List ℕ) (k a b kind m : ℕ) → kind ≡ m →
+    Puts r at n (baseOf S cs k (kindAt m) a b) out after → Puts r at n (baseOf S cs k (kindAt kind) a b) out after
+puts-kind S cs k a b kind m e p = puts-as (ap (λ (x : ℕ). baseOf S cs k (kindAt x) a b) e) p
 
 -- past the last kind
 pub kind-past : (kind : ℕ) → 41 ≤ kind → kindAt kind ≡ choice
@@ -156,14 +164,14 @@ unfolding kinds
 kind-past kind h = List·getD-eq-default kinds choice h
 
 -- the test of a statement
-pub gives-test : {few : Few} {at : Slot → ℕ} {n : ℕ} (S : Set) (cs : List ℕ) (k t i : ℕ) (s : Statement) → S .statement t i ≡ s →
-    Gives few at n (testTree S cs k (s .number) t) → Gives few at n (baseOf S cs k test t i)
-gives-test S cs k t i s e g = gives-as (ap (λ (x : Statement). testTree S cs k (x .number) t) e) g
+pub puts-test : {r : Written} {at : Slot → ℕ} {n : ℕ} {out after : List ℕ} (S : Set) (cs : List ℕ) (k t i : ℕ) (s : Statement) → S .statement t i ≡ s →
+    Puts r at n (testTree S cs k (s .number) t) out after → Puts r at n (baseOf S cs k test t i) out after
+puts-test S cs k t i s e p = puts-as (ap (λ (x : Statement). testTree S cs k (x .number) t) e) p
 
 -- what accu becomes by the instruction of a statement
-pub gives-result : {few : Few} {at : Slot → ℕ} {n : ℕ} (S : Set) (cs : List ℕ) (k t i : ℕ) (s : Statement) (m : ℕ) → S .statement t i ≡ s → s .number ≡ m →
-    Gives few at n (resultTree S cs k m t i) → Gives few at n (baseOf S cs k result t i)
-gives-result S cs k t i s m e f g = gives-as (ap (λ (x : Statement). resultTree S cs k (x .number) t i) e ∙ ap (λ (x : ℕ). resultTree S cs k x t i) f) g
+pub puts-result : {r : Written} {at : Slot → ℕ} {n : ℕ} {out after : List ℕ} (S : Set) (cs : List ℕ) (k t i : ℕ) (s : Statement) (m : ℕ) → S .statement t i ≡ s → s .number ≡ m →
+    Puts r at n (resultTree S cs k m t i) out after → Puts r at n (baseOf S cs k result t i) out after
+puts-result S cs k t i s m e f p = puts-as (ap (λ (x : Statement). resultTree S cs k (x .number) t i) e ∙ ap (λ (x : ℕ). resultTree S cs k x t i) f) p
 
 -- by one that only loads
 pub result-loads : (S : Set) (cs : List ℕ) (k n t i : ℕ) → (n ≡ 3 → ⊥) → (n ≡ 4 → ⊥) → (n ≡ 5 → ⊥) → (n ≡ 6 → ⊥) → (n ≡ 7 → ⊥) → (n ≡ 8 → ⊥) → (n ≡ 16 → ⊥) →

@@ -1,2 +1,3 @@
--- Laws of trees of few records.
+-- Laws of records and of trees of few records.
+pub mod Records
 mod Given

@@ -1,4 +1,4 @@
--- A tree of at most four records as the code gives it: its records, and the index of its own. Assumes nothing.
+-- A tree of at most four records as the code writes it: its records, and the index of its own. Assumes nothing.
 use Prim.Native.Nat.{ℕ, _+_, _≤_}
 use mathlib.Core.Path.{_≡_}
 use mathlib.Core.Bool.{Bool, _||_}
@@ -6,9 +6,19 @@ use mathlib.Core.List.{List, [], _∷_}
 use lib.Dec.{eqb}
 use lib.ListN.{take}
 use Rattle.table.specs.declared.Formula.{Formula}
+use Rattle.table.specs.Formulas.{writtenAt}
 use Rattle.table.specs.Programs.{next, root, records}
 use Rattle.encoding.specs.Slots.{Slot, Term}
-use Rattle.bases.specs.declared.Few.{Few}
+use Rattle.bases.specs.declared.written.Written.{Written}
+
+-- how many records, the index of the tree's own, and the records
+pub record Few : Type 0 where
+  pub count : ℕ
+  pub root : ℕ
+  pub first : Formula
+  pub second : Formula
+  pub third : Formula
+  pub fourth : Formula
 
 abbrev pub formulas : Few → List Formula
 formulas few = take (few .count) (few .first ∷ few .second ∷ few .third ∷ few .fourth ∷ [])
@@ -19,6 +29,13 @@ pub record Gives (given : Few) (places : Slot → ℕ) (n : ℕ) (t : Term) : Ty
   pub rootIs : given .root ≡ root places n t
   pub countIs : n + given .count ≡ next n t
   pub few : given .count ≤ 4
+
+-- a tree's records are written to an output from index n on
+pub record Puts (put : Written) (places : Slot → ℕ) (n : ℕ) (t : Term) (out after : List ℕ) : Type 0 where
+  pub written : after ≡ writtenAt out n (records places n t [])
+  pub rootPut : put .root ≡ root places n t
+  pub countPut : n + put .count ≡ next n t
+  pub fewPut : put .count ≤ 4
 
 -- the kinds by number that have one value for each statement, and no links: active, and address to untest
 abbrev pub ofStatement : ℕ → Bool
@@ -38,3 +55,10 @@ One few n first = (few .count ≡ 1) × ((few .root ≡ n) × (few .first ≡ fi
 abbrev pub Three : Few → ℕ → (first second third : Formula) → Type 0
 Three few n first second third =
     (few .count ≡ 3) × ((few .root ≡ n + 2) × ((few .first ≡ first) × ((few .second ≡ second) × (few .third ≡ third))))
+
+-- the same as trees
+abbrev pub oneFew : ℕ → Formula → Few
+oneFew n first = record { count = 1; root = n; first = first; second = first; third = first; fourth = first }
+
+abbrev pub threeFew : ℕ → (first second third : Formula) → Few
+threeFew n first second third = record { count = 3; root = n + 2; first = first; second = second; third = third; fourth = third }

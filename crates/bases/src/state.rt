@@ -1,10 +1,9 @@
-// The bases of marks, threads and the machine.
-ghost use Prim.Native.Nat.{_+_};
+// The values of marks, threads and the machine.
+ghost use Prim.Native.Nat.{_+_, _≤_};
 ghost use Rattle.table.specs.Programs.{ref, unary, binary, ternary, not1, and2, or2, read2, if3, write3};
 ghost use Rattle.encoding.specs.Slots.{slot, choice, opening, barred, waits, writeTo, writeValue, heap, full, no};
 ghost use Rattle.places.specs.Places.{placeOf};
-ghost use Rattle.bases.specs.Fews.{Gives};
-use crate::Few;
+ghost use Rattle.bases.specs.Fews.{Puts};
 use crate::operations::AND;
 use crate::operations::BIT;
 use crate::operations::IF;
@@ -14,9 +13,10 @@ use crate::operations::OR;
 use crate::operations::READ;
 use crate::operations::WORD;
 use crate::operations::WRITE;
-use crate::trees::formula;
-use crate::trees::single;
-use crate::trees::three;
+use crate::written::Written;
+use crate::written::formula;
+use crate::written::put_one;
+use crate::written::put_three;
 use places::kinds::BARRED;
 use places::kinds::CHOICE;
 use places::kinds::FULL;
@@ -29,17 +29,17 @@ use places::kinds::WRITE_VALUE;
 use places::place;
 
 // Checkpoint p is not open.
-pub fn shut_base(slots: &[u32], p: u16, n: u32) -> Few
-    ensures { λ r. ⌜ Gives r (placeOf (now (slots .entry))) n (unary not1 (ref (slot opening 0 p))) ⌝ }
+pub fn put_shut(slots: &[u32], out: &mut [u8], p: u16, n: u32) -> Written
+    ensures { λ r. ⌜ Puts r (placeOf (now (slots .entry))) n (unary not1 (ref (slot opening 0 p))) (now (out .entry)) (now (out .exit)) ⌝ }
 {
     let opening = place(slots, OPENING, 0, p, 0);
-    single(n, NOT, BIT, opening, 0, 0)
+    put_one(out, n, NOT, BIT, opening, 0, 0)
 }
 
 // Thread t may execute.
-pub fn may_base(slots: &[u32], t: u8, n: u32) -> Few
-    ensures { λ r. ⌜ Gives r (placeOf (now (slots .entry))) n
-        (unary not1 (binary or2 (binary and2 (ref (slot full t 0)) (ref (slot barred t 0))) (ref (slot waits t 0)))) ⌝ }
+pub fn put_may(slots: &[u32], out: &mut [u8], t: u8, n: u32) -> Written
+    ensures { λ r. ⌜ (n ≤ 2000000000 → Puts r (placeOf (now (slots .entry))) n
+        (unary not1 (binary or2 (binary and2 (ref (slot full t 0)) (ref (slot barred t 0))) (ref (slot waits t 0)))) (now (out .entry)) (now (out .exit))) ⌝ }
 {
     let k = n as u64;
     let next = k + 1;
@@ -49,37 +49,37 @@ pub fn may_base(slots: &[u32], t: u8, n: u32) -> Few
     let first = formula(AND, BIT, full, barred, 0);
     let second = formula(OR, BIT, k, waits, 0);
     let third = formula(NOT, BIT, next, 0, 0);
-    three(n, first, second, third)
+    put_three(out, n, first, second, third)
 }
 
 // Thread t's buffer is full unless it is flushed.
-pub fn full_base(slots: &[u32], threads: u8, t: u8, n: u32) -> Few
-    ensures { λ r. ⌜ Gives r (placeOf (now (slots .entry))) n
-        (ternary (if3 1) (ref (slot choice 0 (threads + t))) (ref (slot no 0 0)) (ref (slot full t 0))) ⌝ }
+pub fn put_full(slots: &[u32], out: &mut [u8], threads: u8, t: u8, n: u32) -> Written
+    ensures { λ r. ⌜ Puts r (placeOf (now (slots .entry))) n
+        (ternary (if3 1) (ref (slot choice 0 (threads + t))) (ref (slot no 0 0)) (ref (slot full t 0))) (now (out .entry)) (now (out .exit)) ⌝ }
 {
     let j = (threads as u16) + (t as u16);
     let flushes = place(slots, CHOICE, 0, j, 0);
     let no = place(slots, NO, 0, 0, 0);
     let full = place(slots, FULL, t, 0, 0);
-    single(n, IF, BIT, flushes, no, full)
+    put_one(out, n, IF, BIT, flushes, no, full)
 }
 
 // The cell that is written, as it is.
-pub fn flush_value_base(slots: &[u32], threads: u8, n: u32) -> Few
-    ensures { λ r. ⌜ Gives r (placeOf (now (slots .entry))) n (binary read2 (ref (slot heap 0 0)) (ref (slot writeTo 0 threads))) ⌝ }
+pub fn put_flush_value(slots: &[u32], out: &mut [u8], threads: u8, n: u32) -> Written
+    ensures { λ r. ⌜ Puts r (placeOf (now (slots .entry))) n (binary read2 (ref (slot heap 0 0)) (ref (slot writeTo 0 threads))) (now (out .entry)) (now (out .exit)) ⌝ }
 {
     let heap = place(slots, HEAP, 0, 0, 3);
     let address = place(slots, WRITE_TO, 0, threads as u16, 2);
-    single(n, READ, WORD, heap, address, 0)
+    put_one(out, n, READ, WORD, heap, address, 0)
 }
 
 // The memory with the cell written.
-pub fn heap_base(slots: &[u32], threads: u8, n: u32) -> Few
-    ensures { λ r. ⌜ Gives r (placeOf (now (slots .entry))) n
-        (ternary write3 (ref (slot heap 0 0)) (ref (slot writeTo 0 threads)) (ref (slot writeValue 0 threads))) ⌝ }
+pub fn put_heap(slots: &[u32], out: &mut [u8], threads: u8, n: u32) -> Written
+    ensures { λ r. ⌜ Puts r (placeOf (now (slots .entry))) n
+        (ternary write3 (ref (slot heap 0 0)) (ref (slot writeTo 0 threads)) (ref (slot writeValue 0 threads))) (now (out .entry)) (now (out .exit)) ⌝ }
 {
     let heap = place(slots, HEAP, 0, 0, 3);
     let address = place(slots, WRITE_TO, 0, threads as u16, 2);
     let value = place(slots, WRITE_VALUE, 0, threads as u16, 2);
-    single(n, WRITE, MEMORY, heap, address, value)
+    put_one(out, n, WRITE, MEMORY, heap, address, value)
 }

@@ -1,14 +1,13 @@
-// The bases of what statements give.
+// What statements give.
 ghost use mathlib.Core.Path.{_≡_};
 ghost use mathlib.Core.List.{List};
-ghost use Prim.Native.Nat.{ℕ};
+ghost use Prim.Native.Nat.{ℕ, _≤_};
 ghost use Rattle.records.specs.Sets.{setBy};
 ghost use Rattle.table.specs.Programs.{Binary, binaryNumber, binarySort, ref, binary, and2};
-ghost use Rattle.encoding.specs.Slots.{Kind, slot, kindNumber, startPlace, choice, active, address, loaded, swaps, result, test, untest, flag, accu, argument};
+ghost use Rattle.encoding.specs.Slots.{Kind, Slot, slot, kindNumber, startPlace, choice, active, address, loaded, swaps, result, test, untest, flag, accu, argument};
 ghost use Rattle.encoding.specs.Steps.{base as baseOf};
 ghost use Rattle.places.specs.Places.{placeOf};
-ghost use Rattle.bases.specs.Fews.{Gives};
-use crate::Few;
+ghost use Rattle.bases.specs.Fews.{Puts};
 use crate::operations::AND;
 use crate::operations::BIT;
 use crate::operations::EQUAL;
@@ -21,12 +20,13 @@ use crate::operations::READ;
 use crate::operations::TIMES;
 use crate::operations::TOP;
 use crate::operations::WORD;
-use crate::trees::constant;
-use crate::trees::formula;
-use crate::trees::load;
-use crate::trees::same;
-use crate::trees::single;
-use crate::trees::three;
+use crate::written::Written;
+use crate::written::formula;
+use crate::written::put_constant;
+use crate::written::put_load;
+use crate::written::put_none;
+use crate::written::put_one;
+use crate::written::put_three;
 use places::kinds::ACCU;
 use places::kinds::ACTIVE;
 use places::kinds::ADDRESS;
@@ -54,29 +54,45 @@ pub fn flag_place(slots: &[u32], t: u8, i: u16) -> u64
 }
 
 // Statement i of thread t executes.
-pub fn active_base(slots: &[u32], t: u8, i: u16, n: u32) -> Few
-    ensures { λ r. ⌜ Gives r (placeOf (now (slots .entry))) n (binary and2 (ref (slot flag t i)) (ref (slot choice 0 t))) ⌝ }
+pub fn put_active(slots: &[u32], out: &mut [u8], t: u8, i: u16, n: u32) -> Written
+    ensures { λ r. ⌜ (n ≤ 2000000000 → Puts r (placeOf (now (slots .entry))) n (binary and2 (ref (slot flag t i)) (ref (slot choice 0 t))) (now (out .entry)) (now (out .exit))) ⌝ }
 {
     let flag = flag_place(slots, t, i);
     let executes = place(slots, CHOICE, 0, t as u16, 0);
-    single(n, AND, BIT, flag, executes, 0)
+    put_one(out, n, AND, BIT, flag, executes, 0)
 }
 
 // The address of a statement.
-pub fn address_base(set: &[u8], layout: Layout, slots: &[u32], t: u8, i: u16, n: u32) -> Few
-    ensures { λ r. ⌜ ((cs : List ℕ) (k : ℕ) → Gives r (placeOf (now (slots .entry))) n (baseOf (setBy (now (set .entry)) layout) cs k address t i)) ⌝ }
+pub fn put_address(
+    set: &[u8],
+    layout: Layout,
+    slots: &[u32],
+    out: &mut [u8],
+    t: u8,
+    i: u16,
+    n: u32,
+) -> Written
+    ensures { λ r. ⌜ ((cs : List ℕ) (k : ℕ) → n ≤ 2000000000 → Puts r (placeOf (now (slots .entry))) n (baseOf (setBy (now (set .entry)) layout) cs k address t i) (now (out .entry)) (now (out .exit))) ⌝ }
 {
     let statement = fetch(set, layout, t, i);
     if statement.mode == 1 {
         let argument = place(slots, ARGUMENT, t, i, 2);
-        return load(slots, t, argument, n);
+        return put_load(slots, out, t, argument, n);
     }
-    same(slots, ARGUMENT, t, i, 2)
+    put_none(slots, ARGUMENT, t, i, 2)
 }
 
 // The word that a statement loads.
-pub fn loaded_base(set: &[u8], layout: Layout, slots: &[u32], t: u8, i: u16, n: u32) -> Few
-    ensures { λ r. ⌜ ((cs : List ℕ) (k : ℕ) → Gives r (placeOf (now (slots .entry))) n (baseOf (setBy (now (set .entry)) layout) cs k loaded t i)) ⌝ }
+pub fn put_loaded(
+    set: &[u8],
+    layout: Layout,
+    slots: &[u32],
+    out: &mut [u8],
+    t: u8,
+    i: u16,
+    n: u32,
+) -> Written
+    ensures { λ r. ⌜ ((cs : List ℕ) (k : ℕ) → n ≤ 2000000000 → Puts r (placeOf (now (slots .entry))) n (baseOf (setBy (now (set .entry)) layout) cs k loaded t i) (now (out .entry)) (now (out .exit))) ⌝ }
 {
     let statement = fetch(set, layout, t, i);
     let number = statement.number;
@@ -87,14 +103,22 @@ pub fn loaded_base(set: &[u8], layout: Layout, slots: &[u32], t: u8, i: u16, n: 
         | (number == instructions::MEM)
     {
         let address = place(slots, ADDRESS, t, i, 2);
-        return load(slots, t, address, n);
+        return put_load(slots, out, t, address, n);
     }
-    same(slots, NOUGHT, 0, 0, 2)
+    put_none(slots, NOUGHT, 0, 0, 2)
 }
 
 // A CAS that executes and matches.
-pub fn swaps_base(set: &[u8], layout: Layout, slots: &[u32], t: u8, i: u16, n: u32) -> Few
-    ensures { λ r. ⌜ ((cs : List ℕ) (k : ℕ) → Gives r (placeOf (now (slots .entry))) n (baseOf (setBy (now (set .entry)) layout) cs k swaps t i)) ⌝ }
+pub fn put_swaps(
+    set: &[u8],
+    layout: Layout,
+    slots: &[u32],
+    out: &mut [u8],
+    t: u8,
+    i: u16,
+    n: u32,
+) -> Written
+    ensures { λ r. ⌜ ((cs : List ℕ) (k : ℕ) → n ≤ 2000000000 → Puts r (placeOf (now (slots .entry))) n (baseOf (setBy (now (set .entry)) layout) cs k swaps t i) (now (out .entry)) (now (out .exit))) ⌝ }
 {
     let k = n as u64;
     let next = k + 1;
@@ -107,47 +131,71 @@ pub fn swaps_base(set: &[u8], layout: Layout, slots: &[u32], t: u8, i: u16, n: u
         let first = formula(READ, WORD, heap, address, 0);
         let second = formula(EQUAL, BIT, k, mem, 0);
         let third = formula(AND, BIT, active, next, 0);
-        return three(n, first, second, third);
+        return put_three(out, n, first, second, third);
     }
-    same(slots, NO, 0, 0, 0)
+    put_none(slots, NO, 0, 0, 0)
 }
 
 // Accu and another word of the statement, joined.
-pub fn arithmetic(slots: &[u32], operation: u8, kind: u8, t: u8, i: u16, n: u32) -> Few
-    ensures { λ r. ⌜ ((o : Binary) (k : Kind) → operation ≡ binaryNumber o → 2 ≡ binarySort o → kind ≡ kindNumber k → 2 ≡ startPlace (slot k t i)
-        → Gives r (placeOf (now (slots .entry))) n (binary o (ref (slot accu t 0)) (ref (slot k t i)))) ⌝ }
+pub fn put_arithmetic(
+    slots: &[u32],
+    out: &mut [u8],
+    operation: u8,
+    kind: u8,
+    t: u8,
+    i: u16,
+    n: u32,
+) -> Written
+    ensures { λ r. ⌜ ((o : Binary) (k : Kind) → operation ≡ binaryNumber o → 2 ≡ binarySort o → kind ≡ kindNumber k → 2 ≡ startPlace (slot k t i) → n ≤ 2000000000
+        → Puts r (placeOf (now (slots .entry))) n (binary o (ref (slot accu t 0)) (ref (slot k t i))) (now (out .entry)) (now (out .exit))) ⌝ }
 {
     let accu = place(slots, ACCU, t, 0, 2);
     let operand = place(slots, kind, t, i, 2);
-    single(n, operation, WORD, accu, operand, 0)
+    put_one(out, n, operation, WORD, accu, operand, 0)
 }
 
 // What accu becomes.
-pub fn result_base(set: &[u8], layout: Layout, slots: &[u32], t: u8, i: u16, n: u32) -> Few
-    ensures { λ r. ⌜ ((cs : List ℕ) (k : ℕ) → Gives r (placeOf (now (slots .entry))) n (baseOf (setBy (now (set .entry)) layout) cs k result t i)) ⌝ }
+pub fn put_result(
+    set: &[u8],
+    layout: Layout,
+    slots: &[u32],
+    out: &mut [u8],
+    t: u8,
+    i: u16,
+    n: u32,
+) -> Written
+    ensures { λ r. ⌜ ((cs : List ℕ) (k : ℕ) → n ≤ 2000000000 → Puts r (placeOf (now (slots .entry))) n (baseOf (setBy (now (set .entry)) layout) cs k result t i) (now (out .entry)) (now (out .exit))) ⌝ }
 {
     let statement = fetch(set, layout, t, i);
     let number = statement.number;
     match number {
-        instructions::ADD => arithmetic(slots, PLUS, LOADED, t, i, n),
-        instructions::ADDI => arithmetic(slots, PLUS, ARGUMENT, t, i, n),
-        instructions::SUB => arithmetic(slots, MINUS, LOADED, t, i, n),
-        instructions::SUBI => arithmetic(slots, MINUS, ARGUMENT, t, i, n),
-        instructions::MUL => arithmetic(slots, TIMES, LOADED, t, i, n),
-        instructions::MULI => arithmetic(slots, TIMES, ARGUMENT, t, i, n),
+        instructions::ADD => put_arithmetic(slots, out, PLUS, LOADED, t, i, n),
+        instructions::ADDI => put_arithmetic(slots, out, PLUS, ARGUMENT, t, i, n),
+        instructions::SUB => put_arithmetic(slots, out, MINUS, LOADED, t, i, n),
+        instructions::SUBI => put_arithmetic(slots, out, MINUS, ARGUMENT, t, i, n),
+        instructions::MUL => put_arithmetic(slots, out, TIMES, LOADED, t, i, n),
+        instructions::MULI => put_arithmetic(slots, out, TIMES, ARGUMENT, t, i, n),
         instructions::CAS => {
             let swaps = place(slots, SWAPS, t, i, 0);
             let unit = place(slots, UNIT, 0, 0, 2);
             let nought = place(slots, NOUGHT, 0, 0, 2);
-            single(n, IF, WORD, swaps, unit, nought)
+            put_one(out, n, IF, WORD, swaps, unit, nought)
         }
-        _ => same(slots, LOADED, t, i, 2),
+        _ => put_none(slots, LOADED, t, i, 2),
     }
 }
 
 // The test of a conditional jump.
-pub fn test_base(set: &[u8], layout: Layout, slots: &[u32], t: u8, i: u16, n: u32) -> Few
-    ensures { λ r. ⌜ ((cs : List ℕ) (k : ℕ) → Gives r (placeOf (now (slots .entry))) n (baseOf (setBy (now (set .entry)) layout) cs k test t i)) ⌝ }
+pub fn put_test(
+    set: &[u8],
+    layout: Layout,
+    slots: &[u32],
+    out: &mut [u8],
+    t: u8,
+    i: u16,
+    n: u32,
+) -> Written
+    ensures { λ r. ⌜ ((cs : List ℕ) (k : ℕ) → n ≤ 2000000000 → Puts r (placeOf (now (slots .entry))) n (baseOf (setBy (now (set .entry)) layout) cs k test t i) (now (out .entry)) (now (out .exit))) ⌝ }
 {
     let k = n as u64;
     let next = k + 1;
@@ -156,11 +204,11 @@ pub fn test_base(set: &[u8], layout: Layout, slots: &[u32], t: u8, i: u16, n: u3
     if (number == instructions::JZ) | (number == instructions::JNZ) {
         let accu = place(slots, ACCU, t, 0, 2);
         let nought = place(slots, NOUGHT, 0, 0, 2);
-        return single(n, EQUAL, BIT, accu, nought, 0);
+        return put_one(out, n, EQUAL, BIT, accu, nought, 0);
     }
     if (number == instructions::JS) | (number == instructions::JNS) {
         let accu = place(slots, ACCU, t, 0, 2);
-        return single(n, TOP, BIT, accu, 0, 0);
+        return put_one(out, n, TOP, BIT, accu, 0, 0);
     }
     if number == instructions::JNZNS {
         let accu = place(slots, ACCU, t, 0, 2);
@@ -168,44 +216,60 @@ pub fn test_base(set: &[u8], layout: Layout, slots: &[u32], t: u8, i: u16, n: u3
         let first = formula(TOP, BIT, accu, 0, 0);
         let second = formula(EQUAL, BIT, accu, nought, 0);
         let third = formula(OR, BIT, k, next, 0);
-        return three(n, first, second, third);
+        return put_three(out, n, first, second, third);
     }
-    same(slots, NO, 0, 0, 0)
+    put_none(slots, NO, 0, 0, 0)
 }
 
 // The test of a conditional jump does not hold.
-pub fn untest_base(set: &[u8], layout: Layout, slots: &[u32], t: u8, i: u16, n: u32) -> Few
-    ensures { λ r. ⌜ ((cs : List ℕ) (k : ℕ) → Gives r (placeOf (now (slots .entry))) n (baseOf (setBy (now (set .entry)) layout) cs k untest t i)) ⌝ }
+pub fn put_untest(
+    set: &[u8],
+    layout: Layout,
+    slots: &[u32],
+    out: &mut [u8],
+    t: u8,
+    i: u16,
+    n: u32,
+) -> Written
+    ensures { λ r. ⌜ ((cs : List ℕ) (k : ℕ) → n ≤ 2000000000 → Puts r (placeOf (now (slots .entry))) n (baseOf (setBy (now (set .entry)) layout) cs k untest t i) (now (out .entry)) (now (out .exit))) ⌝ }
 {
     let statement = fetch(set, layout, t, i);
     let number = statement.number;
     let jumps = instructions::is_jump(number);
     if jumps & (number != instructions::JMP) {
         let test = place(slots, TEST, t, i, 0);
-        return single(n, NOT, BIT, test, 0, 0);
+        return put_one(out, n, NOT, BIT, test, 0, 0);
     }
-    same(slots, NO, 0, 0, 0)
+    put_none(slots, NO, 0, 0, 0)
 }
 
 // Statement i of thread t is the next one unless the thread executes; HALT and EXIT stay.
-pub fn flag_base(set: &[u8], layout: Layout, slots: &[u32], t: u8, i: u16, n: u32) -> Few
-    ensures { λ r. ⌜ ((cs : List ℕ) (k : ℕ) → Gives r (placeOf (now (slots .entry))) n (baseOf (setBy (now (set .entry)) layout) cs k flag t i)) ⌝ }
+pub fn put_flag(
+    set: &[u8],
+    layout: Layout,
+    slots: &[u32],
+    out: &mut [u8],
+    t: u8,
+    i: u16,
+    n: u32,
+) -> Written
+    ensures { λ r. ⌜ ((cs : List ℕ) (k : ℕ) → n ≤ 2000000000 → Puts r (placeOf (now (slots .entry))) n (baseOf (setBy (now (set .entry)) layout) cs k flag t i) (now (out .entry)) (now (out .exit))) ⌝ }
 {
     let statement = fetch(set, layout, t, i);
     let number = statement.number;
     if (number == instructions::HALT) | (number == instructions::EXIT) {
-        return same(slots, FLAG, t, i, (i == 0) as u64);
+        return put_none(slots, FLAG, t, i, (i == 0) as u64);
     }
     let executes = place(slots, CHOICE, 0, t as u16, 0);
     let no = place(slots, NO, 0, 0, 0);
     let flag = flag_place(slots, t, i);
-    single(n, IF, BIT, executes, no, flag)
+    put_one(out, n, IF, BIT, executes, no, flag)
 }
 
 // The argument of a statement.
-pub fn argument_base(set: &[u8], layout: Layout, slots: &[u32], t: u8, i: u16, n: u32) -> Few
-    ensures { λ r. ⌜ ((cs : List ℕ) (k : ℕ) → Gives r (placeOf (now (slots .entry))) n (baseOf (setBy (now (set .entry)) layout) cs k argument t i)) ⌝ }
+pub fn put_argument(set: &[u8], layout: Layout, out: &mut [u8], t: u8, i: u16, n: u32) -> Written
+    ensures { λ r. ⌜ ((at : Slot → ℕ) (cs : List ℕ) (k : ℕ) → Puts r at n (baseOf (setBy (now (set .entry)) layout) cs k argument t i) (now (out .entry)) (now (out .exit))) ⌝ }
 {
     let statement = fetch(set, layout, t, i);
-    constant(n, statement.argument)
+    put_constant(out, n, statement.argument)
 }

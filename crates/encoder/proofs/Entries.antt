@@ -11,13 +11,12 @@ use Rattle.base.specs.Below.{every}
 use Rattle.base.proofs.Below.{every-at}
 use Rattle.base.proofs.Choice.{cond-both, chosen, passed, and-left, and-right}
 use Rattle.records.specs.Sets.{Set}
-use Rattle.table.specs.Formulas.{writtenAt}
-use Rattle.table.specs.Programs.{next, records, Command, sets, put, compiled, nextAfter, placesAfter}
+use Rattle.table.specs.Programs.{next, Command, sets, put, compiled, nextAfter, placesAfter}
 use Rattle.encoding.specs.Slots.{Kind, choice, active, opening, shut, barred, held, waits, may, none, fit, one, address, loaded, swaps, result, test, untest, flushTo, writeTo, flushValue, writeValue, raised, exits, codes, heap, val, adr, mem, accu, full, halted, flag, mark, halts, ended, code, no, yes, nought, unit, argument, Slot, slot, same, Term, kinds, kindAt}
 use Rattle.encoding.specs.Steps.{Shape, perChoice, perThread, perStatement, perCheckpoint, perMark, beforeThread, beforeChoice, single, shape, chain, link, links, base, tree, rows, columns, kept, entry, line, leads}
 use Rattle.places.specs.Places.{placeOf}
-use Rattle.bases.specs.Fews.{Gives, formulas, ofStatement}
-use Rattle.bases.specs.declared.Few.{Few}
+use Rattle.bases.specs.Fews.{Puts, ofStatement}
+use Rattle.bases.specs.declared.written.Written.{Written}
 use Rattle.encoder.specs.Pieces.{Writes, WritesTree}
 use Rattle.encoder.proofs.Pieces.{writes-none}
 
@@ -174,14 +173,9 @@ module _ (S : Set) (cs : List ℕ) (k : ℕ) where
 abbrev pub treeOf : Set → List ℕ → ℕ → Kind → (a b : ℕ) → Term
 treeOf S cs k kind a b = chain (link S cs 0 kind a b) (links S cs 0 kind a b) (base S cs k kind a b)
 
--- the records of a base are a tree written
-pub base-written : (few : Few) (places : Slot → ℕ) (n : ℕ) (t : Term) → Gives few places n t → (out after : List ℕ) → after ≡ writtenAt out n (formulas few) →
-    WritesTree places t out n after (n + few .count) (few .root)
-base-written few places n t g out after e = record {
-  treeWritten = e ∙ ap (writtenAt out n) (g .formulasAre);
-  treeNext = g .countIs;
-  treeRoot = g .rootIs;
-}
+-- a base that was written is a tree written
+pub put-written : (r : Written) (places : Slot → ℕ) (n : ℕ) (t : Term) (out after : List ℕ) → Puts r places n t out after → WritesTree places t out n after (n + r .count) (r .root)
+put-written r places n t out after p = record { treeWritten = p .written; treeNext = p .countPut; treeRoot = p .rootPut }
 
 module _ (S : Set) (cs : List ℕ) (k : ℕ) (kind : Kind) (a b : ℕ) (out slots : List ℕ) (n : ℕ) where
   pub entry-none : kept S cs 0 (shape kind) a b ≡ false → Writes (entry S cs k kind a b) out slots n out slots n

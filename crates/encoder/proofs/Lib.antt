@@ -1,5 +1,4 @@
 -- Laws of trees, pieces and sizes.
-pub mod Records
 pub mod Trees
 pub mod Pieces
 pub mod Entries

@@ -4,7 +4,7 @@ use mathlib.Core.Path.{_≡_, refl, ap, sym, _∙_, subst}
 use mathlib.Core.List.{List, [], _∷_}
 use native.Mathlib.Numerals.{add-one}
 use native.Mathlib.Omega.{arith}
-use lib.ListN.{length, take}
+use lib.ListN.{length}
 use Rattle.base.specs.Bytes.{placed}
 use Rattle.table.specs.declared.Formula.{Formula}
 use Rattle.table.specs.Formulas.{formulaBytes, writtenAt, bitSort, AND, OR, IF}
@@ -13,35 +13,9 @@ use Rattle.table.proofs.Sequences.{records-rest, records-length}
 use Rattle.table.proofs.Written.{written-++}
 use Rattle.encoding.specs.Slots.{Slot, Term}
 use Rattle.encoding.specs.Steps.{Link as ChainLink, skip, ifThen, andWith, orWith, linked, chain}
-use Rattle.bases.specs.Fews.{formulas}
-use Rattle.bases.specs.declared.Few.{Few}
 use Rattle.links.specs.Placed.{placedLink}
 use Rattle.links.specs.declared.Link.{Link}
 use Rattle.encoder.specs.Pieces.{WritesTree}
-use Rattle.encoder.proofs.Records.{recordAt, written-1, written-2, written-3, written-4}
-
--- ---- a few records
-
-module _ (few : Few) (out : List ℕ) (n : ℕ) where
-  sized : (k : ℕ) → few .count ≡ k → writtenAt out n (take k (few .first ∷ few .second ∷ few .third ∷ few .fourth ∷ [])) ≡ writtenAt out n (formulas few)
-  sized k e = sym (ap (λ (k : ℕ). writtenAt out n (take k (few .first ∷ few .second ∷ few .third ∷ few .fourth ∷ []))) e)
-
-  pub few-0 : few .count ≡ 0 → out ≡ writtenAt out n (formulas few)
-  unfolding writtenAt
-  few-0 e = sized 0 e
-
-  pub few-1 : few .count ≡ 1 → recordAt n (few .first) out ≡ writtenAt out n (formulas few)
-  few-1 e = written-1 out n (few .first) ∙ sized 1 e
-
-  pub few-2 : few .count ≡ 2 → recordAt (n + 1) (few .second) (recordAt n (few .first) out) ≡ writtenAt out n (formulas few)
-  few-2 e = written-2 out n (few .first) (few .second) ∙ sized 2 e
-
-  pub few-3 : few .count ≡ 3 → recordAt (n + 2) (few .third) (recordAt (n + 1) (few .second) (recordAt n (few .first) out)) ≡ writtenAt out n (formulas few)
-  few-3 e = written-3 out n (few .first) (few .second) (few .third) ∙ sized 3 e
-
-  pub few-4 : few .count ≡ 4 →
-      recordAt (n + 3) (few .fourth) (recordAt (n + 2) (few .third) (recordAt (n + 1) (few .second) (recordAt n (few .first) out))) ≡ writtenAt out n (formulas few)
-  few-4 e = written-4 out n (few .first) (few .second) (few .third) (few .fourth) ∙ sized 4 e
 
 -- ---- links
 

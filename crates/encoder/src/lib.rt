@@ -14,13 +14,12 @@ ghost use Rattle.encoding.specs.Encodings.{mapDemand, starting, goalTree, first
 ghost use Rattle.encoding.specs.Slots.{Slot, same, Term, kindAt, code as codeKind};
 ghost use Rattle.encoding.specs.Steps.{only, word0, Link as ChainLink, linked, chain as chainOf, link as linkOf, links as linksOf, leads as leadsOf, entry as entryOf, line as lineOf, block as blockOf, blocks as blocksOf, ruled, step as stepOf};
 ghost use Rattle.places.specs.Places.{placeOf, listed, size as placesCount};
-ghost use Rattle.bases.specs.Fews.{formulas, ofStatement};
+ghost use Rattle.bases.specs.Fews.{ofStatement};
 ghost use Rattle.links.specs.Nexts.{Nexts};
 ghost use Rattle.links.specs.Placed.{placedLink};
 ghost use Rattle.encoder.specs.Answers.{sizeAnswer, encodeAnswer, tableOutput};
 ghost use Rattle.encoder.specs.Pieces.{Writes, WritesTree, Limits};
 ghost use Rattle.encoder.specs.Repeating.{Started, Stepped, Ended};
-use bases::Few;
 use links::Link;
 use places::Points;
 use places::kinds::ARGUMENT;
@@ -48,34 +47,6 @@ struct Root {
 }
 
 // ---- trees
-
-// Writes the few records of a base.
-fn put_few(out: &mut [u8], n: u32, few: Few)
-    requires { ⌜ (n ≤ 2000000000) × (few .count ≤ 4) ⌝ }
-    ensures { λ _. ⌜ now (out .exit) ≡ writtenAt (now (out .entry)) n (formulas few) ⌝ }
-{
-    let count = few.count;
-    if count == 0 {
-        return;
-    }
-    let first = few.first;
-    table::put(out, n, first);
-    if count == 1 {
-        return;
-    }
-    let second = few.second;
-    table::put(out, n + 1, second);
-    if count == 2 {
-        return;
-    }
-    let third = few.third;
-    table::put(out, n + 2, third);
-    if count == 3 {
-        return;
-    }
-    let fourth = few.fourth;
-    table::put(out, n + 3, fourth);
-}
 
 // Writes a link over a tree.
 fn put_link(out: &mut [u8], n: u32, at: u64, link: Link) -> Root
@@ -176,9 +147,8 @@ fn entry(
         × (r ≤ n + 36) ⌝ }
 {
     if links::kept(set, layout, points, kind, a, b) {
-        let few = bases::base(set, layout, slots, step, kind, a, b, n);
-        put_few(out, n, few);
-        let next = n + (few.count as u32);
+        let base = bases::put_base(set, layout, slots, out, step, kind, a, b, n);
+        let next = n + base.count;
         let tree = chain(
             set,
             layout,
@@ -190,7 +160,7 @@ fn entry(
             a,
             b,
             next,
-            few.root,
+            base.root,
         );
         places::set_place(slots, kind, a, b, tree.at);
         return tree.next;
@@ -216,10 +186,9 @@ fn statement_value(
         (now (out .entry)) (now (slots .entry)) n (now (out .exit)) (now (slots .exit)) r)
         × (r ≤ n + 36) ⌝ }
 {
-    let few = bases::statement(set, layout, slots, kind, t, i, n);
-    put_few(out, n, few);
-    places::set_place(slots, kind, t, i, few.root);
-    n + (few.count as u32)
+    let tree = bases::put_statement(set, layout, slots, out, kind, t, i, n);
+    places::set_place(slots, kind, t, i, tree.root);
+    n + tree.count
 }
 
 // Writes the values of a kind of statements for thread t.
@@ -297,10 +266,9 @@ fn flag(
         (now (out .entry)) (now (slots .entry)) n (now (out .exit)) (now (slots .exit)) r)
         × (r ≤ n + 36) ⌝ }
 {
-    let few = bases::flag_base(set, layout, slots, t, j, n);
-    put_few(out, n, few);
-    let next = n + (few.count as u32);
-    let tree = flag_chain(set, layout, nexts, slots, out, t, j, count, next, few.root);
+    let base = bases::put_flag(set, layout, slots, out, t, j, n);
+    let next = n + base.count;
+    let tree = flag_chain(set, layout, nexts, slots, out, t, j, count, next, base.root);
     places::set_place(slots, FLAG, t, j, tree.at);
     tree.next
 }

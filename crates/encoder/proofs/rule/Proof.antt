@@ -9,7 +9,7 @@ use Rattle.places.specs.Places.{placeFrom}
 use Rattle.table.specs.Programs.{constraint, ternaryFormula, if3}
 use Rattle.records.specs.Sets.{setBy}
 use Rattle.encoder.proofs.Parts.{rule-writes}
-use Rattle.encoder.proofs.Records.{recordAt}
+use Rattle.bases.proofs.Records.{recordAt}
 use Rattle.encoder.proofs.rule.Statement.{statement}
 use Rattle.encoder.proofs.rule.Tie as tie
 

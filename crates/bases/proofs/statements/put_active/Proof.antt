@@ -1,0 +1,31 @@
+-- `bases::statements::put_active` meets its contract. Assumes nothing.
+use mathlib.Core.Path.{refl}
+use Rattle.places.specs.Places.{placeOf}
+use Rattle.encoding.specs.Slots.{slot, flag, choice}
+use Rattle.table.specs.Programs.{and2}
+use Rattle.bases.proofs.Given.{gives-binary}
+use borrow.Author.Needs.{needs}
+use Rattle.bases.proofs.statements.put_active.Statement.{statement}
+use Rattle.bases.proofs.statements.put_active.Tie as tie
+
+flag-place-requires : tie.Need-flag-place-requires
+flag-place-requires c κs = search needs
+
+place-requires : tie.Need-place-requires
+place-requires c κs = search needs
+
+put-one-requires : tie.Need-put-one-requires
+put-one-requires c κs = search needs
+
+same-length : tie.Need-same-length
+same-length c = search needs
+
+returns : tie.Need-returns
+returns c =
+    let a = c .before .before .before .before .before .before .before .before .args in
+    λ h. c .before .before .put-one .ensures (placeOf (a .slots .now)) _
+    (gives-binary (placeOf (a .slots .now)) (a .n) _ and2 (slot flag (a .t) (a .i)) (slot choice 0 (a .t)) (refl, (refl, refl)) refl refl (c .before .before .before .before .before .flag-place .ensures) (c .before .before .before .before .place .ensures))
+
+pub put-active-spec : {M : Type 1} → statement M
+put-active-spec =
+    tie.close (tie.spec flag-place-requires place-requires put-one-requires same-length returns)

@@ -1,0 +1,23 @@
+-- `bases::statements::put_argument` meets its contract. Assumes nothing.
+use mathlib.Core.Path.{sym, ap}
+use Rattle.table.specs.Programs.{leaf, constantWord}
+use Rattle.records.specs.declared.Statement.{Statement}
+use Rattle.bases.proofs.Given.{puts-as}
+use borrow.Author.Needs.{needs}
+use Rattle.bases.proofs.statements.put_argument.Statement.{statement}
+use Rattle.bases.proofs.statements.put_argument.Tie as tie
+
+fetch-requires : tie.Need-fetch-requires
+fetch-requires c κs = search needs
+
+put-constant-requires : tie.Need-put-constant-requires
+put-constant-requires c κs = search needs
+
+same-length : tie.Need-same-length
+same-length c = search needs
+
+returns : tie.Need-returns
+returns c = λ at cs k. puts-as (ap (λ (s : Statement). leaf (constantWord (s .argument))) (sym (c .before .before .before .before .fetch .ensures))) (c .before .before .put-constant .ensures at)
+
+pub put-argument-spec : {M : Type 1} → statement M
+put-argument-spec = tie.close (tie.spec fetch-requires put-constant-requires same-length returns)

@@ -1,0 +1,66 @@
+-- `bases::statements::put_flag` meets its contract. Assumes nothing.
+use denote.Ref.{now}
+use mathlib.Core.Path.{refl, sym, ap, _∙_}
+use lib.Dec.{eqb}
+use Rattle.base.proofs.Choice.{chosen, passed, cast-test}
+use Rattle.places.specs.Places.{placeOf}
+use Rattle.encoding.specs.Steps.{rests}
+use Rattle.encoding.specs.Slots.{slot, choice, no, flag}
+use Rattle.table.specs.Programs.{if3}
+use Rattle.records.specs.declared.Statement.{Statement}
+use Rattle.bases.proofs.Given.{gives-ternary, puts-as}
+use borrow.Author.Needs.{needs}
+use Rattle.bases.proofs.statements.put_flag.Statement.{statement}
+use Rattle.bases.proofs.statements.put_flag.Tie as tie
+
+fetch-requires : tie.Need-fetch-requires
+fetch-requires c κs = search needs
+
+cast-put-none : tie.Need-cast-put-none
+cast-put-none c = search needs
+
+put-none-requires : tie.Need-put-none-requires
+put-none-requires c κs = search needs
+
+returns : tie.Need-returns
+returns c =
+    let a = c .before .before .before .before .before .before .args in
+    λ cs k h. puts-as (chosen _ _ (ap (λ (s : Statement). rests (s .number)) (sym (c .before .before .fetch .ensures)) ∙ c .before .if1 .taken))
+    (c .put-none .ensures (a .n) flag (now (a .out)) refl (cast-test (eqb (a .i) 0)))
+
+place-requires : tie.Need-place-requires
+place-requires c κs = search needs
+
+place-requires-2 : tie.Need-place-requires-2
+place-requires-2 c κs = search needs
+
+flag-place-requires : tie.Need-flag-place-requires
+flag-place-requires c κs = search needs
+
+put-one-requires : tie.Need-put-one-requires
+put-one-requires c κs = search needs
+
+same-length : tie.Need-same-length
+same-length c = search needs
+
+returns-2 : tie.Need-returns-2
+returns-2 c =
+    let a = c .before .before .before .before .before .before .before .before .before .before .before .before .args in
+    λ cs k h. puts-as (passed _ _ (ap (λ (s : Statement). rests (s .number)) (sym (c .before .before .before .before .before .before .before .before .fetch .ensures)) ∙ c .before .before .before .before .before .before .before .if1 .left))
+    (c .before .before .put-one .ensures (placeOf (a .slots .now)) _
+    (gives-ternary (placeOf (a .slots .now)) (a .n) _ (if3 1) (slot choice 0 (a .t)) (slot no 0 0) (slot flag (a .t) (a .i)) (refl, (refl, refl)) (c .before .before .before .before .before .before .place .ensures) (c .before .before .before .before .before .place2 .ensures) (c .before .before .before .before .flag-place .ensures)))
+
+pub put-flag-spec : {M : Type 1} → statement M
+put-flag-spec =
+    tie.close
+    (tie.spec
+    fetch-requires
+    cast-put-none
+    put-none-requires
+    returns
+    place-requires
+    place-requires-2
+    flag-place-requires
+    put-one-requires
+    same-length
+    returns-2)

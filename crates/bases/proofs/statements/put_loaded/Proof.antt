@@ -1,0 +1,50 @@
+-- `bases::statements::put_loaded` meets its contract. Assumes nothing.
+use denote.Ref.{now}
+use mathlib.Core.Path.{refl, sym, ap, _∙_}
+use Rattle.base.proofs.Choice.{chosen, passed}
+use Rattle.encoding.specs.Steps.{loads}
+use Rattle.encoding.specs.Slots.{slot, address, nought}
+use Rattle.records.specs.declared.Statement.{Statement}
+use Rattle.bases.proofs.Given.{puts-as}
+use borrow.Author.Needs.{needs}
+use Rattle.bases.proofs.statements.put_loaded.Statement.{statement}
+use Rattle.bases.proofs.statements.put_loaded.Tie as tie
+
+fetch-requires : tie.Need-fetch-requires
+fetch-requires c κs = search needs
+
+place-requires : tie.Need-place-requires
+place-requires c κs = search needs
+
+put-load-requires : tie.Need-put-load-requires
+put-load-requires c κs = search needs
+
+same-length : tie.Need-same-length
+same-length c = search needs
+
+returns : tie.Need-returns
+returns c =
+    let a = c .before .before .before .before .before .before .before .before .before .before .args in
+    λ cs k h. puts-as (chosen _ _ (ap (λ (s : Statement). loads (s .number)) (sym (c .before .before .before .before .before .before .fetch .ensures)) ∙ c .before .before .before .before .before .if1 .taken))
+    (c .before .before .put-load .ensures (slot address (a .t) (a .i)) (c .before .before .before .before .place .ensures) h)
+
+put-none-requires : tie.Need-put-none-requires
+put-none-requires c κs = search needs
+
+returns-2 : tie.Need-returns-2
+returns-2 c =
+    let a = c .before .before .before .before .before .before .args in
+    λ cs k h. puts-as (passed _ _ (ap (λ (s : Statement). loads (s .number)) (sym (c .before .before .fetch .ensures)) ∙ c .before .if1 .left))
+    (c .put-none .ensures (a .n) nought (now (a .out)) refl refl)
+
+pub put-loaded-spec : {M : Type 1} → statement M
+put-loaded-spec =
+    tie.close
+    (tie.spec
+    fetch-requires
+    place-requires
+    put-load-requires
+    same-length
+    returns
+    put-none-requires
+    returns-2)
