@@ -17,7 +17,7 @@ use Rattle.encoding.specs.Slots.{Kind, choice, active, opening, shut, ba
 use Rattle.encoding.specs.Steps.{Link, skip, ifThen, andWith, orWith, only, word0, loads, setsAccu, isConditional, isOneWay, isPlain, rests, numberOf, argumentOf, checkpoint, has, loadTree, indirectTree, resultTree, testTree, noneTree, leavingTree, base, leads, links, link, ruled, step}
 use Rattle.encoding.proofs.Blocks.{refs, linkRefs, chain-refs}
 use Rattle.encoding.proofs.Sources.{steady}
-use Rattle.encoding.proofs.Walks.{There, Below, Set-before, Along, along-step}
+use Rattle.encoding.proofs.Walks.{There, Below, SetBefore, Along, along-step}
 
 module _ (S : Set) (cs : List ℕ) (done : Slot → Bool) where
   -- a link that is there under a test, and no link
@@ -81,7 +81,7 @@ module _ (S : Set) (cs : List ℕ) (done : Slot → Bool) where
       named : (b : Bool) (l m : Kind) → done (slot l t i) ≡ true → done (slot m t i) ≡ true → done (slot (cond b l m) t i) ≡ true
       named b l m = cond-both (λ (l : Kind). done (slot l t i) ≡ true) b {x = l} {y = m}
 
-  module _ (kind : Kind) (a b : ℕ) (h : There S cs kind a b) (g : Set-before S cs steady done kind a b) where
+  module _ (kind : Kind) (a b : ℕ) (h : There S cs kind a b) (g : SetBefore S cs steady done kind a b) where
     -- a value that stays
     still : (x : Slot) → steady x ≡ true → done x ≡ true
     still x e = g .fromStart x e
@@ -117,7 +117,7 @@ module _ (S : Set) (cs : List ℕ) (done : Slot → Bool) where
         go true e l m = absurd (omega arith)
         go false e l m = let far = eqb-false b 0 e in record { row = omega arith; column = l; is = refl }
 
-  none-known : (a b : ℕ) (h : There S cs none a b) (g : Set-before S cs steady done none a b) → refs done (cond (eqb b 0) (ref (only bit1)) (noneTree S cs 0 b)) ≡ true
+  none-known : (a b : ℕ) (h : There S cs none a b) (g : SetBefore S cs steady done none a b) → refs done (cond (eqb b 0) (ref (only bit1)) (noneTree S cs 0 b)) ≡ true
   none-known a b h g = go (eqb b 0) refl
     where
       go : (t : Bool) → eqb b 0 ≡ t → refs done (cond t (ref (only bit1)) (noneTree S cs 0 b)) ≡ true
@@ -129,14 +129,14 @@ module _ (S : Set) (cs : List ℕ) (done : Slot → Bool) where
           let z : 0 ≡ a = omega arith in
           and-true (choice-known none a b h g (b - 1) (omega arith) (omega arith)) (and-true (still none a b h g (only bit0) refl) (ap (λ (c : ℕ). done (slot none c (b - 1))) z ∙ g .rowBefore (b - 1) (omega arith) refl))
 
-  fit-known : (a b : ℕ) (h : There S cs fit a b) (g : Set-before S cs steady done fit a b) → refs done (base S cs 0 fit a b) ≡ true
+  fit-known : (a b : ℕ) (h : There S cs fit a b) (g : SetBefore S cs steady done fit a b) → refs done (base S cs 0 fit a b) ≡ true
   fit-known a b h g = and-true (go (ltb b (S .threads)) refl) (let c = h .column in early fit a b h g none 0 b (omega arith) (record { row = omega arith; column = omega arith; is = refl }))
     where
       go : (t : Bool) → ltb b (S .threads) ≡ t → done (cond t (slot may b 0) (slot full (b - S .threads) 0)) ≡ true
       go true e = early fit a b h g may b 0 (omega arith) (record { row = ltb-true b (S .threads) e; column = omega arith; is = refl })
       go false e = still fit a b h g (slot full (b - S .threads) 0) refl
 
-  base-known : (kind : Kind) → kindNumber kind < 36 → (a b : ℕ) → There S cs kind a b → Set-before S cs steady done kind a b → refs done (base S cs 0 kind a b) ≡ true
+  base-known : (kind : Kind) → kindNumber kind < 36 → (a b : ℕ) → There S cs kind a b → SetBefore S cs steady done kind a b → refs done (base S cs 0 kind a b) ≡ true
   base-known choice n a b h g = refl
   base-known active n a b h g = and-true (still active a b h g (slot flag a b) refl) (let l = h .row in choice-known active a b h g a (omega arith) (omega arith))
   base-known opening n a b h g = still opening a b h g (only bit1) refl
@@ -179,7 +179,7 @@ module _ (S : Set) (cs : List ℕ) (done : Slot → Bool) where
   base-known unit n a b h g = absurd (omega arith)
   base-known argument n a b h g = absurd (omega arith)
 
-  link-known : (kind : Kind) → kindNumber kind < 36 → (a b : ℕ) → There S cs kind a b → Set-before S cs steady done kind a b → (i : ℕ) → i < links S cs 0 kind a b → linkRefs done (link S cs 0 kind a b i) ≡ true
+  link-known : (kind : Kind) → kindNumber kind < 36 → (a b : ℕ) → There S cs kind a b → SetBefore S cs steady done kind a b → (i : ℕ) → i < links S cs 0 kind a b → linkRefs done (link S cs 0 kind a b i) ≡ true
   link-known choice n a b h g i l = refl
   link-known active n a b h g i l = refl
   link-known opening n a b h g i l = link-if (has S cs 0 i b) (andWith (slot mark i b)) (λ e. still opening a b h g (slot mark i b) refl)

@@ -13,7 +13,7 @@ use Rattle.table.specs.Programs.{ref, leaf, unary, binary, ternary, next, root,
 use Rattle.table.proofs.Sequences.{next-shift}
 use Rattle.encoding.specs.Slots.{Kind, choice, active, opening, shut, barred, held, waits, may, none, fit, one, address, loaded, swaps, result, test, untest, flushTo, writeTo, flushValue, writeValue, raised, exits, codes, heap, val, adr, mem, accu, full, halted, flag, mark, halts, ended, code, no as bit0, yes as bit1, nought, unit, argument, Slot, slot, same, Term, kindNumber}
 use Rattle.encoding.specs.Steps.{Link, skip, ifThen, andWith, orWith, linked, chain, only, rests, numberOf, leavingTree, base, link, links, ruled, step}
-use Rattle.encoding.proofs.Walks.{same-slot, with, After, There, Set-before, Along, along-step}
+use Rattle.encoding.proofs.Walks.{same-slot, with, After, There, SetBefore, Along, along-step}
 
 -- ---- slots
 
@@ -219,7 +219,7 @@ module _ (P Q : Slot → ℕ) (n m : ℕ) where
           subst (λ (d : ℕ). May done (slot code a d) (slot codes 0 (S .threads))) f (subst (λ (d : ℕ). May done (slot code d 0) (slot codes 0 (S .threads))) e (λ u v h. h, inl g))
 
       -- what the base of a kind names alone may give the slot its place
-      based : (kind : Kind) → kindNumber kind < 36 → There S cs kind a b → Set-before S cs (λ x. false) done kind a b → MayRoot done (slot kind a b) (base S cs 0 kind a b)
+      based : (kind : Kind) → kindNumber kind < 36 → There S cs kind a b → SetBefore S cs (λ x. false) done kind a b → MayRoot done (slot kind a b) (base S cs 0 kind a b)
       based choice c h g = any-root (slot choice a b) (λ u v. tt) (base S cs 0 choice a b)
       based active c h g = any-root (slot active a b) (λ u v. tt) (base S cs 0 active a b)
       based opening c h g = any-root (slot opening a b) (λ u v. tt) (base S cs 0 opening a b)

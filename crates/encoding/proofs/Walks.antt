@@ -70,7 +70,7 @@ module _ (S : Set) (cs : List ℕ) where
   below-keeps c done L h l a b e t = after-keeps done L (slot l a b) (h l a b e t)
 
   -- what was set before the value of a kind for a and b: what was set at the start, the kinds before, and its row up to it
-  pub record Set-before (start done : Slot → Bool) (kind : Kind) (a b : ℕ) : Type 0 where
+  pub record SetBefore (start done : Slot → Bool) (kind : Kind) (a b : ℕ) : Type 0 where
     pub fromStart : (x : Slot) → start x ≡ true → done x ≡ true
     pub kindsBefore : Below (kindNumber kind) done
     pub rowBefore : (d : ℕ) → d < b → kept S cs 0 (shape kind) a d ≡ true → done (slot kind a d) ≡ true
@@ -128,7 +128,7 @@ module _ (S : Set) (cs : List ℕ) where
 
     -- kinds from number `least` on
     module _ (least : ℕ) (start : Slot → Bool)
-        (each : (kind : Kind) → least ≤ kindNumber kind → kindNumber kind < 36 → (done : Slot → Bool) (a b : ℕ) → There kind a b → Set-before start done kind a b → Holds done (slot kind a b) (tree S cs 0 kind a b))
+        (each : (kind : Kind) → least ≤ kindNumber kind → kindNumber kind < 36 → (done : Slot → Bool) (a b : ℕ) → There kind a b → SetBefore start done kind a b → Holds done (slot kind a b) (tree S cs 0 kind a b))
         (rule : (done : Slot → Bool) → ((x : Slot) → start x ≡ true → done x ≡ true) → Below 11 done → Demanded done (ruled S cs 0)) where
       abbrev From : (Slot → Bool) → Type 0
       From done = (x : Slot) → start x ≡ true → done x ≡ true
