@@ -19,6 +19,7 @@ use Rattle.table.specs.Formulas.{writtenAt}
 use Rattle.table.specs.Programs.{Leaf, Unary, Binary, Ternary, ref, leaf, unary, binary, ternary, if3, and2, or2, equal2, read2, not1, top1, binaryNumber, binarySort, leafFormula, unaryFormula, ternaryFormula, next, root, records}
 use Rattle.encoding.specs.Slots.{Slot, slot, Term, kinds, kindAt, choice, loaded, result, test}
 use Rattle.encoding.specs.Steps.{base as baseOf, resultTree, testTree}
+use Rattle.places.specs.Pieces.{WritesTree}
 use Rattle.bases.specs.declared.written.Written.{Written}
 use Rattle.bases.specs.Fews.{Few, Gives, formulas, Puts, plain, One, Three, oneFew, threeFew, ofStatement}
 use Rattle.bases.proofs.Records.{recordAt, written-1, written-3, written-4}
@@ -154,9 +155,18 @@ puts-as {r} {at} {n} {t} {u} {out} {after} e p = subst (λ (x : Term). Puts r at
 -- ---- by number
 
 -- the base of the kind that a number names
-pub puts-kind : {r : Written} {at : Slot → ℕ} {n : ℕ} {out after : List ℕ} (S : Set) (cs : List ℕ) (k a b kind m : ℕ) → kind ≡ m →
+puts-kind : {r : Written} {at : Slot → ℕ} {n : ℕ} {out after : List ℕ} (S : Set) (cs : List ℕ) (k a b kind m : ℕ) → kind ≡ m →
     Puts r at n (baseOf S cs k (kindAt m) a b) out after → Puts r at n (baseOf S cs k (kindAt kind) a b) out after
 puts-kind S cs k a b kind m e p = puts-as (ap (λ (x : ℕ). baseOf S cs k (kindAt x) a b) e) p
+
+-- the same where the code knows of the set only how many threads it has
+abbrev pub withThreads : Set → ℕ → Set
+withThreads S threads = record { threads = threads; count = S .count; statement = S .statement }
+
+pub puts-base : {r : Written} {at : Slot → ℕ} {n : ℕ} {out after : List ℕ} (S : Set) (cs : List ℕ) (threads k a b kind m : ℕ) → S .threads ≡ threads → kind ≡ m →
+    Puts r at n (baseOf (withThreads S threads) cs k (kindAt m) a b) out after → Puts r at n (baseOf S cs k (kindAt kind) a b) out after
+puts-base S cs threads k a b kind m same e p =
+    puts-kind S cs k a b kind m e (puts-as (λ z. baseOf (withThreads S (same z)) cs k (kindAt m) a b) p)
 
 -- past the last kind
 pub kind-past : (kind : ℕ) → 41 ≤ kind → kindAt kind ≡ choice
@@ -198,7 +208,7 @@ apart-among n (k ∷ ks) r = or-false (apart-among n ks (r .0)) (ne-eqb n k (r .
 
 -- the kinds by number of neither statements nor flags
 abbrev pub others : List ℕ
-others = 40 ∷ 39 ∷ 38 ∷ 37 ∷ 36 ∷ 35 ∷ 34 ∷ 33 ∷ 32 ∷ 30 ∷ 29 ∷ 28 ∷ 27 ∷ 26 ∷ 25 ∷ 24 ∷ 23 ∷ 22 ∷ 21 ∷ 20 ∷ 19 ∷ 18 ∷ 17 ∷ 10 ∷ 9 ∷ 8 ∷ 7 ∷ 6 ∷ 5 ∷ 4 ∷ 3 ∷ 2 ∷ 0 ∷ []
+others = 39 ∷ 38 ∷ 37 ∷ 36 ∷ 35 ∷ 34 ∷ 33 ∷ 32 ∷ 30 ∷ 29 ∷ 28 ∷ 27 ∷ 26 ∷ 25 ∷ 24 ∷ 23 ∷ 22 ∷ 21 ∷ 20 ∷ 19 ∷ 18 ∷ 17 ∷ 10 ∷ 9 ∷ 8 ∷ 7 ∷ 6 ∷ 5 ∷ 4 ∷ 3 ∷ 2 ∷ 0 ∷ []
 
 tabled : every 41 (λ n. among n others || (ofStatement n || eqb n 31)) ≡ true
 unfolding every among
@@ -212,8 +222,6 @@ kind-other kind r other flagless = elim (decLt kind 41) [
   | no h ↦ omega arith
 ]
 
--- a kind of statements that a `match` does not name
-pub statement-other : (kind : ℕ) → Apart kind (16 ∷ 15 ∷ 14 ∷ 13 ∷ 12 ∷ 11 ∷ 1 ∷ []) → ofStatement kind ≡ false
-statement-other kind r =
-    or-false (or-false (or-false (or-false (or-false (or-false (ne-eqb kind 1 (r .0 .0 .0 .0 .0 .0 .1)) (ne-eqb kind 11 (r .0 .0 .0 .0 .0 .1)))
-    (ne-eqb kind 12 (r .0 .0 .0 .0 .1))) (ne-eqb kind 13 (r .0 .0 .0 .1))) (ne-eqb kind 14 (r .0 .0 .1))) (ne-eqb kind 15 (r .0 .1))) (ne-eqb kind 16 (r .1))
+-- a base that was written is a tree written
+pub put-written : (r : Written) (places : Slot → ℕ) (n : ℕ) (t : Term) (out after : List ℕ) → Puts r places n t out after → WritesTree places t out n after (n + r .count) (r .root)
+put-written r places n t out after p = record { treeWritten = p .written; treeNext = p .countPut; treeRoot = p .rootPut }

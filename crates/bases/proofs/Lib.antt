@@ -1,3 +1,3 @@
 -- Laws of records and of trees of few records.
 pub mod Records
-mod Given
+pub mod Given

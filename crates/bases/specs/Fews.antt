@@ -37,9 +37,9 @@ pub record Puts (put : Written) (places : Slot → ℕ) (n : ℕ) (t : Term) (ou
   pub countPut : n + put .count ≡ next n t
   pub fewPut : put .count ≤ 4
 
--- the kinds by number that have one value for each statement, and no links: active, and address to untest
+-- the kinds by number that have one value for each statement, and no links: active, address to untest, and argument
 abbrev pub ofStatement : ℕ → Bool
-ofStatement kind = eqb kind 1 || eqb kind 11 || eqb kind 12 || eqb kind 13 || eqb kind 14 || eqb kind 15 || eqb kind 16
+ofStatement kind = eqb kind 1 || eqb kind 11 || eqb kind 12 || eqb kind 13 || eqb kind 14 || eqb kind 15 || eqb kind 16 || eqb kind 40
 
 -- ---- what the code's parts give
 

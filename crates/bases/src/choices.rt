@@ -1,7 +1,7 @@
 // The choice bits, and what permits a choice.
 ghost use mathlib.Core.Path.{_≡_};
 ghost use mathlib.Core.Bool.{cond};
-ghost use Prim.Native.Nat.{ℕ, _-_};
+ghost use Prim.Native.Nat.{ℕ, _-_, _≤_};
 ghost use lib.Dec.{eqb, ltb};
 ghost use Rattle.table.specs.Programs.{ref, leaf, binary, ternary, choiceBit, and2, if3};
 ghost use Rattle.encoding.specs.Slots.{Slot, slot, choice, may, none, full, no, yes};
@@ -24,7 +24,7 @@ use places::place;
 
 // Choice bit j of a step: executes by thread, then flushes by thread.
 pub fn put_choice(out: &mut [u8], threads: u8, step: u8, j: u16, n: u32) -> Written
-    ensures { λ r. ⌜ ((at : Slot → ℕ) → Puts r at n (leaf (cond (ltb j threads) (choiceBit step 0 j) (choiceBit step 1 (j - threads)))) (now (out .entry)) (now (out .exit))) ⌝ }
+    ensures { λ r. ⌜ ((at : Slot → ℕ) → Puts r at n (leaf (cond (ltb j threads) (choiceBit step 0 j) (choiceBit step 1 (j - threads)))) (now (out .entry)) (now (out .exit))) × (r .count ≤ 4) ⌝ }
 {
     let t = threads as u16;
     if j < t {
@@ -43,8 +43,8 @@ pub fn put_choice(out: &mut [u8], threads: u8, step: u8, j: u16, n: u32) -> Writ
 
 // No choice before choice j is taken.
 pub fn put_none_before(slots: &[u32], out: &mut [u8], j: u16, n: u32) -> Written
-    ensures { λ r. ⌜ Puts r (placeOf (now (slots .entry))) n
-        (cond (eqb j 0) (ref (slot yes 0 0)) (ternary (if3 1) (ref (slot choice 0 (j - 1))) (ref (slot no 0 0)) (ref (slot none 0 (j - 1))))) (now (out .entry)) (now (out .exit)) ⌝ }
+    ensures { λ r. ⌜ (Puts r (placeOf (now (slots .entry))) n
+        (cond (eqb j 0) (ref (slot yes 0 0)) (ternary (if3 1) (ref (slot choice 0 (j - 1))) (ref (slot no 0 0)) (ref (slot none 0 (j - 1))))) (now (out .entry)) (now (out .exit))) × (r .count ≤ 4) ⌝ }
 {
     if j == 0 {
         return put_none(slots, YES, 0, 0, 1);
@@ -73,8 +73,8 @@ pub fn permit(slots: &[u32], threads: u8, j: u16) -> u64
 
 // Choice j is permitted, and no choice before it is taken.
 pub fn put_fit(slots: &[u32], out: &mut [u8], threads: u8, j: u16, n: u32) -> Written
-    ensures { λ r. ⌜ Puts r (placeOf (now (slots .entry))) n
-        (binary and2 (ref (cond (ltb j threads) (slot may j 0) (slot full (j - threads) 0))) (ref (slot none 0 j))) (now (out .entry)) (now (out .exit)) ⌝ }
+    ensures { λ r. ⌜ (Puts r (placeOf (now (slots .entry))) n
+        (binary and2 (ref (cond (ltb j threads) (slot may j 0) (slot full (j - threads) 0))) (ref (slot none 0 j))) (now (out .entry)) (now (out .exit))) × (r .count ≤ 4) ⌝ }
 {
     let permitted = permit(slots, threads, j);
     let none = place(slots, NONE, 0, j, 0);

@@ -1,9 +1,9 @@
 // The bases of a table's trees (crate encoding, `base`), written: at most four records each.
 ghost use mathlib.Core.Path.{_≡_};
-ghost use mathlib.Core.Bool.{true, false};
+ghost use mathlib.Core.Bool.{false};
 ghost use mathlib.Core.List.{List};
 ghost use Prim.Native.Nat.{ℕ, _≤_};
-ghost use Rattle.records.specs.Sets.{setBy};
+ghost use Rattle.records.specs.Sets.{Set};
 ghost use Rattle.encoding.specs.Slots.{kindAt};
 ghost use Rattle.encoding.specs.Steps.{base as baseOf};
 ghost use Rattle.places.specs.Places.{placeOf};
@@ -21,21 +21,20 @@ use choices::put_none_before;
 use operations::AND;
 use operations::OR;
 use places::kinds;
-use records::Layout;
 use state::put_flush_value;
 use state::put_full;
 use state::put_heap;
 use state::put_may;
 use state::put_shut;
-use statements::put_active;
-use statements::put_address;
-use statements::put_argument;
+pub use statements::put_active;
+pub use statements::put_address;
+pub use statements::put_argument;
 pub use statements::put_flag;
-use statements::put_loaded;
-use statements::put_result;
-use statements::put_swaps;
-use statements::put_test;
-use statements::put_untest;
+pub use statements::put_loaded;
+pub use statements::put_result;
+pub use statements::put_swaps;
+pub use statements::put_test;
+pub use statements::put_untest;
 pub use written::Written;
 use written::put_constant;
 use written::put_joined;
@@ -53,50 +52,23 @@ pub fn of_statement(kind: u8) -> bool
         | (kind == kinds::RESULT)
         | (kind == kinds::TEST)
         | (kind == kinds::UNTEST)
-}
-
-// Writes the tree of such a kind for statement i of thread t, its records from index n on.
-pub fn put_statement(
-    set: &[u8],
-    layout: Layout,
-    slots: &[u32],
-    out: &mut [u8],
-    kind: u8,
-    t: u8,
-    i: u16,
-    n: u32,
-) -> Written
-    ensures { λ r. ⌜ ((cs : List ℕ) (k : ℕ) → ofStatement kind ≡ true → n ≤ 2000000000
-        → Puts r (placeOf (now (slots .entry))) n (baseOf (setBy (now (set .entry)) layout) cs k (kindAt kind) t i) (now (out .entry)) (now (out .exit))) ⌝ }
-{
-    match kind {
-        kinds::ACTIVE => put_active(slots, out, t, i, n),
-        kinds::ADDRESS => put_address(set, layout, slots, out, t, i, n),
-        kinds::LOADED => put_loaded(set, layout, slots, out, t, i, n),
-        kinds::SWAPS => put_swaps(set, layout, slots, out, t, i, n),
-        kinds::RESULT => put_result(set, layout, slots, out, t, i, n),
-        kinds::TEST => put_test(set, layout, slots, out, t, i, n),
-        kinds::UNTEST => put_untest(set, layout, slots, out, t, i, n),
-        _ => put_none(slots, kinds::NO, 0, 0, 0),
-    }
+        | (kind == kinds::ARGUMENT)
 }
 
 // Writes the base of another kind's tree for a and b, its records from index n on; that of a flag is `put_flag`.
 pub fn put_base(
-    set: &[u8],
-    layout: Layout,
     slots: &[u32],
     out: &mut [u8],
+    threads: u8,
     step: u8,
     kind: u8,
     a: u8,
     b: u16,
     n: u32,
 ) -> Written
-    ensures { λ r. ⌜ ((cs : List ℕ) → ofStatement kind ≡ false → (kind ≡ 31 → ⊥) → n ≤ 2000000000
-        → Puts r (placeOf (now (slots .entry))) n (baseOf (setBy (now (set .entry)) layout) cs step (kindAt kind) a b) (now (out .entry)) (now (out .exit))) ⌝ }
+    ensures { λ r. ⌜ ((S : Set) (cs : List ℕ) → S .threads ≡ threads → ofStatement kind ≡ false → (kind ≡ 31 → ⊥) → n ≤ 2000000000
+        → Puts r (placeOf (now (slots .entry))) n (baseOf S cs step (kindAt kind) a b) (now (out .entry)) (now (out .exit))) × (r .count ≤ 4) ⌝ }
 {
-    let threads = layout.threads;
     match kind {
         kinds::CHOICE => put_choice(out, threads, step, b, n),
         kinds::OPENING => put_none(slots, kinds::YES, 0, 0, 1),
@@ -141,7 +113,6 @@ pub fn put_base(
         kinds::YES => put_none(slots, kinds::YES, 0, 0, 1),
         kinds::NOUGHT => put_none(slots, kinds::NOUGHT, 0, 0, 2),
         kinds::UNIT => put_constant(out, n, 1),
-        kinds::ARGUMENT => put_argument(set, layout, out, a, b, n),
         _ => put_choice(out, threads, step, b, n),
     }
 }

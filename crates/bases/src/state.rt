@@ -30,7 +30,7 @@ use places::place;
 
 // Checkpoint p is not open.
 pub fn put_shut(slots: &[u32], out: &mut [u8], p: u16, n: u32) -> Written
-    ensures { λ r. ⌜ Puts r (placeOf (now (slots .entry))) n (unary not1 (ref (slot opening 0 p))) (now (out .entry)) (now (out .exit)) ⌝ }
+    ensures { λ r. ⌜ (Puts r (placeOf (now (slots .entry))) n (unary not1 (ref (slot opening 0 p))) (now (out .entry)) (now (out .exit))) × (r .count ≤ 4) ⌝ }
 {
     let opening = place(slots, OPENING, 0, p, 0);
     put_one(out, n, NOT, BIT, opening, 0, 0)
@@ -39,7 +39,7 @@ pub fn put_shut(slots: &[u32], out: &mut [u8], p: u16, n: u32) -> Written
 // Thread t may execute.
 pub fn put_may(slots: &[u32], out: &mut [u8], t: u8, n: u32) -> Written
     ensures { λ r. ⌜ (n ≤ 2000000000 → Puts r (placeOf (now (slots .entry))) n
-        (unary not1 (binary or2 (binary and2 (ref (slot full t 0)) (ref (slot barred t 0))) (ref (slot waits t 0)))) (now (out .entry)) (now (out .exit))) ⌝ }
+        (unary not1 (binary or2 (binary and2 (ref (slot full t 0)) (ref (slot barred t 0))) (ref (slot waits t 0)))) (now (out .entry)) (now (out .exit))) × (r .count ≤ 4) ⌝ }
 {
     let k = n as u64;
     let next = k + 1;
@@ -54,8 +54,8 @@ pub fn put_may(slots: &[u32], out: &mut [u8], t: u8, n: u32) -> Written
 
 // Thread t's buffer is full unless it is flushed.
 pub fn put_full(slots: &[u32], out: &mut [u8], threads: u8, t: u8, n: u32) -> Written
-    ensures { λ r. ⌜ Puts r (placeOf (now (slots .entry))) n
-        (ternary (if3 1) (ref (slot choice 0 (threads + t))) (ref (slot no 0 0)) (ref (slot full t 0))) (now (out .entry)) (now (out .exit)) ⌝ }
+    ensures { λ r. ⌜ (Puts r (placeOf (now (slots .entry))) n
+        (ternary (if3 1) (ref (slot choice 0 (threads + t))) (ref (slot no 0 0)) (ref (slot full t 0))) (now (out .entry)) (now (out .exit))) × (r .count ≤ 4) ⌝ }
 {
     let j = (threads as u16) + (t as u16);
     let flushes = place(slots, CHOICE, 0, j, 0);
@@ -66,7 +66,7 @@ pub fn put_full(slots: &[u32], out: &mut [u8], threads: u8, t: u8, n: u32) -> Wr
 
 // The cell that is written, as it is.
 pub fn put_flush_value(slots: &[u32], out: &mut [u8], threads: u8, n: u32) -> Written
-    ensures { λ r. ⌜ Puts r (placeOf (now (slots .entry))) n (binary read2 (ref (slot heap 0 0)) (ref (slot writeTo 0 threads))) (now (out .entry)) (now (out .exit)) ⌝ }
+    ensures { λ r. ⌜ (Puts r (placeOf (now (slots .entry))) n (binary read2 (ref (slot heap 0 0)) (ref (slot writeTo 0 threads))) (now (out .entry)) (now (out .exit))) × (r .count ≤ 4) ⌝ }
 {
     let heap = place(slots, HEAP, 0, 0, 3);
     let address = place(slots, WRITE_TO, 0, threads as u16, 2);
@@ -75,8 +75,8 @@ pub fn put_flush_value(slots: &[u32], out: &mut [u8], threads: u8, n: u32) -> Wr
 
 // The memory with the cell written.
 pub fn put_heap(slots: &[u32], out: &mut [u8], threads: u8, n: u32) -> Written
-    ensures { λ r. ⌜ Puts r (placeOf (now (slots .entry))) n
-        (ternary write3 (ref (slot heap 0 0)) (ref (slot writeTo 0 threads)) (ref (slot writeValue 0 threads))) (now (out .entry)) (now (out .exit)) ⌝ }
+    ensures { λ r. ⌜ (Puts r (placeOf (now (slots .entry))) n
+        (ternary write3 (ref (slot heap 0 0)) (ref (slot writeTo 0 threads)) (ref (slot writeValue 0 threads))) (now (out .entry)) (now (out .exit))) × (r .count ≤ 4) ⌝ }
 {
     let heap = place(slots, HEAP, 0, 0, 3);
     let address = place(slots, WRITE_TO, 0, threads as u16, 2);

@@ -2,7 +2,7 @@
 ghost use mathlib.Core.Path.{_≡_};
 ghost use mathlib.Core.List.{List};
 ghost use Prim.Native.Nat.{ℕ, _≤_};
-ghost use Rattle.records.specs.Sets.{setBy};
+ghost use Rattle.records.specs.Sets.{Set};
 ghost use Rattle.table.specs.Programs.{Binary, binaryNumber, binarySort, ref, binary, and2};
 ghost use Rattle.encoding.specs.Slots.{Kind, Slot, slot, kindNumber, startPlace, choice, active, address, loaded, swaps, result, test, untest, flag, accu, argument};
 ghost use Rattle.encoding.specs.Steps.{base as baseOf};
@@ -42,8 +42,7 @@ use places::kinds::SWAPS;
 use places::kinds::TEST;
 use places::kinds::UNIT;
 use places::place;
-use records::Layout;
-use records::fetch;
+use records::Statement;
 use records::instructions;
 
 // Where the flag of statement i of thread t lies; statement 0 is the next one at the start.
@@ -55,7 +54,7 @@ pub fn flag_place(slots: &[u32], t: u8, i: u16) -> u64
 
 // Statement i of thread t executes.
 pub fn put_active(slots: &[u32], out: &mut [u8], t: u8, i: u16, n: u32) -> Written
-    ensures { λ r. ⌜ (n ≤ 2000000000 → Puts r (placeOf (now (slots .entry))) n (binary and2 (ref (slot flag t i)) (ref (slot choice 0 t))) (now (out .entry)) (now (out .exit))) ⌝ }
+    ensures { λ r. ⌜ (n ≤ 2000000000 → Puts r (placeOf (now (slots .entry))) n (binary and2 (ref (slot flag t i)) (ref (slot choice 0 t))) (now (out .entry)) (now (out .exit))) × (r .count ≤ 4) ⌝ }
 {
     let flag = flag_place(slots, t, i);
     let executes = place(slots, CHOICE, 0, t as u16, 0);
@@ -64,17 +63,16 @@ pub fn put_active(slots: &[u32], out: &mut [u8], t: u8, i: u16, n: u32) -> Writt
 
 // The address of a statement.
 pub fn put_address(
-    set: &[u8],
-    layout: Layout,
+    statement: Statement,
     slots: &[u32],
     out: &mut [u8],
     t: u8,
     i: u16,
     n: u32,
 ) -> Written
-    ensures { λ r. ⌜ ((cs : List ℕ) (k : ℕ) → n ≤ 2000000000 → Puts r (placeOf (now (slots .entry))) n (baseOf (setBy (now (set .entry)) layout) cs k address t i) (now (out .entry)) (now (out .exit))) ⌝ }
+    ensures { λ r. ⌜ ((S : Set) (cs : List ℕ) (k : ℕ) → statement ≡ S .statement t i → n ≤ 2000000000
+        → Puts r (placeOf (now (slots .entry))) n (baseOf S cs k address t i) (now (out .entry)) (now (out .exit))) × (r .count ≤ 4) ⌝ }
 {
-    let statement = fetch(set, layout, t, i);
     if statement.mode == 1 {
         let argument = place(slots, ARGUMENT, t, i, 2);
         return put_load(slots, out, t, argument, n);
@@ -84,17 +82,16 @@ pub fn put_address(
 
 // The word that a statement loads.
 pub fn put_loaded(
-    set: &[u8],
-    layout: Layout,
+    statement: Statement,
     slots: &[u32],
     out: &mut [u8],
     t: u8,
     i: u16,
     n: u32,
 ) -> Written
-    ensures { λ r. ⌜ ((cs : List ℕ) (k : ℕ) → n ≤ 2000000000 → Puts r (placeOf (now (slots .entry))) n (baseOf (setBy (now (set .entry)) layout) cs k loaded t i) (now (out .entry)) (now (out .exit))) ⌝ }
+    ensures { λ r. ⌜ ((S : Set) (cs : List ℕ) (k : ℕ) → statement ≡ S .statement t i → n ≤ 2000000000
+        → Puts r (placeOf (now (slots .entry))) n (baseOf S cs k loaded t i) (now (out .entry)) (now (out .exit))) × (r .count ≤ 4) ⌝ }
 {
-    let statement = fetch(set, layout, t, i);
     let number = statement.number;
     if (number == instructions::LOAD)
         | (number == instructions::ADD)
@@ -110,19 +107,18 @@ pub fn put_loaded(
 
 // A CAS that executes and matches.
 pub fn put_swaps(
-    set: &[u8],
-    layout: Layout,
+    statement: Statement,
     slots: &[u32],
     out: &mut [u8],
     t: u8,
     i: u16,
     n: u32,
 ) -> Written
-    ensures { λ r. ⌜ ((cs : List ℕ) (k : ℕ) → n ≤ 2000000000 → Puts r (placeOf (now (slots .entry))) n (baseOf (setBy (now (set .entry)) layout) cs k swaps t i) (now (out .entry)) (now (out .exit))) ⌝ }
+    ensures { λ r. ⌜ ((S : Set) (cs : List ℕ) (k : ℕ) → statement ≡ S .statement t i → n ≤ 2000000000
+        → Puts r (placeOf (now (slots .entry))) n (baseOf S cs k swaps t i) (now (out .entry)) (now (out .exit))) × (r .count ≤ 4) ⌝ }
 {
     let k = n as u64;
     let next = k + 1;
-    let statement = fetch(set, layout, t, i);
     if statement.number == instructions::CAS {
         let heap = place(slots, HEAP, 0, 0, 3);
         let address = place(slots, ADDRESS, t, i, 2);
@@ -147,7 +143,7 @@ pub fn put_arithmetic(
     n: u32,
 ) -> Written
     ensures { λ r. ⌜ ((o : Binary) (k : Kind) → operation ≡ binaryNumber o → 2 ≡ binarySort o → kind ≡ kindNumber k → 2 ≡ startPlace (slot k t i) → n ≤ 2000000000
-        → Puts r (placeOf (now (slots .entry))) n (binary o (ref (slot accu t 0)) (ref (slot k t i))) (now (out .entry)) (now (out .exit))) ⌝ }
+        → Puts r (placeOf (now (slots .entry))) n (binary o (ref (slot accu t 0)) (ref (slot k t i))) (now (out .entry)) (now (out .exit))) × (r .count ≤ 4) ⌝ }
 {
     let accu = place(slots, ACCU, t, 0, 2);
     let operand = place(slots, kind, t, i, 2);
@@ -156,17 +152,16 @@ pub fn put_arithmetic(
 
 // What accu becomes.
 pub fn put_result(
-    set: &[u8],
-    layout: Layout,
+    statement: Statement,
     slots: &[u32],
     out: &mut [u8],
     t: u8,
     i: u16,
     n: u32,
 ) -> Written
-    ensures { λ r. ⌜ ((cs : List ℕ) (k : ℕ) → n ≤ 2000000000 → Puts r (placeOf (now (slots .entry))) n (baseOf (setBy (now (set .entry)) layout) cs k result t i) (now (out .entry)) (now (out .exit))) ⌝ }
+    ensures { λ r. ⌜ ((S : Set) (cs : List ℕ) (k : ℕ) → statement ≡ S .statement t i → n ≤ 2000000000
+        → Puts r (placeOf (now (slots .entry))) n (baseOf S cs k result t i) (now (out .entry)) (now (out .exit))) × (r .count ≤ 4) ⌝ }
 {
-    let statement = fetch(set, layout, t, i);
     let number = statement.number;
     match number {
         instructions::ADD => put_arithmetic(slots, out, PLUS, LOADED, t, i, n),
@@ -187,19 +182,18 @@ pub fn put_result(
 
 // The test of a conditional jump.
 pub fn put_test(
-    set: &[u8],
-    layout: Layout,
+    statement: Statement,
     slots: &[u32],
     out: &mut [u8],
     t: u8,
     i: u16,
     n: u32,
 ) -> Written
-    ensures { λ r. ⌜ ((cs : List ℕ) (k : ℕ) → n ≤ 2000000000 → Puts r (placeOf (now (slots .entry))) n (baseOf (setBy (now (set .entry)) layout) cs k test t i) (now (out .entry)) (now (out .exit))) ⌝ }
+    ensures { λ r. ⌜ ((S : Set) (cs : List ℕ) (k : ℕ) → statement ≡ S .statement t i → n ≤ 2000000000
+        → Puts r (placeOf (now (slots .entry))) n (baseOf S cs k test t i) (now (out .entry)) (now (out .exit))) × (r .count ≤ 4) ⌝ }
 {
     let k = n as u64;
     let next = k + 1;
-    let statement = fetch(set, layout, t, i);
     let number = statement.number;
     if (number == instructions::JZ) | (number == instructions::JNZ) {
         let accu = place(slots, ACCU, t, 0, 2);
@@ -223,17 +217,16 @@ pub fn put_test(
 
 // The test of a conditional jump does not hold.
 pub fn put_untest(
-    set: &[u8],
-    layout: Layout,
+    statement: Statement,
     slots: &[u32],
     out: &mut [u8],
     t: u8,
     i: u16,
     n: u32,
 ) -> Written
-    ensures { λ r. ⌜ ((cs : List ℕ) (k : ℕ) → n ≤ 2000000000 → Puts r (placeOf (now (slots .entry))) n (baseOf (setBy (now (set .entry)) layout) cs k untest t i) (now (out .entry)) (now (out .exit))) ⌝ }
+    ensures { λ r. ⌜ ((S : Set) (cs : List ℕ) (k : ℕ) → statement ≡ S .statement t i → n ≤ 2000000000
+        → Puts r (placeOf (now (slots .entry))) n (baseOf S cs k untest t i) (now (out .entry)) (now (out .exit))) × (r .count ≤ 4) ⌝ }
 {
-    let statement = fetch(set, layout, t, i);
     let number = statement.number;
     let jumps = instructions::is_jump(number);
     if jumps & (number != instructions::JMP) {
@@ -245,17 +238,16 @@ pub fn put_untest(
 
 // Statement i of thread t is the next one unless the thread executes; HALT and EXIT stay.
 pub fn put_flag(
-    set: &[u8],
-    layout: Layout,
+    statement: Statement,
     slots: &[u32],
     out: &mut [u8],
     t: u8,
     i: u16,
     n: u32,
 ) -> Written
-    ensures { λ r. ⌜ ((cs : List ℕ) (k : ℕ) → n ≤ 2000000000 → Puts r (placeOf (now (slots .entry))) n (baseOf (setBy (now (set .entry)) layout) cs k flag t i) (now (out .entry)) (now (out .exit))) ⌝ }
+    ensures { λ r. ⌜ ((S : Set) (cs : List ℕ) (k : ℕ) → statement ≡ S .statement t i → n ≤ 2000000000
+        → Puts r (placeOf (now (slots .entry))) n (baseOf S cs k flag t i) (now (out .entry)) (now (out .exit))) × (r .count ≤ 4) ⌝ }
 {
-    let statement = fetch(set, layout, t, i);
     let number = statement.number;
     if (number == instructions::HALT) | (number == instructions::EXIT) {
         return put_none(slots, FLAG, t, i, (i == 0) as u64);
@@ -267,9 +259,8 @@ pub fn put_flag(
 }
 
 // The argument of a statement.
-pub fn put_argument(set: &[u8], layout: Layout, out: &mut [u8], t: u8, i: u16, n: u32) -> Written
-    ensures { λ r. ⌜ ((at : Slot → ℕ) (cs : List ℕ) (k : ℕ) → Puts r at n (baseOf (setBy (now (set .entry)) layout) cs k argument t i) (now (out .entry)) (now (out .exit))) ⌝ }
+pub fn put_argument(statement: Statement, out: &mut [u8], n: u32) -> Written
+    ensures { λ r. ⌜ ((S : Set) (at : Slot → ℕ) (cs : List ℕ) (k t i : ℕ) → statement ≡ S .statement t i → Puts r at n (baseOf S cs k argument t i) (now (out .entry)) (now (out .exit))) × (r .count ≤ 4) ⌝ }
 {
-    let statement = fetch(set, layout, t, i);
     put_constant(out, n, statement.argument)
 }

@@ -56,7 +56,7 @@ pub fn formula(operation: u8, sort: u8, a: u64, b: u64, c: u64) -> Formula
 
 // No record: the tree is another value, which lies at `start` unless it was set.
 pub fn put_none(slots: &[u32], kind: u8, a: u8, b: u16, start: u64) -> Written
-    ensures { λ r. ⌜ ((n : ℕ) (k : Kind) (out : List ℕ) → kind ≡ kindNumber k → start ≡ startPlace (slot k a b) → Puts r (placeOf (now (slots .entry))) n (ref (slot k a b)) out out) ⌝ }
+    ensures { λ r. ⌜ ((n : ℕ) (k : Kind) (out : List ℕ) → kind ≡ kindNumber k → start ≡ startPlace (slot k a b) → Puts r (placeOf (now (slots .entry))) n (ref (slot k a b)) out out) × (r .count ≤ 4) ⌝ }
 {
     let root = place(slots, kind, a, b, start);
     Written { count: 0, root }
@@ -64,7 +64,7 @@ pub fn put_none(slots: &[u32], kind: u8, a: u8, b: u16, start: u64) -> Written
 
 // One record.
 pub fn put_one(out: &mut [u8], n: u32, operation: u8, sort: u8, a: u64, b: u64, c: u64) -> Written
-    ensures { λ r. ⌜ ((at : Slot → ℕ) (t : Term) → Gives (oneFew n (plain operation sort a b c)) at n t → Puts r at n t (now (out .entry)) (now (out .exit))) ⌝ }
+    ensures { λ r. ⌜ ((at : Slot → ℕ) (t : Term) → Gives (oneFew n (plain operation sort a b c)) at n t → Puts r at n t (now (out .entry)) (now (out .exit))) × (r .count ≤ 4) ⌝ }
 {
     let first = formula(operation, sort, a, b, c);
     table::put(out, n, first);
@@ -76,7 +76,7 @@ pub fn put_one(out: &mut [u8], n: u32, operation: u8, sort: u8, a: u64, b: u64, 
 
 // A word that is known.
 pub fn put_constant(out: &mut [u8], n: u32, word: u16) -> Written
-    ensures { λ r. ⌜ ((at : Slot → ℕ) → Puts r at n (leaf (constantWord word)) (now (out .entry)) (now (out .exit))) ⌝ }
+    ensures { λ r. ⌜ ((at : Slot → ℕ) → Puts r at n (leaf (constantWord word)) (now (out .entry)) (now (out .exit))) × (r .count ≤ 4) ⌝ }
 {
     let first = Formula {
         operation: CONSTANT,
@@ -95,7 +95,7 @@ pub fn put_constant(out: &mut [u8], n: u32, word: u16) -> Written
 
 // Three records.
 pub fn put_three(out: &mut [u8], n: u32, first: Formula, second: Formula, third: Formula) -> Written
-    ensures { λ r. ⌜ ((at : Slot → ℕ) (t : Term) → n ≤ 2000000000 → Gives (threeFew n first second third) at n t → Puts r at n t (now (out .entry)) (now (out .exit))) ⌝ }
+    ensures { λ r. ⌜ ((at : Slot → ℕ) (t : Term) → n ≤ 2000000000 → Gives (threeFew n first second third) at n t → Puts r at n t (now (out .entry)) (now (out .exit))) × (r .count ≤ 4) ⌝ }
 {
     table::put(out, n, first);
     table::put(out, after(n, 1), second);
@@ -109,7 +109,7 @@ pub fn put_three(out: &mut [u8], n: u32, first: Formula, second: Formula, third:
 // A load of the address at index x by thread t: if full and adr is x then val else the cell.
 pub fn put_load(slots: &[u32], out: &mut [u8], t: u8, x: u64, n: u32) -> Written
     ensures { λ r. ⌜ ((s : Slot) → x ≡ placeOf (now (slots .entry)) s → n ≤ 2000000000 → Puts r (placeOf (now (slots .entry))) n
-        (ternary (if3 2) (binary and2 (ref (slot full t 0)) (binary equal2 (ref (slot adr t 0)) (ref s))) (ref (slot val t 0)) (binary read2 (ref (slot heap 0 0)) (ref s))) (now (out .entry)) (now (out .exit))) ⌝ }
+        (ternary (if3 2) (binary and2 (ref (slot full t 0)) (binary equal2 (ref (slot adr t 0)) (ref s))) (ref (slot val t 0)) (binary read2 (ref (slot heap 0 0)) (ref s))) (now (out .entry)) (now (out .exit))) × (r .count ≤ 4) ⌝ }
 {
     let k = n as u64;
     let root = k + 3;
@@ -127,7 +127,7 @@ pub fn put_load(slots: &[u32], out: &mut [u8], t: u8, x: u64, n: u32) -> Written
 // No record: the tree is the value of one kind for the thread before t, or before the first thread the value of another kind.
 pub fn put_previous(slots: &[u32], kind: u8, first: u8, t: u16, start: u64) -> Written
     ensures { λ r. ⌜ ((n : ℕ) (k l : Kind) (out : List ℕ) → kind ≡ kindNumber k → first ≡ kindNumber l → start ≡ startPlace (slot k 0 (t - 1)) → start ≡ startPlace (slot l 0 0)
-        → Puts r (placeOf (now (slots .entry))) n (ref (cond (eqb t 0) (slot l 0 0) (slot k 0 (t - 1)))) out out) ⌝ }
+        → Puts r (placeOf (now (slots .entry))) n (ref (cond (eqb t 0) (slot l 0 0) (slot k 0 (t - 1)))) out out) × (r .count ≤ 4) ⌝ }
 {
     if t == 0 {
         return put_none(slots, first, 0, 0, start);
@@ -149,7 +149,7 @@ pub fn put_joined(
     n: u32,
 ) -> Written
     ensures { λ r. ⌜ ((o : Binary) (k l : Kind) → operation ≡ binaryNumber o → 1 ≡ binarySort o → kind ≡ kindNumber k → other ≡ kindNumber l
-        → 0 ≡ startPlace (slot k a b) → 0 ≡ startPlace (slot l c d) → Puts r (placeOf (now (slots .entry))) n (binary o (ref (slot k a b)) (ref (slot l c d))) (now (out .entry)) (now (out .exit))) ⌝ }
+        → 0 ≡ startPlace (slot k a b) → 0 ≡ startPlace (slot l c d) → Puts r (placeOf (now (slots .entry))) n (binary o (ref (slot k a b)) (ref (slot l c d))) (now (out .entry)) (now (out .exit))) × (r .count ≤ 4) ⌝ }
 {
     let first = place(slots, kind, a, b, 0);
     let second = place(slots, other, c, d, 0);

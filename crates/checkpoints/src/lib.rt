@@ -55,10 +55,11 @@ fn points_of(set: &[u8], layout: Layout, t: u8, seen: Points) -> Points
         → listed r ≡ take 8 (notedIn (setBy (now (set .entry)) layout) t before (getD (layout .counts) t 0))) ⌝ }
 {
     let n = links::count(layout, t);
+    let first = links::first(layout, t);
     let mut points = seen;
     let mut i: u16 = 0;
     while i < n {
-        points = note(points, records::fetch(set, layout, t, i));
+        points = note(points, records::statement_at(set, first + (i as u32)));
         i += 1;
     }
     points

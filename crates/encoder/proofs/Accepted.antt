@@ -24,7 +24,7 @@ use Rattle.places.specs.Places.{listed, size}
 use Rattle.places.specs.declared.Points.{Points}
 use Rattle.places.proofs.Starts.{place-replicate}
 use Rattle.encoder.specs.Answers.{checked}
-use Rattle.encoder.specs.Pieces.{Limits}
+use Rattle.places.specs.Pieces.{Limits}
 use Rattle.encoder.specs.declared.Answer.{Answer}
 use Rattle.encoder.specs.declared.Answer.the-variants.{Refused}
 

@@ -1,7 +1,6 @@
 -- Laws of trees, pieces and sizes.
-pub mod Trees
-pub mod Pieces
-pub mod Entries
+pub mod Loops
+pub mod Given
 pub mod Parts
 pub mod Sizes
 pub mod Accepted

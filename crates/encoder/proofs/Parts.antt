@@ -11,7 +11,7 @@ use Rattle.encoding.specs.Encodings.{mapDemand, goalTree}
 use Rattle.encoding.specs.Slots.{Slot, slot, same, none, one, ended, heap, code}
 use Rattle.encoding.specs.Steps.{only, word0, ruled}
 use Rattle.places.specs.Places.{placeOf}
-use Rattle.encoder.specs.Pieces.{Writes}
+use Rattle.places.specs.Pieces.{Writes}
 use Rattle.bases.proofs.Records.{recordAt, written-2, written-3, written-5}
 
 module _ (out slots : List ℕ) (n : ℕ) where

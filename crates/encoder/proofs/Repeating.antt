@@ -26,9 +26,9 @@ use Rattle.encoding.proofs.Repeats.{stride as strideOf, both, afterChoices, ste
 use Rattle.encoding.proofs.Sources.{steady}
 use Rattle.encoding.proofs.Split.{chosenPlaces, rest, choiceLeaf}
 use Rattle.places.specs.Places.{placeOf, size}
-use Rattle.encoder.specs.Pieces.{Writes}
+use Rattle.places.specs.Pieces.{Writes}
 use Rattle.encoder.specs.Repeating.{Started, Stepped, Ended}
-use Rattle.encoder.proofs.Pieces.{written-cut}
+use Rattle.places.proofs.Pieces.{written-cut}
 use Rattle.encoder.proofs.Sizes.{early, encoded-bytes, steps-end}
 
 -- ---- the records of a step

@@ -1,4 +1,4 @@
 -- The calls of the encoder: their answers, and the lent output afterwards.
 pub mod Answers
-pub mod Pieces
+pub mod Entries
 pub mod Repeating

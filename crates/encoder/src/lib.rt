@@ -12,25 +12,38 @@ ghost use Rattle.table.specs.Repeats.{movedBy};
 ghost use Rattle.table.specs.Programs.{leafFormula, choiceBit, needs, aims, upto, compiled, nextAfter};
 ghost use Rattle.encoding.specs.Encodings.{mapDemand, starting, goalTree, firsts as firstsOf, encoded as encodedOf};
 ghost use Rattle.encoding.specs.Slots.{Slot, same, Term, kindAt, code as codeKind};
-ghost use Rattle.encoding.specs.Steps.{only, word0, Link as ChainLink, linked, chain as chainOf, link as linkOf, links as linksOf, leads as leadsOf, entry as entryOf, line as lineOf, block as blockOf, blocks as blocksOf, ruled, step as stepOf};
+ghost use Rattle.encoding.specs.Steps.{shape, perThread, beforeThread, only, word0, chain as chainOf, link as linkOf, links as linksOf, entry as entryOf, line as lineOf, block as blockOf, blocks as blocksOf, ruled, step as stepOf};
 ghost use Rattle.places.specs.Places.{placeOf, listed, size as placesCount};
 ghost use Rattle.bases.specs.Fews.{ofStatement};
+ghost use Rattle.links.specs.Given.{given};
 ghost use Rattle.links.specs.Nexts.{Nexts};
-ghost use Rattle.links.specs.Placed.{placedLink};
 ghost use Rattle.encoder.specs.Answers.{sizeAnswer, encodeAnswer, tableOutput};
-ghost use Rattle.encoder.specs.Pieces.{Writes, WritesTree, Limits};
+ghost use Rattle.places.specs.Pieces.{Writes, WritesTree, Limits};
+ghost use Rattle.encoder.specs.Entries.{GivenEntry};
 ghost use Rattle.encoder.specs.Repeating.{Started, Stepped, Ended};
-use links::Link;
+use links::Root;
+use links::put_link;
 use places::Points;
+use places::kinds::ACCU;
+use places::kinds::ADR;
 use places::kinds::ARGUMENT;
+use places::kinds::BARRED;
 use places::kinds::CODE;
+use places::kinds::CODES;
 use places::kinds::ENDED;
+use places::kinds::EXITS;
 use places::kinds::FLAG;
+use places::kinds::FULL;
+use places::kinds::HALTED;
 use places::kinds::HEAP;
+use places::kinds::MEM;
 use places::kinds::NONE;
 use places::kinds::NOUGHT;
 use places::kinds::ONE;
 use places::kinds::UNIT;
+use places::kinds::VAL;
+use places::kinds::WRITE_TO;
+use places::kinds::WRITE_VALUE;
 use records::Layout;
 use table::Formula;
 
@@ -40,56 +53,9 @@ pub enum Answer {
     Refused { number: u8, place: u32 },
 }
 
-// A tree written: the next index, and the tree's own.
-struct Root {
-    next: u32,
-    at: u64,
-}
-
 // ---- trees
 
-// Writes a link over a tree.
-fn put_link(out: &mut [u8], n: u32, at: u64, link: Link) -> Root
-    requires { ⌜ n ≤ 2000000000 ⌝ }
-    ensures { λ r. ⌜ ((places : Slot → ℕ) (l : ChainLink) (tree : Term) (start : List ℕ) (m : ℕ) → link ≡ placedLink places l
-        → WritesTree places tree start m (now (out .entry)) n at → WritesTree places (linked l tree) start m (now (out .exit)) (r .next) (r .at))
-        × (r .next ≤ n + 1) ⌝ }
-{
-    let operation = link.operation;
-    if operation == 0 {
-        return Root { next: n, at };
-    }
-    if operation == 8 {
-        let test = Formula {
-            operation,
-            sort: link.sort,
-            constant: 0,
-            a: link.a,
-            b: link.b,
-            c: at,
-        };
-        table::put(out, n, test);
-        return Root {
-            next: n + 1,
-            at: n as u64,
-        };
-    }
-    let joined = Formula {
-        operation,
-        sort: link.sort,
-        constant: 0,
-        a: link.a,
-        b: at,
-        c: 0,
-    };
-    table::put(out, n, joined);
-    Root {
-        next: n + 1,
-        at: n as u64,
-    }
-}
-
-// Writes the links of a kind over a tree; those of flags have their own way.
+// Writes the links of a kind over a tree; those of flags and of the kinds that `given` names have their own ways.
 fn chain(
     set: &[u8],
     layout: Layout,
@@ -103,7 +69,7 @@ fn chain(
     n: u32,
     base: u64,
 ) -> Root
-    requires { ⌜ (n ≤ 1900000000) × (linksOf (setBy (now set) layout) (listed points) 0 (kindAt kind) a b ≤ 32) × (Nexts (setBy (now set) layout) (now nexts)) × (kind ≡ 31 → ⊥) ⌝ }
+    requires { ⌜ (n ≤ 1900000000) × (linksOf (setBy (now set) layout) (listed points) 0 (kindAt kind) a b ≤ 32) × (Nexts (setBy (now set) layout) (now nexts)) × (kind ≡ 31 → ⊥) × (given kind ≡ true → linksOf (setBy (now set) layout) (listed points) 0 (kindAt kind) a b ≡ 0) ⌝ }
     ensures { λ r. ⌜ ((tree : Term) (start : List ℕ) (m : ℕ) → WritesTree (placeOf (now (slots .entry))) tree start m (now (out .entry)) n base
         → WritesTree (placeOf (now (slots .entry)))
         (chainOf (linkOf (setBy (now (set .entry)) layout) (listed points) 0 (kindAt kind) a b) (linksOf (setBy (now (set .entry)) layout) (listed points) 0 (kindAt kind) a b) tree)
@@ -115,7 +81,7 @@ fn chain(
     if count == 0 {
         return tree;
     }
-    let from = links::chains::givers(layout, kind, a, b);
+    let from = links::chains::givers(kind, a);
     let class = from.class;
     let thread = from.thread;
     let mut i = links::nexts::next_of(nexts, class, thread, 0, count);
@@ -141,13 +107,13 @@ fn entry(
     b: u16,
     n: u32,
 ) -> u32
-    requires { ⌜ (Limits layout points (now slots) n) × (n ≤ 1800000000) × (kind < 41) × (a < 4) × (b < 32) × (Nexts (setBy (now set) layout) (now nexts)) × (ofStatement kind ≡ false) × (kind ≡ 31 → ⊥) ⌝ }
+    requires { ⌜ (Limits layout points (now slots) n) × (n ≤ 1800000000) × (kind < 41) × (a < 4) × (b < 32) × (Nexts (setBy (now set) layout) (now nexts)) × (ofStatement kind ≡ false) × (kind ≡ 31 → ⊥) × (given kind ≡ true → linksOf (setBy (now set) layout) (listed points) 0 (kindAt kind) a b ≡ 0) ⌝ }
     ensures { λ r. ⌜ (Writes (entryOf (setBy (now (set .entry)) layout) (listed points) step (kindAt kind) a b)
         (now (out .entry)) (now (slots .entry)) n (now (out .exit)) (now (slots .exit)) r)
         × (r ≤ n + 36) ⌝ }
 {
     if links::kept(set, layout, points, kind, a, b) {
-        let base = bases::put_base(set, layout, slots, out, step, kind, a, b, n);
+        let base = bases::put_base(slots, out, layout.threads, step, kind, a, b, n);
         let next = n + base.count;
         let tree = chain(
             set,
@@ -168,150 +134,6 @@ fn entry(
     n
 }
 
-// Writes the value of a kind of statements for statement i of thread t.
-fn statement_value(
-    set: &[u8],
-    layout: Layout,
-    points: Points,
-    slots: &mut [u32],
-    out: &mut [u8],
-    step: u8,
-    kind: u8,
-    t: u8,
-    i: u16,
-    n: u32,
-) -> u32
-    requires { ⌜ (Limits layout points (now slots) n) × (n ≤ 1800000000) × (kind < 41) × (ofStatement kind ≡ true) × (t < 4) × (i < 32) ⌝ }
-    ensures { λ r. ⌜ (Writes (entryOf (setBy (now (set .entry)) layout) (listed points) step (kindAt kind) t i)
-        (now (out .entry)) (now (slots .entry)) n (now (out .exit)) (now (slots .exit)) r)
-        × (r ≤ n + 36) ⌝ }
-{
-    let tree = bases::put_statement(set, layout, slots, out, kind, t, i, n);
-    places::set_place(slots, kind, t, i, tree.root);
-    n + tree.count
-}
-
-// Writes the values of a kind of statements for thread t.
-fn statement_values(
-    set: &[u8],
-    layout: Layout,
-    points: Points,
-    slots: &mut [u32],
-    out: &mut [u8],
-    step: u8,
-    kind: u8,
-    t: u8,
-    n: u32,
-) -> u32
-    requires { ⌜ (Limits layout points (now slots) n) × (n ≤ 1700000000) × (kind < 41) × (ofStatement kind ≡ true) × (t < 4) ⌝ }
-    ensures { λ r. ⌜ (Writes (lineOf (setBy (now (set .entry)) layout) (listed points) step (kindAt kind) t)
-        (now (out .entry)) (now (slots .entry)) n (now (out .exit)) (now (slots .exit)) r)
-        × (r ≤ n + 1152) ⌝ }
-{
-    let count = links::count(layout, t);
-    let mut next = n;
-    let mut i: u16 = 0;
-    while i < count {
-        next = statement_value(set, layout, points, slots, out, step, kind, t, i, next);
-        i += 1;
-    }
-    next
-}
-
-// Writes the links of a flag over a tree.
-fn flag_chain(
-    set: &[u8],
-    layout: Layout,
-    nexts: &[u8],
-    slots: &[u32],
-    out: &mut [u8],
-    t: u8,
-    j: u16,
-    count: u16,
-    n: u32,
-    base: u64,
-) -> Root
-    requires { ⌜ (n ≤ 1900000000) × (count ≤ 32) × (Nexts (setBy (now set) layout) (now nexts)) ⌝ }
-    ensures { λ r. ⌜ ((tree : Term) (start : List ℕ) (m : ℕ) → WritesTree (placeOf (now (slots .entry))) tree start m (now (out .entry)) n base
-        → WritesTree (placeOf (now (slots .entry))) (chainOf (leadsOf (setBy (now (set .entry)) layout) [] 0 t j) count tree)
-        start m (now (out .exit)) (r .next) (r .at))
-        × (r .next ≤ n + 32) ⌝ }
-{
-    let mut tree = Root { next: n, at: base };
-    let mut i = links::edges::leading(set, layout, nexts, t, j, 0, count);
-    while i < count {
-        let link = links::edges::leads(set, layout, slots, t, j, i);
-        tree = put_link(out, tree.next, tree.at, link);
-        i = links::edges::leading(set, layout, nexts, t, j, i + 1, count);
-    }
-    tree
-}
-
-// Writes the flag of statement j of thread t, of `count` statements.
-fn flag(
-    set: &[u8],
-    layout: Layout,
-    points: Points,
-    nexts: &[u8],
-    slots: &mut [u32],
-    out: &mut [u8],
-    step: u8,
-    t: u8,
-    j: u16,
-    count: u16,
-    n: u32,
-) -> u32
-    requires { ⌜ (Limits layout points (now slots) n) × (n ≤ 1800000000) × (t < 4) × (j < 32) × (count ≡ getD (layout .counts) t 0) × (Nexts (setBy (now set) layout) (now nexts)) ⌝ }
-    ensures { λ r. ⌜ (Writes (entryOf (setBy (now (set .entry)) layout) (listed points) step (kindAt 31) t j)
-        (now (out .entry)) (now (slots .entry)) n (now (out .exit)) (now (slots .exit)) r)
-        × (r ≤ n + 36) ⌝ }
-{
-    let base = bases::put_flag(set, layout, slots, out, t, j, n);
-    let next = n + base.count;
-    let tree = flag_chain(set, layout, nexts, slots, out, t, j, count, next, base.root);
-    places::set_place(slots, FLAG, t, j, tree.at);
-    tree.next
-}
-
-// Writes the flags of thread t.
-fn flags(
-    set: &[u8],
-    layout: Layout,
-    points: Points,
-    nexts: &[u8],
-    slots: &mut [u32],
-    out: &mut [u8],
-    step: u8,
-    t: u8,
-    n: u32,
-) -> u32
-    requires { ⌜ (Limits layout points (now slots) n) × (n ≤ 1700000000) × (t < 4) × (Nexts (setBy (now set) layout) (now nexts)) ⌝ }
-    ensures { λ r. ⌜ (Writes (lineOf (setBy (now (set .entry)) layout) (listed points) step (kindAt 31) t)
-        (now (out .entry)) (now (slots .entry)) n (now (out .exit)) (now (slots .exit)) r)
-        × (r ≤ n + 1152) ⌝ }
-{
-    let count = links::count(layout, t);
-    let mut next = n;
-    let mut j: u16 = 0;
-    while j < count {
-        next = flag(
-            set,
-            layout,
-            points,
-            nexts,
-            slots,
-            out,
-            step,
-            t,
-            j,
-            count,
-            next,
-        );
-        j += 1;
-    }
-    next
-}
-
 // Writes the values of a kind for a.
 fn line(
     set: &[u8],
@@ -325,17 +147,11 @@ fn line(
     a: u8,
     n: u32,
 ) -> u32
-    requires { ⌜ (Limits layout points (now slots) n) × (n ≤ 1700000000) × (kind < 41) × (a < 4) × (Nexts (setBy (now set) layout) (now nexts)) ⌝ }
+    requires { ⌜ (Limits layout points (now slots) n) × (n ≤ 1700000000) × (kind < 41) × (a < 4) × (Nexts (setBy (now set) layout) (now nexts)) × (ofStatement kind ≡ false) × (kind ≡ 31 → ⊥) × (given kind ≡ false) ⌝ }
     ensures { λ r. ⌜ (Writes (lineOf (setBy (now (set .entry)) layout) (listed points) step (kindAt kind) a)
         (now (out .entry)) (now (slots .entry)) n (now (out .exit)) (now (slots .exit)) r)
         × (r ≤ n + 1152) ⌝ }
 {
-    if kind == FLAG {
-        return flags(set, layout, points, nexts, slots, out, step, a, n);
-    }
-    if bases::of_statement(kind) {
-        return statement_values(set, layout, points, slots, out, step, kind, a, n);
-    }
     let count = links::columns(layout, points, kind, a);
     let mut next = n;
     let mut b: u16 = 0;
@@ -358,7 +174,215 @@ fn line(
     next
 }
 
-// Writes all values of a kind.
+// Writes all values of a kind whose links are not those of statements.
+fn plain_block(
+    set: &[u8],
+    layout: Layout,
+    points: Points,
+    nexts: &[u8],
+    slots: &mut [u32],
+    out: &mut [u8],
+    step: u8,
+    kind: u8,
+    n: u32,
+) -> u32
+    requires { ⌜ (Limits layout points (now slots) n) × (n ≤ 1600000000) × (kind < 41) × (Nexts (setBy (now set) layout) (now nexts)) × (ofStatement kind ≡ false) × (kind ≡ 31 → ⊥) × (given kind ≡ false) ⌝ }
+    ensures { λ r. ⌜ (Writes (blockOf (setBy (now (set .entry)) layout) (listed points) step (kindAt kind))
+        (now (out .entry)) (now (slots .entry)) n (now (out .exit)) (now (slots .exit)) r)
+        × (r ≤ n + 4608) ⌝ }
+{
+    let count = links::rows(layout, kind);
+    let mut next = n;
+    let mut a: u8 = 0;
+    while a < count {
+        next = line(set, layout, points, nexts, slots, out, step, kind, a, next);
+        a += 1;
+    }
+    next
+}
+
+// Writes the value of a kind for a and b, whose links the statements of thread t give.
+fn given_entry(
+    set: &[u8],
+    layout: Layout,
+    points: Points,
+    nexts: &[u8],
+    slots: &mut [u32],
+    out: &mut [u8],
+    step: u8,
+    kind: u8,
+    a: u8,
+    b: u16,
+    t: u8,
+    first: u32,
+    count: u16,
+    n: u32,
+) -> u32
+    requires { ⌜ (Limits layout points (now slots) n) × (n ≤ 1800000000) × (a < 4) × (b < 32) × (Nexts (setBy (now set) layout) (now nexts)) × (GivenEntry (setBy (now set) layout) (listed points) kind a b t)
+        × (t < 4) × (first ≡ getD (layout .starts) t 0) × (first < 65536) × (count ≡ getD (layout .counts) t 0) ⌝ }
+    ensures { λ r. ⌜ (Writes (entryOf (setBy (now (set .entry)) layout) (listed points) step (kindAt kind) a b)
+        (now (out .entry)) (now (slots .entry)) n (now (out .exit)) (now (slots .exit)) r)
+        × (r ≤ n + 36) ⌝ }
+{
+    let base = bases::put_base(slots, out, layout.threads, step, kind, a, b, n);
+    let tree = links::given_chain(
+        set,
+        first,
+        count,
+        nexts,
+        slots,
+        out,
+        kind,
+        t,
+        n + base.count,
+        base.root,
+    );
+    places::set_place(slots, kind, a, b, tree.at);
+    tree.next
+}
+
+// Writes a register of each thread, or what else it has one value of, whose links its own statements give.
+fn register_block(
+    set: &[u8],
+    layout: Layout,
+    points: Points,
+    nexts: &[u8],
+    slots: &mut [u32],
+    out: &mut [u8],
+    step: u8,
+    kind: u8,
+    n: u32,
+) -> u32
+    requires { ⌜ (Limits layout points (now slots) n) × (n ≤ 1600000000) × (kind < 41) × (Nexts (setBy (now set) layout) (now nexts)) × ((t : ℕ) → GivenEntry (setBy (now set) layout) (listed points) kind t 0 t) × (shape (kindAt kind) ≡ perThread) ⌝ }
+    ensures { λ r. ⌜ (Writes (blockOf (setBy (now (set .entry)) layout) (listed points) step (kindAt kind))
+        (now (out .entry)) (now (slots .entry)) n (now (out .exit)) (now (slots .exit)) r)
+        × (r ≤ n + 4608) ⌝ }
+{
+    let threads = layout.threads;
+    let mut next = n;
+    let mut t: u8 = 0;
+    while t < threads {
+        let first = links::first(layout, t);
+        let count = links::count(layout, t);
+        next = given_entry(
+            set,
+            layout,
+            points,
+            nexts,
+            slots,
+            out,
+            step,
+            kind,
+            t,
+            0,
+            t,
+            first,
+            count,
+            next,
+        );
+        t += 1;
+    }
+    next
+}
+
+// Writes a value before the first thread, and one after each thread whose links its statements give.
+fn running_block(
+    set: &[u8],
+    layout: Layout,
+    points: Points,
+    nexts: &[u8],
+    slots: &mut [u32],
+    out: &mut [u8],
+    step: u8,
+    kind: u8,
+    n: u32,
+) -> u32
+    requires { ⌜ (Limits layout points (now slots) n) × (n ≤ 1600000000) × (kind < 41) × (Nexts (setBy (now set) layout) (now nexts)) × ((b t : ℕ) → b ≡ t + 1 → GivenEntry (setBy (now set) layout) (listed points) kind 0 b t) × (shape (kindAt kind) ≡ beforeThread) × (ofStatement kind ≡ false) × (kind ≡ 31 → ⊥) × (linksOf (setBy (now set) layout) (listed points) 0 (kindAt kind) 0 0 ≡ 0) ⌝ }
+    ensures { λ r. ⌜ (Writes (blockOf (setBy (now (set .entry)) layout) (listed points) step (kindAt kind))
+        (now (out .entry)) (now (slots .entry)) n (now (out .exit)) (now (slots .exit)) r)
+        × (r ≤ n + 4608) ⌝ }
+{
+    let threads = layout.threads;
+    let mut next = entry(set, layout, points, nexts, slots, out, step, kind, 0, 0, n);
+    let mut t: u8 = 0;
+    while t < threads {
+        let first = links::first(layout, t);
+        let count = links::count(layout, t);
+        next = given_entry(
+            set,
+            layout,
+            points,
+            nexts,
+            slots,
+            out,
+            step,
+            kind,
+            0,
+            (t as u16) + 1,
+            t,
+            first,
+            count,
+            next,
+        );
+        t += 1;
+    }
+    next
+}
+
+// Writes the values that each statement has of a kind.
+fn statement_block(
+    set: &[u8],
+    layout: Layout,
+    points: Points,
+    nexts: &[u8],
+    slots: &mut [u32],
+    out: &mut [u8],
+    step: u8,
+    kind: u8,
+    n: u32,
+) -> u32
+    requires { ⌜ (Limits layout points (now slots) n) × (n ≤ 1600000000) × (kind < 41) × (Nexts (setBy (now set) layout) (now nexts)) × (ofStatement kind ≡ true) ⌝ }
+    ensures { λ r. ⌜ (Writes (blockOf (setBy (now (set .entry)) layout) (listed points) step (kindAt kind))
+        (now (out .entry)) (now (slots .entry)) n (now (out .exit)) (now (slots .exit)) r)
+        × (r ≤ n + 4608) ⌝ }
+{
+    let threads = layout.threads;
+    let mut next = n;
+    let mut t: u8 = 0;
+    while t < threads {
+        next = values::statement_line(set, layout, slots, out, kind, t, next);
+        t += 1;
+    }
+    next
+}
+
+// Writes the flags.
+fn flag_block(
+    set: &[u8],
+    layout: Layout,
+    points: Points,
+    nexts: &[u8],
+    slots: &mut [u32],
+    out: &mut [u8],
+    step: u8,
+    n: u32,
+) -> u32
+    requires { ⌜ (Limits layout points (now slots) n) × (n ≤ 1600000000) × (Nexts (setBy (now set) layout) (now nexts)) ⌝ }
+    ensures { λ r. ⌜ (Writes (blockOf (setBy (now (set .entry)) layout) (listed points) step (kindAt 31))
+        (now (out .entry)) (now (slots .entry)) n (now (out .exit)) (now (slots .exit)) r)
+        × (r ≤ n + 4608) ⌝ }
+{
+    let threads = layout.threads;
+    let mut next = n;
+    let mut t: u8 = 0;
+    while t < threads {
+        next = flags::flags(set, layout, nexts, slots, out, t, next);
+        t += 1;
+    }
+    next
+}
+
+// Writes all values of a kind. Each sort of kind has its own loop: with one loop for all, the compiler keeps what each needs at hand for the others too.
 fn block(
     set: &[u8],
     layout: Layout,
@@ -379,14 +403,24 @@ fn block(
     if slots.len() != 5248 {
         return n;
     }
-    let count = links::rows(layout, kind);
-    let mut next = n;
-    let mut a: u8 = 0;
-    while a < count {
-        next = line(set, layout, points, nexts, slots, out, step, kind, a, next);
-        a += 1;
+    if bases::of_statement(kind) {
+        return statement_block(set, layout, points, nexts, slots, out, step, kind, n);
     }
-    next
+    match kind {
+        BARRED => register_block(set, layout, points, nexts, slots, out, step, BARRED, n),
+        VAL => register_block(set, layout, points, nexts, slots, out, step, VAL, n),
+        ADR => register_block(set, layout, points, nexts, slots, out, step, ADR, n),
+        MEM => register_block(set, layout, points, nexts, slots, out, step, MEM, n),
+        ACCU => register_block(set, layout, points, nexts, slots, out, step, ACCU, n),
+        FULL => register_block(set, layout, points, nexts, slots, out, step, FULL, n),
+        HALTED => register_block(set, layout, points, nexts, slots, out, step, HALTED, n),
+        WRITE_TO => running_block(set, layout, points, nexts, slots, out, step, WRITE_TO, n),
+        WRITE_VALUE => running_block(set, layout, points, nexts, slots, out, step, WRITE_VALUE, n),
+        EXITS => running_block(set, layout, points, nexts, slots, out, step, EXITS, n),
+        CODES => running_block(set, layout, points, nexts, slots, out, step, CODES, n),
+        FLAG => flag_block(set, layout, points, nexts, slots, out, step, n),
+        _ => plain_block(set, layout, points, nexts, slots, out, step, kind, n),
+    }
 }
 
 // Writes all values of some kinds.

@@ -1,34 +1,32 @@
 -- Laws of the table of next statements: what it holds stays true where one more is set. Assumes nothing.
-use Prim.Native.Nat.{ℕ, _≤_, _<_}
+use Prim.Native.Nat.{ℕ, _+_, _-_, _≤_, _<_}
 use mathlib.Core.Path.{_≡_, sym, ap, _∙_, subst}
-use mathlib.Core.Bool.{true, false}
-use mathlib.Core.List.{List, [], _∷_}
+use mathlib.Core.Bool.{Bool, true, false, cond}
+use mathlib.Core.List.{List}
 use native.Mathlib.Omega.{arith}
 use native.Mathlib.Decide.{decLt, ℕ-discrete}
 use lib.ListN.{length, getD, set, replicate, length-replicate, getD-replicate, List·getD-eq-default}
 use lib.Seq.{getD-set-same, getD-set-other}
-use borrow.Author.Tests.{ne-eqb}
-use Rattle.base.proofs.Choice.{passed}
 use Rattle.records.specs.Sets.{Set}
-use Rattle.links.specs.Nexts.{inClass, nextIndex, Nexts}
-use Rattle.links.proofs.Skips.{Apart}
+use Rattle.links.specs.Nexts.{inClass, nextIndex, Nexts, Passes}
 
--- ---- classes by number
+-- ---- statements that are passed over
 
-pub class-at : (k n : ℕ) {c : ℕ} → c ≡ k → inClass k n ≡ inClass c n
-class-at k n e = ap (λ (c : ℕ). inClass c n) (sym e)
+module _ (S : Set) (c t : ℕ) where
+  pub passes-none : (n : ℕ) → Passes S c t n n
+  passes-none n = λ (x : ℕ) (p : n ≤ x) (q : x < n). absurd (omega arith)
 
-pub class-else : (c n : ℕ) → Apart c (8 ∷ 7 ∷ 6 ∷ 5 ∷ 4 ∷ 3 ∷ 2 ∷ 1 ∷ 0 ∷ []) → true ≡ inClass c n
-class-else c n r =
-    sym (passed _ _ (ne-eqb c 0 (r .0 .0 .0 .0 .0 .0 .0 .0 .1))
-    ∙ passed _ _ (ne-eqb c 1 (r .0 .0 .0 .0 .0 .0 .0 .1))
-    ∙ passed _ _ (ne-eqb c 2 (r .0 .0 .0 .0 .0 .0 .1))
-    ∙ passed _ _ (ne-eqb c 3 (r .0 .0 .0 .0 .0 .1))
-    ∙ passed _ _ (ne-eqb c 4 (r .0 .0 .0 .0 .1))
-    ∙ passed _ _ (ne-eqb c 5 (r .0 .0 .0 .1))
-    ∙ passed _ _ (ne-eqb c 6 (r .0 .0 .1))
-    ∙ passed _ _ (ne-eqb c 7 (r .0 .1))
-    ∙ passed _ _ (ne-eqb c 8 (r .1)))
+  -- one statement more, which is of the class or not
+  pub passes-more : (b : Bool) (i next : ℕ) → b ≡ inClass c (S .statement t i .number) → Passes S c t (i + 1) next → Passes S c t i (cond b i next)
+  passes-more true i next e h = passes-none i
+  passes-more false i next e h = λ (x : ℕ) (p : i ≤ x) (q : x < next). elim (ℕ-discrete x i) [
+    | yes same ↦ ap (λ (y : ℕ). inClass c (S .statement t y .number)) same ∙ sym e
+    | no other ↦ h x (omega arith) q
+  ]
+
+  -- from statement i on is after the one before it
+  pub passes-after : (i next : ℕ) → 0 < i → Passes S c t i next → Passes S c t (i - 1 + 1) next
+  passes-after i next some h = λ (x : ℕ) (p : i - 1 + 1 ≤ x) (q : x < next). h x (omega arith) q
 
 -- ---- the table
 

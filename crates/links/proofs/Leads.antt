@@ -1,15 +1,18 @@
 -- Links as places, and how a statement leads to another: which way each test sends it. Assumes nothing.
-use Prim.Native.Nat.{ℕ}
+use Prim.Native.Nat.{ℕ, _+_}
 use mathlib.Core.Path.{_≡_, refl, sym, ap, _∙_}
 use mathlib.Core.Bool.{Bool, true, false, cond, not, _&&_, _||_}
+use mathlib.Core.List.{[]}
+use native.Mathlib.Numerals.{add-one}
 use lib.Dec.{eqb}
-use borrow.Author.Tests.{eqb-true}
-use Rattle.base.proofs.Choice.{cond-ap, chosen, passed, or-false, and-false, and-yes, clash}
+use borrow.Author.Tests.{eqb-true, eq-eqb}
+use Rattle.base.proofs.Choice.{cond-ap, chosen, passed, or-true, or-false, and-left, and-false, and-right-false, and-yes, clash}
 use Rattle.records.specs.Instructions.{JMP, isJump}
+use Rattle.records.specs.Sets.{Set}
 use Rattle.records.specs.declared.Statement.{Statement}
 use Rattle.table.specs.Formulas.{bitSort, AND, OR}
-use Rattle.encoding.specs.Slots.{active, test, untest, yes, Slot, slot}
-use Rattle.encoding.specs.Steps.{Link as ChainLink, skip, ifThen, andWith, orWith, only, isConditional, isPlain, rests}
+use Rattle.encoding.specs.Slots.{Kind, active, test, untest, yes, Slot, slot}
+use Rattle.encoding.specs.Steps.{Link as ChainLink, skip, ifThen, andWith, orWith, only, isConditional, isPlain, rests, leads}
 use Rattle.links.specs.Nexts.{namesTarget}
 use Rattle.links.specs.Placed.{placedLink, noLink, ifLink, bitLink}
 
@@ -36,7 +39,7 @@ leadsBy s t j i after =
     (cond (eqb after j) (ifThen bitSort (slot active t i) (only yes)) skip)))
 
 -- a choice between things that are the same
-cond-same : {A : Type 0} (b : Bool) {x y z : A} → x ≡ z → y ≡ z → cond b x y ≡ z
+pub cond-same : {A : Type 0} (b : Bool) {x y z : A} → x ≡ z → y ≡ z → cond b x y ≡ z
 cond-same true p q = p
 cond-same false p q = q
 
@@ -91,3 +94,40 @@ module _ (s : Statement) (t j i after : ℕ) where
 pub contrary : (b : Bool) → cond (not b) test untest ≡ cond b untest test
 contrary true = refl
 contrary false = refl
+
+-- how a statement that is no jump to j leads to j, which stands after it
+module _ (s : Statement) (t j i : ℕ) (after : j ≡ i + 1) (names : namesTarget s j ≡ false) where
+  unhit : isJump (s .number) ≡ true → eqb (s .argument) j ≡ false
+  unhit jumps = sym (ap (λ (b : Bool). b && eqb (s .argument) j) jumps) ∙ names
+
+  next-is : eqb (i + 1) j ≡ true
+  next-is = eq-eqb (i + 1) j (sym after)
+
+  module _ (goes : rests (s .number) ≡ false) where
+    pub follows-jump : eqb (s .number) JMP ≡ true → leadsBy s t j i (i + 1) ≡ skip
+    follows-jump jump =
+        leads-always s t j i (i + 1) goes (or-true (isConditional (s .number) && eqb (s .argument) (i + 1)) jump)
+        ∙ passed _ _ (unhit (ap (λ (n : ℕ). isJump n) (eqb-true (s .number) JMP jump)))
+
+    module _ (straight : eqb (s .number) JMP ≡ false) where
+      pub follows-test : isConditional (s .number) ≡ true →
+          leadsBy s t j i (i + 1) ≡ ifThen bitSort (slot active t i) (slot (cond (isPlain (s .number)) untest test) t i)
+      follows-test conditional =
+          let missed = unhit (and-left (isJump (s .number)) (not (eqb (s .number) JMP)) conditional) in
+          let other : eqb (s .argument) (i + 1) ≡ false = ap (λ (x : ℕ). eqb (s .argument) x) (sym after) ∙ missed in
+          leads-missed s t j i (i + 1) goes (or-false straight (and-right-false (isConditional (s .number)) other)) conditional missed next-is
+
+      pub follows-on : isConditional (s .number) ≡ false → leadsBy s t j i (i + 1) ≡ ifThen bitSort (slot active t i) (only yes)
+      follows-on plain =
+          leads-on s t j i (i + 1) goes (or-false straight (and-false (eqb (s .argument) (i + 1)) plain)) plain ∙ chosen _ _ next-is
+
+-- ---- links as places
+
+pub tested : (places : Slot → ℕ) (t i : ℕ) {k l : Kind} → k ≡ l →
+    placedLink places (ifThen 1 (slot active t i) (slot k t i)) ≡ placedLink places (ifThen 1 (slot active t i) (slot l t i))
+tested places t i e = ap (λ (k : Kind). placedLink places (ifThen 1 (slot active t i) (slot k t i))) e
+
+-- a link by the statement that is given, as the definition has it
+pub leads-by : (places : Slot → ℕ) (s : Statement) (S : Set) (t j i : ℕ) → s ≡ S .statement t i → {l : ChainLink} → leadsBy s t j i (i + 1) ≡ l →
+    placedLink places l ≡ placedLink places (leads S [] 0 t j i)
+leads-by places s S t j i is e = ap (placedLink places) (sym e) ∙ (λ z. placedLink places (leadsBy (is z) t j i (add-one i z)))

@@ -32,6 +32,10 @@ nextIndex c t i = 132 * c + (33 * t + i)
 pub record Nexts (S : Set) (nexts : List ℕ) : Type 0 where
   pub passes : (c t i x : ℕ) → t < 4 → i < 33 → i ≤ x → x < getD nexts (nextIndex c t i) 0 → inClass c (S .statement t x .number) ≡ false
 
+-- from statement i of thread t on no statement of class c stands before statement `next`
+abbrev pub Passes : Set → (c t i next : ℕ) → Type 0
+Passes S c t i next = (x : ℕ) → i ≤ x → x < next → inClass c (S .statement t x .number) ≡ false
+
 -- a jump to j
 abbrev pub namesTarget : Statement → ℕ → Bool
 namesTarget s j = isJump (s .number) && eqb (s .argument) j

@@ -2,9 +2,9 @@
 ghost use mathlib.Core.Path.{_≡_};
 ghost use mathlib.Core.Bool.{cond, false};
 ghost use mathlib.Core.List.{[]};
-ghost use Prim.Native.Nat.{ℕ, _≤_, _<_};
+ghost use Prim.Native.Nat.{ℕ, _+_, _≤_, _<_};
 ghost use Rattle.table.specs.Formulas.{bitSort};
-ghost use Rattle.records.specs.Sets.{setBy};
+ghost use Rattle.records.specs.Sets.{Set, statementAt};
 ghost use Rattle.encoding.specs.Slots.{slot, active, test, untest};
 ghost use Rattle.encoding.specs.Steps.{skip, ifThen, leads as leadsOf};
 ghost use Rattle.places.specs.Places.{placeOf};
@@ -23,7 +23,7 @@ use crate::statements::is_plain;
 use crate::statements::rests;
 use places::kinds;
 use places::place;
-use records::Layout;
+use records::Statement;
 use records::instructions::JMP;
 
 // If statement i of thread t executes then its test, or the contrary of it.
@@ -48,13 +48,13 @@ fn by_test(slots: &[u32], plain: bool, t: u8, i: u16) -> Link
 
 // How statement i of thread t leads to j: always, as its test comes out, or not. Few statements name j or stand before it:
 // of the others nothing more is read.
-pub fn leads(set: &[u8], layout: Layout, slots: &[u32], t: u8, j: u16, i: u16) -> Link
-    ensures { λ r. ⌜ r ≡ placedLink (placeOf (now (slots .entry))) (leadsOf (setBy (now (set .entry)) layout) [] 0 t j i) ⌝ }
+pub fn leads(statement: Statement, slots: &[u32], t: u8, j: u16, i: u16) -> Link
+    ensures { λ r. ⌜ ((S : Set) → statement ≡ S .statement t i → r ≡ placedLink (placeOf (now (slots .entry))) (leadsOf S [] 0 t j i)) ⌝ }
 {
-    let s = records::fetch(set, layout, t, i);
-    let n = s.number;
+    let n = statement.number;
+    let argument = statement.argument;
     let after = (i as u32) + 1;
-    let hit = s.argument == j;
+    let hit = argument == j;
     let next = after == (j as u32);
     if !(hit | next) {
         return none();
@@ -64,7 +64,7 @@ pub fn leads(set: &[u8], layout: Layout, slots: &[u32], t: u8, j: u16, i: u16) -
     }
     let conditional = is_conditional(n);
     // A jump to the next statement goes there either way.
-    if (n == JMP) | (conditional & ((s.argument as u32) == after)) {
+    if (n == JMP) | (conditional & ((argument as u32) == after)) {
         return bit_if(slots, hit, t, i);
     }
     if conditional {
@@ -76,15 +76,36 @@ pub fn leads(set: &[u8], layout: Layout, slots: &[u32], t: u8, j: u16, i: u16) -
     bit_if(slots, next, t, i)
 }
 
-// The first jump of thread t, from statement i on, that names j; at most `count`.
-fn jump_to(set: &[u8], layout: Layout, nexts: &[u8], t: u8, j: u16, i: u16, count: u16) -> u16
-    ensures { λ r. ⌜ (Nexts (setBy (now (set .entry)) layout) (now (nexts .entry)) → (x : ℕ) → i ≤ x → x < r
-        → namesTarget (setBy (now (set .entry)) layout .statement t x) j ≡ false)
+// How statement i of thread t, of instruction n, leads to the one after it, where it is no jump to that one.
+pub fn follows(n: u8, slots: &[u32], t: u8, i: u16) -> Link
+    ensures { λ r. ⌜ ((S : Set) (j : ℕ) → n ≡ S .statement t i .number → j ≡ i + 1 → namesTarget (S .statement t i) j ≡ false
+        → r ≡ placedLink (placeOf (now (slots .entry))) (leadsOf S [] 0 t j i)) ⌝ }
+{
+    if rests(n) {
+        return none();
+    }
+    if n == JMP {
+        return none();
+    }
+    if is_conditional(n) {
+        return by_test(slots, !is_plain(n), t, i);
+    }
+    bit_if(slots, true, t, i)
+}
+
+// The first jump of thread t, from statement i on, that names j; at most `count`. The thread's statements stand from record `first` on.
+pub fn jump_to(set: &[u8], first: u32, nexts: &[u8], t: u8, j: u16, i: u16, count: u16) -> u16
+    ensures { λ r. ⌜ ((S : Set) → Nexts S (now (nexts .entry)) → ((x : ℕ) → x < count → S .statement t x ≡ statementAt (now (set .entry)) (first + x))
+        → (x : ℕ) → i ≤ x → x < r → namesTarget (S .statement t x) j ≡ false)
         × (i ≤ r) × (i ≤ count → r ≤ count) ⌝ }
 {
+    // No record of a set has such a number, and a sum with it may not fit.
+    if 65535 < first {
+        return i;
+    }
     let mut at = next_of(nexts, IS_JUMP, t, i, count);
     while at < count {
-        let s = records::fetch(set, layout, t, at);
+        let s = records::statement_at(set, first + (at as u32));
         if s.argument == j {
             return at;
         }
@@ -94,13 +115,13 @@ fn jump_to(set: &[u8], layout: Layout, nexts: &[u8], t: u8, j: u16, i: u16, coun
 }
 
 // The first statement of thread t, from statement i on, that is a jump to j or stands before it; at most `count`. Those passed over do not
-// lead to j.
-pub fn leading(set: &[u8], layout: Layout, nexts: &[u8], t: u8, j: u16, i: u16, count: u16) -> u16
-    ensures { λ r. ⌜ (Nexts (setBy (now (set .entry)) layout) (now (nexts .entry)) → (x : ℕ) → i ≤ x → x < r
-        → leadsOf (setBy (now (set .entry)) layout) [] 0 t j x ≡ skip)
+// lead to j. The thread's statements stand from record `first` on.
+pub fn leading(set: &[u8], first: u32, nexts: &[u8], t: u8, j: u16, i: u16, count: u16) -> u16
+    ensures { λ r. ⌜ ((S : Set) → Nexts S (now (nexts .entry)) → ((x : ℕ) → x < count → S .statement t x ≡ statementAt (now (set .entry)) (first + x))
+        → (x : ℕ) → i ≤ x → x < r → leadsOf S [] 0 t j x ≡ skip)
         × (i ≤ r) × (i ≤ count → r ≤ count) ⌝ }
 {
-    let hit = jump_to(set, layout, nexts, t, j, i, count);
+    let hit = jump_to(set, first, nexts, t, j, i, count);
     if i < j {
         if j <= hit {
             return j - 1;

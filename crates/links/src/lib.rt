@@ -1,15 +1,21 @@
 // The links of a table's chains, and what there is of each kind (crate encoding: `link`, `links`, `rows`, `columns`, `kept`).
 pub mod chains;
 pub mod edges;
+mod given;
 pub mod nexts;
 mod parts;
 mod shapes;
 mod statements;
+mod written;
 
+pub use given::given_chain;
 pub use shapes::columns;
 pub use shapes::kept;
 pub use shapes::rows;
 pub use statements::count;
+pub use statements::first;
+pub use written::Root;
+pub use written::put_link;
 
 // A link over what stands so far; operation 0 is none.
 pub struct Link {

@@ -1,14 +1,13 @@
 // A table of where the next statement of a class stands, made once for a set: most statements give a chain no link, and are passed over by it.
 ghost use mathlib.Core.Path.{_≡_};
-ghost use mathlib.Core.Bool.{false};
+ghost use mathlib.Core.Bool.{false, cond};
 ghost use Prim.Native.Nat.{ℕ, _+_, _≤_, _<_};
 ghost use lib.ListN.{length};
-ghost use Rattle.records.specs.Sets.{Set, setBy};
-ghost use Rattle.links.specs.Nexts.{inClass, Nexts};
-use crate::statements::count;
+ghost use Rattle.records.specs.Sets.{Set, setBy, statementAt};
+ghost use Rattle.links.specs.Nexts.{inClass, Nexts, Passes};
 use crate::statements::needs_empty;
-use crate::statements::number;
 use crate::statements::sets_accu;
+use crate::statements::wide_word;
 use records::Layout;
 use records::instructions::CAS;
 use records::instructions::CHECK;
@@ -37,28 +36,8 @@ pub const IS_CHECK: u8 = 7;
 
 pub const IS_JUMP: u8 = 8;
 
-const CLASSES: u8 = 9;
-
 // Every statement is of this one: none is passed over.
 pub const ANY: u8 = 9;
-
-// Whether instruction n is of a class.
-fn in_class(class: u8, n: u8) -> bool
-    ensures { λ r. ⌜ r ≡ inClass class n ⌝ }
-{
-    match class {
-        IS_STORE => n == STORE,
-        IS_MEM => n == MEM,
-        SETS_ACCU => sets_accu(n),
-        IS_HALT => n == HALT,
-        IS_CAS => n == CAS,
-        IS_EXIT => n == EXIT,
-        NEEDS_EMPTY => needs_empty(n),
-        IS_CHECK => n == CHECK,
-        IS_JUMP => is_jump(n),
-        _ => true,
-    }
-}
 
 // A byte of the table as a number that is known to be a byte.
 fn wide(x: u8) -> u16
@@ -104,39 +83,117 @@ fn set_next(nexts: &mut [u8], class: u8, t: u8, i: u8, next: u8)
     }
 }
 
-// How many statements of thread t the table is of.
-fn few(layout: Layout, t: u8) -> u8
-    ensures { λ r. ⌜ r ≤ 32 ⌝ }
+// How many of a thread's statements the table is of.
+fn few(count: u16) -> u8
+    ensures { λ r. ⌜ (r ≤ 32) × (r ≤ count) ⌝ }
 {
-    let n = count(layout, t);
-    if n < 32 {
-        return n as u8;
+    if count < 32 {
+        return count as u8;
     }
     32
 }
 
-// The next statement of the class from statement i on, where `next` is the one after i.
-fn next_from(set: &[u8], layout: Layout, class: u8, t: u8, i: u8, next: u8) -> u8
-    ensures { λ r. ⌜ (((x : ℕ) → i + 1 ≤ x → x < next → inClass class (setBy (now (set .entry)) layout .statement t x .number) ≡ false)
-        → (x : ℕ) → i ≤ x → x < r → inClass class (setBy (now (set .entry)) layout .statement t x .number) ≡ false) ⌝ }
+// The next statement from statement i on, where `next` is the one after i.
+fn nearest(belongs: bool, i: u8, next: u8) -> u8
+    ensures { λ r. ⌜ r ≡ cond belongs i next ⌝ }
 {
-    if in_class(class, number(set, layout, t, i as u16)) {
+    if belongs {
         return i;
     }
     next
 }
 
-// Makes the table for a class and a thread, from the last statement to the first.
-fn make_line(set: &[u8], layout: Layout, nexts: &mut [u8], class: u8, t: u8)
+// Sets what the table has for statement i of a class, to which it belongs or not, where `next` is the one after i; gives what is set.
+fn mark(nexts: &mut [u8], class: u8, t: u8, i: u8, next: u8, belongs: bool) -> u8
+    ensures { λ r. ⌜ (length (now (nexts .exit)) ≡ length (now (nexts .entry)))
+        × ((S : Set) → Nexts S (now (nexts .entry)) → belongs ≡ inClass class (S .statement t i .number) → Passes S class t (i + 1) next
+        → (Nexts S (now (nexts .exit))) × (Passes S class t i r)) ⌝ }
+{
+    let here = nearest(belongs, i, next);
+    set_next(nexts, class, t, i, here);
+    here
+}
+
+// Makes the table of the first five classes for a thread, whose statements stand from record `first` on, from the last statement to the first.
+fn make_first(set: &[u8], first: u32, count: u8, nexts: &mut [u8], t: u8)
+    requires { ⌜ first < 65536 ⌝ }
+    ensures { λ _. ⌜ (length (now (nexts .exit)) ≡ length (now (nexts .entry)))
+        × ((S : Set) → ((x : ℕ) → x < count → S .statement t x ≡ statementAt (now (set .entry)) (first + x))
+        → Nexts S (now (nexts .entry)) → Nexts S (now (nexts .exit))) ⌝ }
+{
+    // The table is of 9 classes, 4 threads and 33 statements. With these known, the compiler drops the tests of places in the loop.
+    if 4 <= t {
+        return;
+    }
+    if 32 < count {
+        return;
+    }
+    if nexts.len() != 1188 {
+        return;
+    }
+    let mut i = count;
+    let mut store = count;
+    let mut mem = count;
+    let mut accu = count;
+    let mut halt = count;
+    let mut cas = count;
+    while 0 < i {
+        i -= 1;
+        let s = records::statement_at(set, first + (i as u32));
+        let n = s.number;
+        store = mark(nexts, IS_STORE, t, i, store, n == STORE);
+        mem = mark(nexts, IS_MEM, t, i, mem, n == MEM);
+        accu = mark(nexts, SETS_ACCU, t, i, accu, sets_accu(n));
+        halt = mark(nexts, IS_HALT, t, i, halt, n == HALT);
+        cas = mark(nexts, IS_CAS, t, i, cas, n == CAS);
+    }
+}
+
+// Makes the table of the other four classes, in the same way. It is a loop of its own since a proof allows five calls that lend one buffer.
+fn make_others(set: &[u8], first: u32, count: u8, nexts: &mut [u8], t: u8)
+    requires { ⌜ first < 65536 ⌝ }
+    ensures { λ _. ⌜ (length (now (nexts .exit)) ≡ length (now (nexts .entry)))
+        × ((S : Set) → ((x : ℕ) → x < count → S .statement t x ≡ statementAt (now (set .entry)) (first + x))
+        → Nexts S (now (nexts .entry)) → Nexts S (now (nexts .exit))) ⌝ }
+{
+    if 4 <= t {
+        return;
+    }
+    if 32 < count {
+        return;
+    }
+    if nexts.len() != 1188 {
+        return;
+    }
+    let mut i = count;
+    let mut exit = count;
+    let mut empty = count;
+    let mut check = count;
+    let mut jump = count;
+    while 0 < i {
+        i -= 1;
+        let s = records::statement_at(set, first + (i as u32));
+        let n = s.number;
+        exit = mark(nexts, IS_EXIT, t, i, exit, n == EXIT);
+        empty = mark(nexts, NEEDS_EMPTY, t, i, empty, needs_empty(n));
+        check = mark(nexts, IS_CHECK, t, i, check, n == CHECK);
+        jump = mark(nexts, IS_JUMP, t, i, jump, is_jump(n));
+    }
+}
+
+// Makes the table for a thread.
+fn make_thread(set: &[u8], layout: Layout, nexts: &mut [u8], t: u8)
     ensures { λ _. ⌜ (length (now (nexts .exit)) ≡ length (now (nexts .entry)))
         × (Nexts (setBy (now (set .entry)) layout) (now (nexts .entry)) → Nexts (setBy (now (set .entry)) layout) (now (nexts .exit))) ⌝ }
 {
-    let mut i = few(layout, t);
-    let mut next = i;
-    while 0 < i {
-        i -= 1;
-        next = next_from(set, layout, class, t, i, next);
-        set_next(nexts, class, t, i, next);
+    let thread = t as usize;
+    if thread < 4 {
+        let count = few(layout.counts[thread]);
+        if 0 < count {
+            let first = wide_word(layout.starts[thread]);
+            make_first(set, first, count, nexts, t);
+            make_others(set, first, count, nexts, t);
+        }
     }
 }
 
@@ -145,12 +202,8 @@ pub fn make(set: &[u8], layout: Layout, nexts: &mut [u8])
     ensures { λ _. ⌜ (length (now (nexts .exit)) ≡ length (now (nexts .entry)))
         × (Nexts (setBy (now (set .entry)) layout) (now (nexts .entry)) → Nexts (setBy (now (set .entry)) layout) (now (nexts .exit))) ⌝ }
 {
-    let mut class: u8 = 0;
-    while class < CLASSES {
-        make_line(set, layout, nexts, class, 0);
-        make_line(set, layout, nexts, class, 1);
-        make_line(set, layout, nexts, class, 2);
-        make_line(set, layout, nexts, class, 3);
-        class += 1;
-    }
+    make_thread(set, layout, nexts, 0);
+    make_thread(set, layout, nexts, 1);
+    make_thread(set, layout, nexts, 2);
+    make_thread(set, layout, nexts, 3);
 }

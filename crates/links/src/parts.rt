@@ -2,19 +2,16 @@
 ghost use mathlib.Core.Path.{_≡_};
 ghost use mathlib.Core.Bool.{cond};
 ghost use Prim.Native.Nat.{_+_};
-ghost use lib.Dec.{eqb};
 ghost use lib.ListN.{getD};
 ghost use Rattle.records.specs.Sets.{setBy};
 ghost use Rattle.step.specs.Machine.{contains};
 ghost use Rattle.places.specs.Places.{placeFrom, listed};
 ghost use Rattle.links.specs.Placed.{noLink, ifLink, bitLink};
 use crate::Link;
-use crate::statements::number;
 use places::Points;
 use places::kinds;
 use places::place;
 use records::Layout;
-use records::instructions::CAS;
 
 pub const BIT: u8 = 1;
 
@@ -60,13 +57,6 @@ pub fn bit_if(slots: &[u32], counts: bool, t: u8, i: u16) -> Link
     none()
 }
 
-// The same where it is instruction n.
-pub fn bit_by(set: &[u8], layout: Layout, slots: &[u32], n: u8, t: u8, i: u16) -> Link
-    ensures { λ r. ⌜ r ≡ cond (eqb (setBy (now (set .entry)) layout .statement t i .number) n) (ifLink 1 (placeFrom (now (slots .entry)) 1 t i 0) (placeFrom (now (slots .entry)) 37 0 0 1)) noLink ⌝ }
-{
-    bit_if(slots, number(set, layout, t, i) == n, t, i)
-}
-
 // Where statement i of thread t counts: if it executes then its thread's word of kind `effect` for `column`.
 pub fn word_if(slots: &[u32], counts: bool, t: u8, i: u16, effect: u8, column: u16) -> Link
     ensures { λ r. ⌜ r ≡ cond counts (ifLink 2 (placeFrom (now (slots .entry)) 1 t i 0) (placeFrom (now (slots .entry)) effect t column 2)) noLink ⌝ }
@@ -82,35 +72,11 @@ pub fn word_if(slots: &[u32], counts: bool, t: u8, i: u16, effect: u8, column: u
     none()
 }
 
-// The same where it is instruction n.
-pub fn word_by(
-    set: &[u8],
-    layout: Layout,
-    slots: &[u32],
-    n: u8,
-    t: u8,
-    i: u16,
-    effect: u8,
-    column: u16,
-) -> Link
-    ensures { λ r. ⌜ r ≡ cond (eqb (setBy (now (set .entry)) layout .statement t i .number) n) (ifLink 2 (placeFrom (now (slots .entry)) 1 t i 0) (placeFrom (now (slots .entry)) effect t column 2)) noLink ⌝ }
+// The same of a CAS: if it executes and matches then its thread's word of kind `effect` for `column`.
+pub fn swap_if(slots: &[u32], counts: bool, t: u8, i: u16, effect: u8, column: u16) -> Link
+    ensures { λ r. ⌜ r ≡ cond counts (ifLink 2 (placeFrom (now (slots .entry)) 13 t i 0) (placeFrom (now (slots .entry)) effect t column 2)) noLink ⌝ }
 {
-    word_if(slots, number(set, layout, t, i) == n, t, i, effect, column)
-}
-
-// Where statement i of thread t is a CAS: if it executes and matches then its thread's word of kind `effect` for `column`.
-pub fn written(
-    set: &[u8],
-    layout: Layout,
-    slots: &[u32],
-    t: u8,
-    i: u16,
-    effect: u8,
-    column: u16,
-) -> Link
-    ensures { λ r. ⌜ r ≡ cond (eqb (setBy (now (set .entry)) layout .statement t i .number) 16) (ifLink 2 (placeFrom (now (slots .entry)) 13 t i 0) (placeFrom (now (slots .entry)) effect t column 2)) noLink ⌝ }
-{
-    if number(set, layout, t, i) == CAS {
+    if counts {
         return Link {
             operation: IF,
             sort: WORD,

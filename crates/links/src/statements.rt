@@ -1,8 +1,8 @@
-// Statements as the links of a table see them: their instruction and its classes, and the thread before.
+// Statements as the links of a table see them: how many a thread has, where they stand, and classes of instructions.
 ghost use mathlib.Core.Path.{_≡_};
 ghost use mathlib.Core.Bool.{cond, _&&_};
-ghost use Prim.Native.Nat.{_-_};
-ghost use lib.Dec.{eqb, ltb};
+ghost use Prim.Native.Nat.{_-_, _<_};
+ghost use lib.Dec.{eqb};
 ghost use lib.ListN.{getD};
 ghost use Rattle.records.specs.Instructions.{CHECK as check};
 ghost use Rattle.records.specs.Sets.{setBy};
@@ -30,12 +30,11 @@ use records::instructions::SUB;
 use records::instructions::SUBI;
 use records::instructions::is_jump;
 
-// The instruction of statement i of thread t.
-pub fn number(set: &[u8], layout: Layout, t: u8, i: u16) -> u8
-    ensures { λ r. ⌜ r ≡ setBy (now (set .entry)) layout .statement t i .number ⌝ }
+// An element of an array of words, as a number that is known to be a word.
+pub fn wide_word(x: u16) -> u32
+    ensures { λ r. ⌜ (r ≡ x) × (r < 65536) ⌝ }
 {
-    let s = records::fetch(set, layout, t, i);
-    s.number
+    x as u32
 }
 
 // How many statements thread t has.
@@ -49,17 +48,15 @@ pub fn count(layout: Layout, t: u8) -> u16
     0
 }
 
-// The thread before t, 0 where t is 0 and 4 where it is none of a set.
-pub fn thread_before(t: u16) -> u8
-    ensures { λ r. ⌜ r ≡ cond (ltb t 5) (t - 1) 4 ⌝ }
+// The record of thread t's first statement, 0 where there is no such thread.
+pub fn first(layout: Layout, t: u8) -> u32
+    ensures { λ r. ⌜ (r ≡ getD (layout .starts) t 0) × (r < 65536) ⌝ }
 {
-    if t == 0 {
-        return 0;
+    let thread = t as usize;
+    if thread < 4 {
+        return wide_word(layout.starts[thread]);
     }
-    if t < 5 {
-        return (t - 1) as u8;
-    }
-    4
+    0
 }
 
 // How many statements the thread before t has, 0 where t is 0.
@@ -69,7 +66,11 @@ pub fn count_before(layout: Layout, t: u16) -> u16
     if t == 0 {
         return 0;
     }
-    count(layout, thread_before(t))
+    let thread = (t - 1) as usize;
+    if thread < 4 {
+        return layout.counts[thread];
+    }
+    0
 }
 
 // Words that need an empty buffer.

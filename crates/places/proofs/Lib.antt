@@ -1,3 +1,5 @@
 -- Laws of places.
 pub mod Stores
 pub mod Starts
+pub mod Pieces
+pub mod Entries

@@ -123,14 +123,16 @@ fn statement(points: Points, s: Statement, i: u16, count: u16) -> u64
 
 // ---- threads
 
-// The records of the statements of thread t.
+// The records of the statements of thread t, which has `count` of them.
 fn statements(set: &[u8], layout: Layout, points: Points, t: u8, count: u16) -> u64
+    requires { ⌜ count ≡ getD (layout .counts) t 0 ⌝ }
     ensures { λ r. ⌜ (r ≡ total (λ i. statementRecords (listed points) count i (setBy (now (set .entry)) layout .statement t i)) count) × (r ≤ 24 * count) ⌝ }
 {
+    let first = links::first(layout, t);
     let mut n: u64 = 0;
     let mut i: u16 = 0;
     while i < count {
-        let s = records::fetch(set, layout, t, i);
+        let s = records::statement_at(set, first + (i as u32));
         n += statement(points, s, i, count);
         i += 1;
     }

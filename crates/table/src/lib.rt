@@ -43,5 +43,9 @@ pub fn put(out: &mut [u8], n: u32, formula: Formula)
         (c / 65536 % 256) as u8,
         (c / 16777216 % 256) as u8,
     ];
-    base::place(out, 16 * (n as usize), &bytes);
+    let at = 16 * (n as usize);
+    // Asked here too: with both ends known the test is one comparison.
+    if at + 16 <= out.len() {
+        base::place(out, at, &bytes);
+    }
 }

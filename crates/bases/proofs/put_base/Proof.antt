@@ -1,12 +1,11 @@
 -- `bases::put_base` meets its contract. Assumes nothing.
 use denote.Ref.{now}
-use mathlib.Core.Path.{refl, ap}
+use mathlib.Core.Path.{refl, ap, _∙_}
 use Rattle.places.specs.Places.{placeOf}
 use Rattle.encoding.specs.Steps.{base as baseOf}
-use Rattle.encoding.specs.Slots.{Kind, kinds, shut, flushTo, writeTo, flushValue, writeValue, raised, exits, codes, val, adr, mem, accu, halted, mark, halts, ended, code, no, yes, nought}
+use Rattle.encoding.specs.Slots.{Kind, kinds, choice, shut, flushTo, writeTo, flushValue, writeValue, raised, exits, codes, val, adr, mem, accu, halted, mark, halts, ended, code, no, yes, nought}
 use Rattle.table.specs.Programs.{and2, or2}
-use Rattle.records.specs.Sets.{setBy}
-use Rattle.bases.proofs.Given.{puts-as, puts-kind, kind-past, kind-other}
+use Rattle.bases.proofs.Given.{withThreads, puts-as, puts-base, kind-past, kind-other}
 use borrow.Author.Needs.{needs}
 use Rattle.bases.proofs.put_base.Statement.{statement}
 use Rattle.bases.proofs.put_base.Tie as tie
@@ -89,14 +88,8 @@ put-joined-requires-2 c κs = search needs
 put-none-requires-12 : tie.Need-put-none-requires-12
 put-none-requires-12 c κs = search needs
 
-cast-put-joined : tie.Need-cast-put-joined
-cast-put-joined c = search needs
-
 put-joined-requires-3 : tie.Need-put-joined-requires-3
 put-joined-requires-3 c κs = search needs
-
-cast-put-none : tie.Need-cast-put-none
-cast-put-none c = search needs
 
 put-none-requires-13 : tie.Need-put-none-requires-13
 put-none-requires-13 c κs = search needs
@@ -113,9 +106,6 @@ put-none-requires-16 c κs = search needs
 put-constant-requires : tie.Need-put-constant-requires
 put-constant-requires c κs = search needs
 
-put-argument-requires : tie.Need-put-argument-requires
-put-argument-requires c κs = search needs
-
 put-choice-requires-2 : tie.Need-put-choice-requires-2
 put-choice-requires-2 c κs = search needs
 
@@ -125,14 +115,14 @@ same-length c = search needs
 returns : tie.Need-returns
 unfolding kinds
 returns c =
-    let a = c .before .before .before .before .before .before .before .before .args in
-    λ cs other flagless h. puts-kind (setBy (a .set .now) (a .layout)) cs (a .step) (a .a) (a .b) (a .kind) 0 (c .before .before .before .before .match .keys1) (c .before .before .put-choice .ensures (placeOf (a .slots .now)))
+    let a = c .before .before .before .before .before .before .before .args in
+    (λ S cs same other flagless h. puts-base S cs (a .threads) (a .step) (a .a) (a .b) (a .kind) 0 same (c .before .before .before .before .match .keys1) (c .before .before .put-choice .ensures .0 (placeOf (a .slots .now))), c .before .before .put-choice .ensures .1)
 
 returns-2 : tie.Need-returns-2
 unfolding kinds
 returns-2 c =
-    let a = c .before .before .before .before .before .args in
-    λ cs other flagless h. puts-kind (setBy (a .set .now) (a .layout)) cs (a .step) (a .a) (a .b) (a .kind) 2 (c .before .match .keys2) (c .put-none .ensures (a .n) yes (now (a .out)) refl refl)
+    let a = c .before .before .before .before .args in
+    (λ S cs same other flagless h. puts-base S cs (a .threads) (a .step) (a .a) (a .b) (a .kind) 2 same (c .before .match .keys2) (c .put-none .ensures .0 (a .n) yes (now (a .out)) refl refl), c .put-none .ensures .1)
 
 same-length-2 : tie.Need-same-length-2
 same-length-2 c = search needs
@@ -140,14 +130,14 @@ same-length-2 c = search needs
 returns-3 : tie.Need-returns-3
 unfolding kinds
 returns-3 c =
-    let a = c .before .before .before .before .before .before .before .before .args in
-    λ cs other flagless h. puts-kind (setBy (a .set .now) (a .layout)) cs (a .step) (a .a) (a .b) (a .kind) 3 (c .before .before .before .before .match .keys3) (c .before .before .put-shut .ensures)
+    let a = c .before .before .before .before .before .before .before .args in
+    (λ S cs same other flagless h. puts-base S cs (a .threads) (a .step) (a .a) (a .b) (a .kind) 3 same (c .before .before .before .before .match .keys3) (c .before .before .put-shut .ensures .0), c .before .before .put-shut .ensures .1)
 
 returns-4 : tie.Need-returns-4
 unfolding kinds
 returns-4 c =
-    let a = c .before .before .before .before .before .args in
-    λ cs other flagless h. puts-kind (setBy (a .set .now) (a .layout)) cs (a .step) (a .a) (a .b) (a .kind) 4 (c .before .match .keys4) (c .put-none2 .ensures (a .n) no (now (a .out)) refl refl)
+    let a = c .before .before .before .before .args in
+    (λ S cs same other flagless h. puts-base S cs (a .threads) (a .step) (a .a) (a .b) (a .kind) 4 same (c .before .match .keys4) (c .put-none2 .ensures .0 (a .n) no (now (a .out)) refl refl), c .put-none2 .ensures .1)
 
 same-length-3 : tie.Need-same-length-3
 same-length-3 c = search needs
@@ -155,14 +145,14 @@ same-length-3 c = search needs
 returns-5 : tie.Need-returns-5
 unfolding kinds
 returns-5 c =
-    let a = c .before .before .before .before .before .before .before .before .args in
-    λ cs other flagless h. puts-kind (setBy (a .set .now) (a .layout)) cs (a .step) (a .a) (a .b) (a .kind) 5 (c .before .before .before .before .match .keys5) (c .before .before .put-joined .ensures and2 mark shut refl refl refl refl refl refl)
+    let a = c .before .before .before .before .before .before .before .args in
+    (λ S cs same other flagless h. puts-base S cs (a .threads) (a .step) (a .a) (a .b) (a .kind) 5 same (c .before .before .before .before .match .keys5) (c .before .before .put-joined .ensures .0 and2 mark shut refl refl refl refl refl refl), c .before .before .put-joined .ensures .1)
 
 returns-6 : tie.Need-returns-6
 unfolding kinds
 returns-6 c =
-    let a = c .before .before .before .before .before .args in
-    λ cs other flagless h. puts-kind (setBy (a .set .now) (a .layout)) cs (a .step) (a .a) (a .b) (a .kind) 6 (c .before .match .keys6) (c .put-none3 .ensures (a .n) halted (now (a .out)) refl refl)
+    let a = c .before .before .before .before .args in
+    (λ S cs same other flagless h. puts-base S cs (a .threads) (a .step) (a .a) (a .b) (a .kind) 6 same (c .before .match .keys6) (c .put-none3 .ensures .0 (a .n) halted (now (a .out)) refl refl), c .put-none3 .ensures .1)
 
 same-length-4 : tie.Need-same-length-4
 same-length-4 c = search needs
@@ -170,8 +160,8 @@ same-length-4 c = search needs
 returns-7 : tie.Need-returns-7
 unfolding kinds
 returns-7 c =
-    let a = c .before .before .before .before .before .before .before .before .args in
-    λ cs other flagless h. puts-kind (setBy (a .set .now) (a .layout)) cs (a .step) (a .a) (a .b) (a .kind) 7 (c .before .before .before .before .match .keys7) (c .before .before .put-may .ensures h)
+    let a = c .before .before .before .before .before .before .before .args in
+    (λ S cs same other flagless h. puts-base S cs (a .threads) (a .step) (a .a) (a .b) (a .kind) 7 same (c .before .before .before .before .match .keys7) (c .before .before .put-may .ensures .0 h), c .before .before .put-may .ensures .1)
 
 same-length-5 : tie.Need-same-length-5
 same-length-5 c = search needs
@@ -179,8 +169,8 @@ same-length-5 c = search needs
 returns-8 : tie.Need-returns-8
 unfolding kinds
 returns-8 c =
-    let a = c .before .before .before .before .before .before .before .before .args in
-    λ cs other flagless h. puts-kind (setBy (a .set .now) (a .layout)) cs (a .step) (a .a) (a .b) (a .kind) 8 (c .before .before .before .before .match .keys8) (c .before .before .put-none-before .ensures)
+    let a = c .before .before .before .before .before .before .before .args in
+    (λ S cs same other flagless h. puts-base S cs (a .threads) (a .step) (a .a) (a .b) (a .kind) 8 same (c .before .before .before .before .match .keys8) (c .before .before .put-none-before .ensures .0), c .before .before .put-none-before .ensures .1)
 
 same-length-6 : tie.Need-same-length-6
 same-length-6 c = search needs
@@ -188,26 +178,26 @@ same-length-6 c = search needs
 returns-9 : tie.Need-returns-9
 unfolding kinds
 returns-9 c =
-    let a = c .before .before .before .before .before .before .before .before .args in
-    λ cs other flagless h. puts-kind (setBy (a .set .now) (a .layout)) cs (a .step) (a .a) (a .b) (a .kind) 9 (c .before .before .before .before .match .keys9) (c .before .before .put-fit .ensures)
+    let a = c .before .before .before .before .before .before .before .args in
+    (λ S cs same other flagless h. puts-base S cs (a .threads) (a .step) (a .a) (a .b) (a .kind) 9 same (c .before .before .before .before .match .keys9) (c .before .before .put-fit .ensures .0), c .before .before .put-fit .ensures .1)
 
 returns-10 : tie.Need-returns-10
 unfolding kinds
 returns-10 c =
-    let a = c .before .before .before .before .before .args in
-    λ cs other flagless h. puts-kind (setBy (a .set .now) (a .layout)) cs (a .step) (a .a) (a .b) (a .kind) 10 (c .before .match .keys10) (c .put-none4 .ensures (a .n) no (now (a .out)) refl refl)
+    let a = c .before .before .before .before .args in
+    (λ S cs same other flagless h. puts-base S cs (a .threads) (a .step) (a .a) (a .b) (a .kind) 10 same (c .before .match .keys10) (c .put-none4 .ensures .0 (a .n) no (now (a .out)) refl refl), c .put-none4 .ensures .1)
 
 returns-11 : tie.Need-returns-11
 unfolding kinds
 returns-11 c =
-    let a = c .before .before .before .before .before .args in
-    λ cs other flagless h. puts-kind (setBy (a .set .now) (a .layout)) cs (a .step) (a .a) (a .b) (a .kind) 17 (c .before .match .keys11) (c .put-none5 .ensures (a .n) nought (now (a .out)) refl refl)
+    let a = c .before .before .before .before .args in
+    (λ S cs same other flagless h. puts-base S cs (a .threads) (a .step) (a .a) (a .b) (a .kind) 17 same (c .before .match .keys11) (c .put-none5 .ensures .0 (a .n) nought (now (a .out)) refl refl), c .put-none5 .ensures .1)
 
 returns-12 : tie.Need-returns-12
 unfolding kinds
 returns-12 c =
-    let a = c .before .before .before .before .before .args in
-    λ cs other flagless h. puts-kind (setBy (a .set .now) (a .layout)) cs (a .step) (a .a) (a .b) (a .kind) 18 (c .before .match .keys12) (c .put-previous .ensures (a .n) writeTo flushTo (now (a .out)) refl refl refl refl)
+    let a = c .before .before .before .before .args in
+    (λ S cs same other flagless h. puts-base S cs (a .threads) (a .step) (a .a) (a .b) (a .kind) 18 same (c .before .match .keys12) (c .put-previous .ensures .0 (a .n) writeTo flushTo (now (a .out)) refl refl refl refl), c .put-previous .ensures .1)
 
 same-length-7 : tie.Need-same-length-7
 same-length-7 c = search needs
@@ -215,32 +205,32 @@ same-length-7 c = search needs
 returns-13 : tie.Need-returns-13
 unfolding kinds
 returns-13 c =
-    let a = c .before .before .before .before .before .before .before .before .args in
-    λ cs other flagless h. puts-kind (setBy (a .set .now) (a .layout)) cs (a .step) (a .a) (a .b) (a .kind) 19 (c .before .before .before .before .match .keys13) (c .before .before .put-flush-value .ensures)
+    let a = c .before .before .before .before .before .before .before .args in
+    (λ S cs same other flagless h. puts-base S cs (a .threads) (a .step) (a .a) (a .b) (a .kind) 19 same (c .before .before .before .before .match .keys13) (c .before .before .put-flush-value .ensures .0), c .before .before .put-flush-value .ensures .1)
 
 returns-14 : tie.Need-returns-14
 unfolding kinds
 returns-14 c =
-    let a = c .before .before .before .before .before .args in
-    λ cs other flagless h. puts-kind (setBy (a .set .now) (a .layout)) cs (a .step) (a .a) (a .b) (a .kind) 20 (c .before .match .keys14) (c .put-previous2 .ensures (a .n) writeValue flushValue (now (a .out)) refl refl refl refl)
+    let a = c .before .before .before .before .args in
+    (λ S cs same other flagless h. puts-base S cs (a .threads) (a .step) (a .a) (a .b) (a .kind) 20 same (c .before .match .keys14) (c .put-previous2 .ensures .0 (a .n) writeValue flushValue (now (a .out)) refl refl refl refl), c .put-previous2 .ensures .1)
 
 returns-15 : tie.Need-returns-15
 unfolding kinds
 returns-15 c =
-    let a = c .before .before .before .before .before .args in
-    λ cs other flagless h. puts-kind (setBy (a .set .now) (a .layout)) cs (a .step) (a .a) (a .b) (a .kind) 21 (c .before .match .keys15) (c .put-none6 .ensures (a .n) mark (now (a .out)) refl refl)
+    let a = c .before .before .before .before .args in
+    (λ S cs same other flagless h. puts-base S cs (a .threads) (a .step) (a .a) (a .b) (a .kind) 21 same (c .before .match .keys15) (c .put-none6 .ensures .0 (a .n) mark (now (a .out)) refl refl), c .put-none6 .ensures .1)
 
 returns-16 : tie.Need-returns-16
 unfolding kinds
 returns-16 c =
-    let a = c .before .before .before .before .before .args in
-    λ cs other flagless h. puts-kind (setBy (a .set .now) (a .layout)) cs (a .step) (a .a) (a .b) (a .kind) 22 (c .before .match .keys16) (c .put-previous3 .ensures (a .n) exits ended (now (a .out)) refl refl refl refl)
+    let a = c .before .before .before .before .args in
+    (λ S cs same other flagless h. puts-base S cs (a .threads) (a .step) (a .a) (a .b) (a .kind) 22 same (c .before .match .keys16) (c .put-previous3 .ensures .0 (a .n) exits ended (now (a .out)) refl refl refl refl), c .put-previous3 .ensures .1)
 
 returns-17 : tie.Need-returns-17
 unfolding kinds
 returns-17 c =
-    let a = c .before .before .before .before .before .args in
-    λ cs other flagless h. puts-kind (setBy (a .set .now) (a .layout)) cs (a .step) (a .a) (a .b) (a .kind) 23 (c .before .match .keys17) (c .put-previous4 .ensures (a .n) codes code (now (a .out)) refl refl refl refl)
+    let a = c .before .before .before .before .args in
+    (λ S cs same other flagless h. puts-base S cs (a .threads) (a .step) (a .a) (a .b) (a .kind) 23 same (c .before .match .keys17) (c .put-previous4 .ensures .0 (a .n) codes code (now (a .out)) refl refl refl refl), c .put-previous4 .ensures .1)
 
 same-length-8 : tie.Need-same-length-8
 same-length-8 c = search needs
@@ -248,32 +238,32 @@ same-length-8 c = search needs
 returns-18 : tie.Need-returns-18
 unfolding kinds
 returns-18 c =
-    let a = c .before .before .before .before .before .before .before .before .args in
-    λ cs other flagless h. puts-kind (setBy (a .set .now) (a .layout)) cs (a .step) (a .a) (a .b) (a .kind) 24 (c .before .before .before .before .match .keys18) (c .before .before .put-heap .ensures)
+    let a = c .before .before .before .before .before .before .before .args in
+    (λ S cs same other flagless h. puts-base S cs (a .threads) (a .step) (a .a) (a .b) (a .kind) 24 same (c .before .before .before .before .match .keys18) (c .before .before .put-heap .ensures .0), c .before .before .put-heap .ensures .1)
 
 returns-19 : tie.Need-returns-19
 unfolding kinds
 returns-19 c =
-    let a = c .before .before .before .before .before .args in
-    λ cs other flagless h. puts-kind (setBy (a .set .now) (a .layout)) cs (a .step) (a .a) (a .b) (a .kind) 25 (c .before .match .keys19) (c .put-none7 .ensures (a .n) val (now (a .out)) refl refl)
+    let a = c .before .before .before .before .args in
+    (λ S cs same other flagless h. puts-base S cs (a .threads) (a .step) (a .a) (a .b) (a .kind) 25 same (c .before .match .keys19) (c .put-none7 .ensures .0 (a .n) val (now (a .out)) refl refl), c .put-none7 .ensures .1)
 
 returns-20 : tie.Need-returns-20
 unfolding kinds
 returns-20 c =
-    let a = c .before .before .before .before .before .args in
-    λ cs other flagless h. puts-kind (setBy (a .set .now) (a .layout)) cs (a .step) (a .a) (a .b) (a .kind) 26 (c .before .match .keys20) (c .put-none8 .ensures (a .n) adr (now (a .out)) refl refl)
+    let a = c .before .before .before .before .args in
+    (λ S cs same other flagless h. puts-base S cs (a .threads) (a .step) (a .a) (a .b) (a .kind) 26 same (c .before .match .keys20) (c .put-none8 .ensures .0 (a .n) adr (now (a .out)) refl refl), c .put-none8 .ensures .1)
 
 returns-21 : tie.Need-returns-21
 unfolding kinds
 returns-21 c =
-    let a = c .before .before .before .before .before .args in
-    λ cs other flagless h. puts-kind (setBy (a .set .now) (a .layout)) cs (a .step) (a .a) (a .b) (a .kind) 27 (c .before .match .keys21) (c .put-none9 .ensures (a .n) mem (now (a .out)) refl refl)
+    let a = c .before .before .before .before .args in
+    (λ S cs same other flagless h. puts-base S cs (a .threads) (a .step) (a .a) (a .b) (a .kind) 27 same (c .before .match .keys21) (c .put-none9 .ensures .0 (a .n) mem (now (a .out)) refl refl), c .put-none9 .ensures .1)
 
 returns-22 : tie.Need-returns-22
 unfolding kinds
 returns-22 c =
-    let a = c .before .before .before .before .before .args in
-    λ cs other flagless h. puts-kind (setBy (a .set .now) (a .layout)) cs (a .step) (a .a) (a .b) (a .kind) 28 (c .before .match .keys22) (c .put-none10 .ensures (a .n) accu (now (a .out)) refl refl)
+    let a = c .before .before .before .before .args in
+    (λ S cs same other flagless h. puts-base S cs (a .threads) (a .step) (a .a) (a .b) (a .kind) 28 same (c .before .match .keys22) (c .put-none10 .ensures .0 (a .n) accu (now (a .out)) refl refl), c .put-none10 .ensures .1)
 
 same-length-9 : tie.Need-same-length-9
 same-length-9 c = search needs
@@ -281,14 +271,14 @@ same-length-9 c = search needs
 returns-23 : tie.Need-returns-23
 unfolding kinds
 returns-23 c =
-    let a = c .before .before .before .before .before .before .before .before .args in
-    λ cs other flagless h. puts-kind (setBy (a .set .now) (a .layout)) cs (a .step) (a .a) (a .b) (a .kind) 29 (c .before .before .before .before .match .keys23) (c .before .before .put-full .ensures)
+    let a = c .before .before .before .before .before .before .before .args in
+    (λ S cs same other flagless h. puts-base S cs (a .threads) (a .step) (a .a) (a .b) (a .kind) 29 same (c .before .before .before .before .match .keys23) (c .before .before .put-full .ensures .0), c .before .before .put-full .ensures .1)
 
 returns-24 : tie.Need-returns-24
 unfolding kinds
 returns-24 c =
-    let a = c .before .before .before .before .before .args in
-    λ cs other flagless h. puts-kind (setBy (a .set .now) (a .layout)) cs (a .step) (a .a) (a .b) (a .kind) 30 (c .before .match .keys24) (c .put-none11 .ensures (a .n) halted (now (a .out)) refl refl)
+    let a = c .before .before .before .before .args in
+    (λ S cs same other flagless h. puts-base S cs (a .threads) (a .step) (a .a) (a .b) (a .kind) 30 same (c .before .match .keys24) (c .put-none11 .ensures .0 (a .n) halted (now (a .out)) refl refl), c .put-none11 .ensures .1)
 
 same-length-10 : tie.Need-same-length-10
 same-length-10 c = search needs
@@ -296,14 +286,14 @@ same-length-10 c = search needs
 returns-25 : tie.Need-returns-25
 unfolding kinds
 returns-25 c =
-    let a = c .before .before .before .before .before .before .before .before .args in
-    λ cs other flagless h. puts-kind (setBy (a .set .now) (a .layout)) cs (a .step) (a .a) (a .b) (a .kind) 32 (c .before .before .before .before .match .keys25) (c .before .before .put-joined2 .ensures and2 shut raised refl refl refl refl refl refl)
+    let a = c .before .before .before .before .before .before .before .args in
+    (λ S cs same other flagless h. puts-base S cs (a .threads) (a .step) (a .a) (a .b) (a .kind) 32 same (c .before .before .before .before .match .keys25) (c .before .before .put-joined2 .ensures .0 and2 shut raised refl refl refl refl refl refl), c .before .before .put-joined2 .ensures .1)
 
 returns-26 : tie.Need-returns-26
 unfolding kinds
 returns-26 c =
-    let a = c .before .before .before .before .before .args in
-    λ cs other flagless h. puts-kind (setBy (a .set .now) (a .layout)) cs (a .step) (a .a) (a .b) (a .kind) 33 (c .before .match .keys26) (c .put-none12 .ensures (a .n) yes (now (a .out)) refl refl)
+    let a = c .before .before .before .before .args in
+    (λ S cs same other flagless h. puts-base S cs (a .threads) (a .step) (a .a) (a .b) (a .kind) 33 same (c .before .match .keys26) (c .put-none12 .ensures .0 (a .n) yes (now (a .out)) refl refl), c .put-none12 .ensures .1)
 
 same-length-11 : tie.Need-same-length-11
 same-length-11 c = search needs
@@ -311,32 +301,32 @@ same-length-11 c = search needs
 returns-27 : tie.Need-returns-27
 unfolding kinds
 returns-27 c =
-    let a = c .before .before .before .before .before .before .before .before .args in
-    λ cs other flagless h. puts-kind (setBy (a .set .now) (a .layout)) cs (a .step) (a .a) (a .b) (a .kind) 34 (c .before .before .before .before .match .keys27) (c .before .before .put-joined3 .ensures or2 halts exits refl refl refl refl refl refl)
+    let a = c .before .before .before .before .before .before .before .args in
+    (λ S cs same other flagless h. puts-base S cs (a .threads) (a .step) (a .a) (a .b) (a .kind) 34 same (c .before .before .before .before .match .keys27) (c .before .before .put-joined3 .ensures .0 or2 halts exits refl refl refl refl refl refl), c .before .before .put-joined3 .ensures .1)
 
 returns-28 : tie.Need-returns-28
 unfolding kinds
 returns-28 c =
-    let a = c .before .before .before .before .before .args in
-    λ cs other flagless h. puts-kind (setBy (a .set .now) (a .layout)) cs (a .step) (a .a) (a .b) (a .kind) 35 (c .before .match .keys28) (c .put-none13 .ensures (a .n) codes (now (a .out)) refl refl)
+    let a = c .before .before .before .before .args in
+    (λ S cs same other flagless h. puts-base S cs (a .threads) (a .step) (a .a) (a .b) (a .kind) 35 same (c .before .match .keys28) (c .put-none13 .ensures .0 (a .n) codes (now (a .out)) refl refl), c .put-none13 .ensures .1)
 
 returns-29 : tie.Need-returns-29
 unfolding kinds
 returns-29 c =
-    let a = c .before .before .before .before .before .args in
-    λ cs other flagless h. puts-kind (setBy (a .set .now) (a .layout)) cs (a .step) (a .a) (a .b) (a .kind) 36 (c .before .match .keys29) (c .put-none14 .ensures (a .n) no (now (a .out)) refl refl)
+    let a = c .before .before .before .before .args in
+    (λ S cs same other flagless h. puts-base S cs (a .threads) (a .step) (a .a) (a .b) (a .kind) 36 same (c .before .match .keys29) (c .put-none14 .ensures .0 (a .n) no (now (a .out)) refl refl), c .put-none14 .ensures .1)
 
 returns-30 : tie.Need-returns-30
 unfolding kinds
 returns-30 c =
-    let a = c .before .before .before .before .before .args in
-    λ cs other flagless h. puts-kind (setBy (a .set .now) (a .layout)) cs (a .step) (a .a) (a .b) (a .kind) 37 (c .before .match .keys30) (c .put-none15 .ensures (a .n) yes (now (a .out)) refl refl)
+    let a = c .before .before .before .before .args in
+    (λ S cs same other flagless h. puts-base S cs (a .threads) (a .step) (a .a) (a .b) (a .kind) 37 same (c .before .match .keys30) (c .put-none15 .ensures .0 (a .n) yes (now (a .out)) refl refl), c .put-none15 .ensures .1)
 
 returns-31 : tie.Need-returns-31
 unfolding kinds
 returns-31 c =
-    let a = c .before .before .before .before .before .args in
-    λ cs other flagless h. puts-kind (setBy (a .set .now) (a .layout)) cs (a .step) (a .a) (a .b) (a .kind) 38 (c .before .match .keys31) (c .put-none16 .ensures (a .n) nought (now (a .out)) refl refl)
+    let a = c .before .before .before .before .args in
+    (λ S cs same other flagless h. puts-base S cs (a .threads) (a .step) (a .a) (a .b) (a .kind) 38 same (c .before .match .keys31) (c .put-none16 .ensures .0 (a .n) nought (now (a .out)) refl refl), c .put-none16 .ensures .1)
 
 same-length-12 : tie.Need-same-length-12
 same-length-12 c = search needs
@@ -344,26 +334,20 @@ same-length-12 c = search needs
 returns-32 : tie.Need-returns-32
 unfolding kinds
 returns-32 c =
-    let a = c .before .before .before .before .before .before .before .before .args in
-    λ cs other flagless h. puts-kind (setBy (a .set .now) (a .layout)) cs (a .step) (a .a) (a .b) (a .kind) 39 (c .before .before .before .before .match .keys32) (c .before .before .put-constant .ensures (placeOf (a .slots .now)))
+    let a = c .before .before .before .before .before .before .before .args in
+    (λ S cs same other flagless h. puts-base S cs (a .threads) (a .step) (a .a) (a .b) (a .kind) 39 same (c .before .before .before .before .match .keys32) (c .before .before .put-constant .ensures .0 (placeOf (a .slots .now))), c .before .before .put-constant .ensures .1)
 
 same-length-13 : tie.Need-same-length-13
 same-length-13 c = search needs
 
 returns-33 : tie.Need-returns-33
-unfolding kinds
 returns-33 c =
-    let a = c .before .before .before .before .before .before .before .before .args in
-    λ cs other flagless h. puts-kind (setBy (a .set .now) (a .layout)) cs (a .step) (a .a) (a .b) (a .kind) 40 (c .before .before .before .before .match .keys33) (c .before .before .put-argument .ensures (placeOf (a .slots .now)) cs (a .step))
-
-same-length-14 : tie.Need-same-length-14
-same-length-14 c = search needs
-
-returns-34 : tie.Need-returns-34
-returns-34 c =
-    let a = c .before .before .before .before .before .before .before .before .args in
-    λ cs other flagless h. puts-as (ap (λ (k : Kind). baseOf (setBy (a .set .now) (a .layout)) cs (a .step) k (a .a) (a .b)) (kind-past (a .kind) (kind-other (a .kind) (c .before .before .before .before .match .rest) other flagless)))
-    (c .before .before .put-choice2 .ensures (placeOf (a .slots .now)))
+    let a = c .before .before .before .before .before .before .before .args in (
+      λ S cs same other flagless h. puts-as (ap (λ (k : Kind). baseOf S cs (a .step) k (a .a) (a .b)) (kind-past (a .kind) (kind-other (a .kind) (c .before .before .before .before .match .rest) other flagless))
+          ∙ (λ z. baseOf (withThreads S (same z)) cs (a .step) choice (a .a) (a .b)))
+          (c .before .before .put-choice2 .ensures .0 (placeOf (a .slots .now))),
+      c .before .before .put-choice2 .ensures .1,
+    )
 
 pub put-base-spec : {M : Type 1} → statement M
 put-base-spec =
@@ -395,15 +379,12 @@ put-base-spec =
     put-none-requires-11
     put-joined-requires-2
     put-none-requires-12
-    cast-put-joined
     put-joined-requires-3
-    cast-put-none
     put-none-requires-13
     put-none-requires-14
     put-none-requires-15
     put-none-requires-16
     put-constant-requires
-    put-argument-requires
     put-choice-requires-2
     same-length
     returns
@@ -450,6 +431,4 @@ put-base-spec =
     same-length-12
     returns-32
     same-length-13
-    returns-33
-    same-length-14
-    returns-34)
+    returns-33)

@@ -1,36 +1,61 @@
 -- `checkpoints::points_of` meets its contract. Assumes nothing.
 use borrow.Author.Needs.{needs}
-use lib.ListN.{take}
+use borrow.Author.Tests.{lt-ltb}
+use lib.ListN.{getD, take}
 use denote.Ref.{now}
 use native.Mathlib.Omega.{arith}
 use mathlib.Core.List.{List}
 use mathlib.Core.Path.{_≡_, ap, sym, _∙_}
-use Prim.Native.Nat.{ℕ, _-_, _≤_}
+use Prim.Native.Nat.{ℕ, _+_, _-_, _≤_, _<_}
+use Rattle.base.proofs.Choice.{chosen}
 use Rattle.places.specs.Places.{listed}
 use Rattle.encoding.specs.Checkpoints.{noted, notedIn}
+use Rattle.records.specs.declared.Layout.{Layout}
 use Rattle.records.specs.declared.Statement.{Statement}
-use Rattle.records.specs.Sets.{setBy}
+use Rattle.records.specs.Sets.{Set, setBy, statementAt, nothing}
 use Rattle.checkpoints.proofs.Noted.{noted-start, noted-more}
 use Rattle.checkpoints.proofs.points_of.Statement.{statement}
 use Rattle.checkpoints.proofs.points_of.Tie as tie
 
+-- the statements of thread t stand from record `first` on
+abbrev Held : Set → (set : List ℕ) (t first n : ℕ) → Type 0
+Held S set t first n = (x : ℕ) → x < n → S .statement t x ≡ statementAt set (first + x)
+
+-- those of a layout's thread do, from its start on
+held-by : (set : List ℕ) (layout : Layout) (t first n : ℕ) → first ≡ getD (layout .starts) t 0 → n ≡ getD (layout .counts) t 0 → Held (setBy set layout) set t first n
+held-by set layout t first n e f x l =
+    chosen (statementAt set (getD (layout .starts) t 0 + x)) nothing (lt-ltb x (getD (layout .counts) t 0) (omega (arith, l, f))) ∙ ap (λ (k : ℕ). statementAt set (k + x)) (sym e)
+
 abbrev Inv-loop : tie.InvT-loop
-Inv-loop set layout t n points₀ i₀ points i =
-    (i ≤ n) × ((before : List ℕ) → listed points₀ ≡ take 8 before → listed points ≡ take 8 (notedIn (setBy set layout) t before i))
+Inv-loop set t n first points₀ i₀ points i =
+    (i ≤ n) × (first < 65536)
+    × ((S : Set) → Held S set t first n → (before : List ℕ) → listed points₀ ≡ take 8 before → listed points ≡ take 8 (notedIn S t before i))
 
 abbrev μ-loop : tie.MeasureT-loop
-μ-loop set layout t n points₀ i₀ points i = n - i
+μ-loop set t n first points₀ i₀ points i = n - i
 
 count-requires : tie.Need-count-requires Inv-loop μ-loop
 count-requires c κs = search needs
 
+first-requires : tie.Need-first-requires Inv-loop μ-loop
+first-requires c κs = search needs
+
 loop-holds : tie.Need-loop-holds Inv-loop μ-loop
 loop-holds c =
-    let a = c .before .before .args in
-    (omega arith, λ (before : List ℕ) (e : listed (a .seen) ≡ take 8 before). e ∙ ap (take 8) (sym (noted-start (setBy (now (a .set)) (a .layout)) (a .t) before)))
+    let a = c .before .before .before .args in (
+      omega arith,
+      c .first .ensures .1,
+      λ (S : Set) held (before : List ℕ) (e : listed (a .seen) ≡ take 8 before). e ∙ ap (take 8) (sym (noted-start S (a .t) before)),
+    )
 
-fetch-requires : tie.Need-fetch-requires Inv-loop μ-loop
-fetch-requires c κs = search needs
+cast-statement-at : tie.Need-cast-statement-at Inv-loop μ-loop
+cast-statement-at c = search needs
+
+add-statement-at : tie.Need-add-statement-at Inv-loop μ-loop
+add-statement-at c = search needs
+
+statement-at-requires : tie.Need-statement-at-requires Inv-loop μ-loop
+statement-at-requires c κs = search needs
 
 note-requires : tie.Need-note-requires Inv-loop μ-loop
 note-requires c κs = search needs
@@ -43,22 +68,28 @@ loop-less c = search needs
 
 loop-again : tie.Need-loop-again Inv-loop μ-loop
 loop-again c =
-    let a = c .before .before .before .before .before .before .args in
+    let a = c .before .before .before .before .before .before .before .args in
     let l = c .before .before .before .loop in
-    let S = setBy (now (a .set)) (a .layout) in (
+    let n = c .before .before .before .before .before .count .result in
+    let first = c .before .before .before .before .first .result in (
       omega arith,
-      λ (before : List ℕ) (e : listed (a .seen) ≡ take 8 before).
-          noted-more S (a .t) before (listed (l .points)) _ (l .i) (l .inv .1 before e)
-          (c .note .ensures ∙ ap (λ (s : Statement). take 8 (noted (listed (l .points)) s)) (c .before .fetch .ensures)),
+      l .inv .1,
+      λ (S : Set) (held : Held S (now (a .set)) (a .t) first n) (before : List ℕ) (e : listed (a .seen) ≡ take 8 before).
+          noted-more S (a .t) before (listed (l .points)) _ (l .i) (l .inv .2 S held before e)
+          (c .note .ensures ∙ ap (λ (s : Statement). take 8 (noted (listed (l .points)) s)) (c .before .statement-at .ensures ∙ sym (held (l .i) (omega arith)))),
     )
 
 returns : tie.Need-returns Inv-loop μ-loop
 returns c =
-    let a = c .before .before .before .before .args in
+    let a = c .before .before .before .before .before .args in
     let l = c .before .loop in
-    let i-is : l .i ≡ c .before .before .count .result = omega arith in
+    let n = c .before .before .before .count in
+    let first = c .before .before .first in
+    let S = setBy (now (a .set)) (a .layout) in
+    let i-is : l .i ≡ n .result = omega arith in
     λ (before : List ℕ) (e : listed (a .seen) ≡ take 8 before).
-    l .inv .1 before e ∙ ap (λ (n : ℕ). take 8 (notedIn (setBy (now (a .set)) (a .layout)) (a .t) before n)) (i-is ∙ c .before .before .count .ensures)
+    l .inv .2 S (held-by (now (a .set)) (a .layout) (a .t) (first .result) (n .result) (first .ensures .0) (n .ensures)) before e
+    ∙ ap (λ (n : ℕ). take 8 (notedIn S (a .t) before n)) (i-is ∙ n .ensures)
 
 pub points-of-spec : {M : Type 1} → statement M
 points-of-spec =
@@ -67,8 +98,11 @@ points-of-spec =
     Inv-loop
     μ-loop
     count-requires
+    first-requires
     loop-holds
-    fetch-requires
+    cast-statement-at
+    add-statement-at
+    statement-at-requires
     note-requires
     add-i
     loop-less

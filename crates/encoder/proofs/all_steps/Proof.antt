@@ -8,7 +8,7 @@ use Rattle.table.specs.Programs.{upto}
 use Rattle.encoding.specs.Slots.{code}
 use Rattle.encoding.specs.Steps.{only, word0, step}
 use Rattle.places.specs.Places.{placeOf, listed}
-use Rattle.encoder.proofs.Pieces.{program-below}
+use Rattle.places.proofs.Pieces.{program-below}
 use Rattle.encoder.proofs.Repeating.{two-steps-room}
 use Rattle.encoder.proofs.all_steps.Statement.{statement}
 use Rattle.encoder.proofs.all_steps.Tie as tie

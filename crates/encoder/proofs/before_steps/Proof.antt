@@ -10,7 +10,7 @@ use Rattle.encoding.specs.Encodings.{mapDemand}
 use Rattle.table.specs.Programs.{upto}
 use Rattle.records.specs.Sets.{setBy}
 use Rattle.records.specs.Maps.{cells}
-use Rattle.encoder.proofs.Pieces.{writes-++, limits-after}
+use Rattle.places.proofs.Pieces.{writes-++, limits-after}
 use Rattle.encoder.proofs.before_steps.Statement.{statement}
 use Rattle.encoder.proofs.before_steps.Tie as tie
 

@@ -11,8 +11,8 @@ use Rattle.encoding.specs.Steps.{block}
 use Rattle.encoding.specs.Slots.{Slot, kindAt}
 use Rattle.table.specs.Programs.{upto, Command}
 use Rattle.records.specs.Sets.{setBy}
-use Rattle.encoder.proofs.Pieces.{writes-row, writes-more, limits-after}
-use Rattle.encoder.specs.Pieces.{Writes, Limits}
+use Rattle.places.proofs.Pieces.{writes-row, writes-more, limits-after}
+use Rattle.places.specs.Pieces.{Writes, Limits}
 use Rattle.encoder.proofs.blocks.Statement.{statement}
 use Rattle.encoder.proofs.blocks.Tie as tie
 

@@ -10,8 +10,10 @@ use Rattle.places.specs.Places.{placeOf, listed}
 use Rattle.encoding.specs.Steps.{chain, link, links}
 use Rattle.encoding.specs.Slots.{Term, kindAt}
 use Rattle.records.specs.Sets.{setBy}
-use Rattle.encoder.proofs.Trees.{chain-none, chain-more, chain-to}
-use Rattle.encoder.specs.Pieces.{WritesTree}
+use Rattle.base.proofs.Choice.{refuted}
+use Rattle.links.specs.Given.{given}
+use Rattle.links.proofs.Trees.{chain-none, chain-more, chain-to}
+use Rattle.places.specs.Pieces.{WritesTree}
 use Rattle.encoder.proofs.chain.Statement.{statement}
 use Rattle.encoder.proofs.chain.Tie as tie
 
@@ -60,7 +62,7 @@ loop-holds c =
       refl,
       λ (t : Term) (start : List ℕ) (m : ℕ) (w : WritesTree (placeOf (now (a .slots))) t start m (now (a .out)) (a .n) (a .base)).
           chain-to (placeOf (now (a .slots))) links t start m (now (a .out)) (a .n) (a .base) 0 (c .next-of .result) (f .1)
-          (λ (x : ℕ) p q. c .before .givers .ensures (now (a .set)) cs x (f .0 S (c .before .before .before .before .before .before .before .before .pre .2) x p q))
+          (λ (x : ℕ) p q. c .before .givers .ensures S cs (a .b) x (f .0 S (c .before .before .before .before .before .before .before .before .pre .2) x p q))
           (chain-none (placeOf (now (a .slots))) links t start m (now (a .out)) (a .n) (a .base) w),
     )
 
@@ -89,6 +91,10 @@ loop-again c =
     let f = c .next-of2 .ensures in
     let within = f .2 (omega arith) in
     let later = f .1 in
+    let q = c .before .before .before .before .before .before .before .before .before .before .before .before .before .before .before .before .pre in
+    let few : l .tree .next ≤ 2000000000 = let most = q .0 in omega arith in
+    let counted = c .before .before .before .before .before .before .before .before .before .before .before .links .ensures (now (a .set)) in
+    let own = refuted (given (a .kind)) (λ e. c .before .before .before .before .before .before .before .before .before .before .if1 .left (counted ∙ q .4 e)) in
     let links = link S cs 0 (kindAt (a .kind)) (a .a) (a .b) in (
       omega arith,
       l .inv .1,
@@ -96,9 +102,9 @@ loop-again c =
       p .kept .0 ∙ l .inv .3,
       λ (t : Term) (start : List ℕ) (m : ℕ) (w : WritesTree (placeOf (now (a .slots))) t start m (now (a .out)) (a .n) (a .base)).
           chain-to (placeOf (now (a .slots))) links t start m _ _ _ (l .i + 1) (c .next-of2 .result) later
-          (λ (x : ℕ) h q. c .before .before .before .before .before .before .before .before .before .givers .ensures (now (a .set)) cs x (f .0 S (c .before .before .before .before .before .before .before .before .before .before .before .before .before .before .before .before .pre .2) x h q))
+          (λ (x : ℕ) h k. c .before .before .before .before .before .before .before .before .before .givers .ensures S cs (a .b) x (f .0 S (q .2) x h k))
           (chain-more (placeOf (now (a .slots))) links t start m _ _ _ (l .i)
-          (p .ensures .0 (placeOf (now (a .slots))) (links (l .i)) (chain links (l .i) t) start m (c .before .before .before .before .before .link .ensures (c .before .before .before .before .before .before .before .before .before .before .before .before .before .before .before .before .pre .3)) (l .inv .4 t start m w))),
+          (p .ensures .0 (placeOf (now (a .slots))) (links (l .i)) (chain links (l .i) t) start m few (c .before .before .before .before .before .link .ensures (q .3) own) (l .inv .4 t start m w))),
     )
 
 same-length : tie.Need-same-length Inv-loop μ-loop

@@ -1,15 +1,16 @@
 -- `encoder::entry` meets its contract. Assumes nothing.
 use denote.Ref.{now}
 use native.Mathlib.Omega.{arith}
-use mathlib.Core.Path.{sym, _∙_}
+use mathlib.Core.Path.{refl, sym, _∙_}
 use Prim.Native.Nat.{_≤_, _<_}
 use Rattle.places.specs.Places.{placeOf, listed}
 use Rattle.encoding.specs.Steps.{base}
 use Rattle.encoding.specs.Slots.{kindAt}
 use Rattle.table.proofs.Sequences.{inside}
 use Rattle.records.specs.Sets.{setBy}
-use Rattle.encoder.proofs.Entries.{links-most, put-written, entry-none, entry-kept, treeOf}
-use Rattle.encoder.specs.Pieces.{WritesTree}
+use Rattle.places.proofs.Entries.{links-most, entry-none, entry-kept, treeOf}
+use Rattle.bases.proofs.Given.{put-written}
+use Rattle.places.specs.Pieces.{WritesTree}
 use borrow.Author.Needs.{needs}
 use Rattle.encoder.proofs.entry.Statement.{statement}
 use Rattle.encoder.proofs.entry.Tie as tie
@@ -25,7 +26,7 @@ add-next c =
     let a = c .before .before .before .before .before .before .before .before .before .before .before .before .args in
     let q = c .before .before .before .before .before .before .before .before .before .before .before .before .pre in
     let p = q .1 in
-    let most = c .before .before .before .put-base .ensures (listed (a .points)) (q .6) (q .7) (omega arith) .fewPut in
+    let most = c .before .before .before .put-base .ensures .1 in
     omega arith
 
 chain-requires : tie.Need-chain-requires
@@ -34,8 +35,8 @@ chain-requires c κs =
     let q = c .before .before .before .before .before .before .before .before .before .before .before .before .before .before .pre in
     let l = q .0 in
     let p = q .1 in
-    let most = c .before .before .before .before .before .put-base .ensures (listed (a .points)) (q .6) (q .7) (omega arith) .fewPut in
-    (omega arith, links-most (setBy (now (a .set)) (a .layout)) (listed (a .points)) (l .fourThreads) (l .fewStatements) (l .fewPoints) (kindAt (a .kind)) (a .a) (a .b), q .5, q .7)
+    let most = c .before .before .before .before .before .put-base .ensures .1 in
+    (omega arith, links-most (setBy (now (a .set)) (a .layout)) (listed (a .points)) (l .fourThreads) (l .fewStatements) (l .fewPoints) (kindAt (a .kind)) (a .a) (a .b), q .5, q .7, q .8)
 
 set-place-requires : tie.Need-set-place-requires
 set-place-requires c κs = search needs
@@ -55,7 +56,7 @@ returns c =
     let cs = listed (a .points) in
     let places = placeOf (now (a .slots)) in
     let room : a .n ≤ 2000000000 = let p = q .1 in omega arith in
-    let g = c .before .before .before .before .before .before .before .before .before .before .before .before .put-base .ensures cs (q .6) (q .7) room in
+    let g = c .before .before .before .before .before .before .before .before .before .before .before .before .put-base .ensures .0 S cs refl (q .6) (q .7) room in
     let most = g .fewPut in
     let r = c .before .before .before .before .before .before .chain in
     let w : WritesTree places (treeOf S cs (a .step) (kindAt (a .kind)) (a .a) (a .b)) (now (a .out)) (a .n) _ (r .result .next) (r .result .at) =

@@ -3,18 +3,21 @@ use borrow.Author.Needs.{needs}
 use lib.ListN.{length}
 use denote.Ref.{now}
 use native.Mathlib.Omega.{arith}
-use mathlib.Core.Path.{_≡_, refl, sym, _∙_, subst}
+use mathlib.Core.Path.{_≡_, refl, _∙_, subst}
 use Prim.Native.Nat.{ℕ, _+_, _-_, _*_, _≤_}
 use Rattle.places.specs.Places.{listed}
 use Rattle.encoding.specs.Steps.{entry, shape}
 use Rattle.encoding.specs.Slots.{kindAt}
 use Rattle.table.specs.Programs.{upto}
 use Rattle.records.specs.Sets.{setBy}
-use Rattle.encoder.proofs.Entries.{columns-most, columns-step, line-at}
-use Rattle.encoder.proofs.Pieces.{writes-row, writes-more, limits-after}
-use Rattle.encoder.specs.Pieces.{Writes, Limits}
+use Rattle.base.proofs.Choice.{clash}
+use Rattle.places.proofs.Entries.{columns-most, columns-step}
+use Rattle.places.proofs.Pieces.{writes-row, writes-more, limits-after}
+use Rattle.places.specs.Pieces.{Writes, Limits}
 use Rattle.encoder.proofs.line.Statement.{statement}
 use Rattle.encoder.proofs.line.Tie as tie
+use Rattle.encoder.proofs.line.Reads as reads
+use Rattle.encoder.proofs.line.Lts as lts
 
 abbrev Inv-loop : tie.InvT-loop
 Inv-loop set layout points nexts slots₀ out₀ step kind a n count next₀ b₀ slots out next b =
@@ -25,45 +28,13 @@ Inv-loop set layout points nexts slots₀ out₀ step kind a n count next₀ b�
 abbrev μ-loop : tie.MeasureT-loop
 μ-loop set layout points nexts slots₀ out₀ step kind a n count next₀ b₀ slots out next b = count - b
 
-flags-requires : tie.Need-flags-requires Inv-loop μ-loop
-flags-requires c κs = let p = c .before .before .before .before .before .before .before .pre in (p .0, p .1, p .3, p .4)
-
-same-length : tie.Need-same-length Inv-loop μ-loop
-same-length c = search needs
-
-same-length-2 : tie.Need-same-length-2 Inv-loop μ-loop
-same-length-2 c = search needs
-
-returns : tie.Need-returns Inv-loop μ-loop
-returns c =
-    let a = c .before .before .before .before .before .before .before .before .before .before .before .before .args in
-    let r = c .before .before .before .before .flags in (
-      line-at (setBy (now (a .set)) (a .layout)) (listed (a .points)) (a .step) (a .kind) 31 (a .a) (c .before .before .before .before .before .before .before .if1 .taken) _ _ _ _ _ _ (r .ensures .0),
-      r .ensures .1,
-    )
-
-of-statement-requires : tie.Need-of-statement-requires Inv-loop μ-loop
-of-statement-requires c κs = search needs
-
-statement-values-requires : tie.Need-statement-values-requires Inv-loop μ-loop
-statement-values-requires c κs = let p = c .before .before .before .before .before .before .before .before .before .pre in (p .0, p .1, p .2, sym (c .before .before .before .of-statement .ensures) ∙ c .before .before .if2 .taken, p .3)
-
-same-length-3 : tie.Need-same-length-3 Inv-loop μ-loop
-same-length-3 c = search needs
-
-same-length-4 : tie.Need-same-length-4 Inv-loop μ-loop
-same-length-4 c = search needs
-
-returns-2 : tie.Need-returns-2 Inv-loop μ-loop
-returns-2 c = c .before .before .before .before .statement-values .ensures
-
 columns-requires : tie.Need-columns-requires Inv-loop μ-loop
 columns-requires c κs = search needs
 
 loop-holds : tie.Need-loop-holds Inv-loop μ-loop
 loop-holds c =
-    let a = c .before .before .before .before .before .before .before .before .args in
-    let l = c .before .before .before .before .before .before .before .before .pre .0 in
+    let a = c .before .before .before .before .before .args in
+    let l = c .before .before .before .before .before .pre .0 in
     let S = setBy (now (a .set)) (a .layout) in
     let cs = listed (a .points) in
     let e = c .columns .ensures (now (a .set)) in
@@ -73,7 +44,8 @@ loop-holds c =
 entry-requires : tie.Need-entry-requires Inv-loop μ-loop
 entry-requires c κs =
     let l = c .before .before .before .loop in
-    (l .inv .5, omega arith, omega arith, omega arith, omega arith, c .before .before .before .before .before .before .before .before .before .before .before .before .pre .4, sym (c .before .before .before .before .before .before .of-statement .ensures) ∙ c .before .before .before .before .before .if2 .left, c .before .before .before .before .before .before .before .if1 .left)
+    let q = c .before .before .before .before .before .before .before .before .before .pre in
+    (l .inv .5, omega arith, omega arith, omega arith, omega arith, q .4, q .5, q .6, λ e. clash e (q .7))
 
 add-b : tie.Need-add-b Inv-loop μ-loop
 add-b c = search needs
@@ -83,7 +55,7 @@ loop-less c = search needs
 
 loop-again : tie.Need-loop-again Inv-loop μ-loop
 loop-again c =
-    let a = c .before .before .before .before .before .before .before .before .before .before .before .before .before .before .before .before .before .args in
+    let a = c .before .before .before .before .before .before .before .before .before .before .before .before .before .before .args in
     let l = c .before .before .before .before .before .before .before .before .loop in
     let r = c .before .before .before .before .entry in
     let f = entry (setBy (now (a .set)) (a .layout)) (listed (a .points)) (a .step) (kindAt (a .kind)) (a .a) in (
@@ -96,15 +68,15 @@ loop-again c =
       writes-more f (l .b) (now (a .out)) (now (a .slots)) (a .n) _ _ _ _ _ _ (l .inv .6) (r .ensures .0),
     )
 
-same-length-5 : tie.Need-same-length-5 Inv-loop μ-loop
-same-length-5 c = search needs
+same-length : tie.Need-same-length Inv-loop μ-loop
+same-length c = search needs
 
-same-length-6 : tie.Need-same-length-6 Inv-loop μ-loop
-same-length-6 c = search needs
+same-length-2 : tie.Need-same-length-2 Inv-loop μ-loop
+same-length-2 c = search needs
 
-returns-3 : tie.Need-returns-3 Inv-loop μ-loop
-returns-3 c =
-    let a = c .before .before .before .before .before .before .before .before .before .before .args in
+returns : tie.Need-returns Inv-loop μ-loop
+returns c =
+    let a = c .before .before .before .before .before .before .before .args in
     let l = c .before .loop in
     let S = setBy (now (a .set)) (a .layout) in
     let cs = listed (a .points) in
@@ -121,21 +93,12 @@ line-spec =
     (tie.spec
     Inv-loop
     μ-loop
-    flags-requires
-    same-length
-    same-length-2
-    returns
-    of-statement-requires
-    statement-values-requires
-    same-length-3
-    same-length-4
-    returns-2
     columns-requires
     loop-holds
     entry-requires
     add-b
     loop-less
     loop-again
-    same-length-5
-    same-length-6
-    returns-3)
+    same-length
+    same-length-2
+    returns)

@@ -7,7 +7,7 @@ use Rattle.places.specs.Places.{listed}
 use Rattle.encoding.specs.Steps.{blocks, ruled, step}
 use Rattle.table.specs.Programs.{needs as demanded}
 use Rattle.records.specs.Sets.{setBy}
-use Rattle.encoder.proofs.Pieces.{writes-++, limits-after}
+use Rattle.places.proofs.Pieces.{writes-++, limits-after}
 use Rattle.encoder.proofs.one_step.Statement.{statement}
 use Rattle.encoder.proofs.one_step.Tie as tie
 

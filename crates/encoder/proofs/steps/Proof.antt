@@ -9,8 +9,8 @@ use Rattle.places.specs.Places.{listed}
 use Rattle.encoding.specs.Steps.{step}
 use Rattle.table.specs.Programs.{upto}
 use Rattle.records.specs.Sets.{setBy}
-use Rattle.encoder.proofs.Pieces.{writes-row, writes-more, limits-after}
-use Rattle.encoder.specs.Pieces.{Writes, Limits}
+use Rattle.places.proofs.Pieces.{writes-row, writes-more, limits-after}
+use Rattle.places.specs.Pieces.{Writes, Limits}
 use Rattle.encoder.proofs.steps.Statement.{statement}
 use Rattle.encoder.proofs.steps.Tie as tie
 

@@ -6,7 +6,7 @@ use borrow.Author.Needs.{needs}
 use Rattle.records.specs.Sets.{setBy}
 use Rattle.links.proofs.Following.{nexts-none}
 use Rattle.places.specs.Places.{listed}
-use Rattle.encoder.proofs.Pieces.{limits-after}
+use Rattle.places.proofs.Pieces.{limits-after}
 use Rattle.encoder.proofs.Repeating.{encoded-ended, ended-room}
 use Rattle.encoder.proofs.Sizes.{early}
 use Rattle.encoder.proofs.write.Statement.{statement}

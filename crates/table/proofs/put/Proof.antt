@@ -1,56 +1,65 @@
--- `table::put` meets its contract. Assumes nothing.
+use lib.ListN.{length}
+use Rattle.table.specs.Formulas.{formulaBytes}
+use Rattle.table.proofs.Written.{formula-length}
+use Rattle.base.proofs.Bytes.{placed-not}
+use Prim.Native.Nat.{_*_}
+use native.Mathlib.Omega.{arith}
+use mathlib.Core.Path.{_≡_, sym}
+use denote.Ref.{now}
 use borrow.Author.Needs.{needs}
 use Rattle.table.proofs.put.Statement.{statement}
 use Rattle.table.proofs.put.Tie as tie
 use Rattle.table.proofs.put.Reads as reads
 use Rattle.table.proofs.put.Lts as lts
 use Rattle.base.proofs.place.Reads as place-reads
-use Rattle.table.specs.Formulas.{formulaBytes}
 
-cast-t10 : tie.Need-cast-t10
-cast-t10 c = search needs
+cast-t11 : tie.Need-cast-t11
+cast-t11 c = search needs
 
-cast-t13 : tie.Need-cast-t13
-cast-t13 c = search needs
+cast-t14 : tie.Need-cast-t14
+cast-t14 c = search needs
 
-cast-t15 : tie.Need-cast-t15
-cast-t15 c = search needs
+cast-t16 : tie.Need-cast-t16
+cast-t16 c = search needs
 
-cast-t18 : tie.Need-cast-t18
-cast-t18 c = search needs
+cast-t19 : tie.Need-cast-t19
+cast-t19 c = search needs
 
-cast-t21 : tie.Need-cast-t21
-cast-t21 c = search needs
+cast-t22 : tie.Need-cast-t22
+cast-t22 c = search needs
 
-cast-t24 : tie.Need-cast-t24
-cast-t24 c = search needs
+cast-t25 : tie.Need-cast-t25
+cast-t25 c = search needs
 
-cast-t26 : tie.Need-cast-t26
-cast-t26 c = search needs
+cast-t27 : tie.Need-cast-t27
+cast-t27 c = search needs
 
-cast-t29 : tie.Need-cast-t29
-cast-t29 c = search needs
+cast-t30 : tie.Need-cast-t30
+cast-t30 c = search needs
 
-cast-t32 : tie.Need-cast-t32
-cast-t32 c = search needs
+cast-t33 : tie.Need-cast-t33
+cast-t33 c = search needs
 
-cast-t35 : tie.Need-cast-t35
-cast-t35 c = search needs
+cast-t36 : tie.Need-cast-t36
+cast-t36 c = search needs
 
-cast-t37 : tie.Need-cast-t37
-cast-t37 c = search needs
+cast-t38 : tie.Need-cast-t38
+cast-t38 c = search needs
 
-cast-t40 : tie.Need-cast-t40
-cast-t40 c = search needs
+cast-t41 : tie.Need-cast-t41
+cast-t41 c = search needs
 
-cast-t43 : tie.Need-cast-t43
-cast-t43 c = search needs
+cast-t44 : tie.Need-cast-t44
+cast-t44 c = search needs
 
-cast-t46 : tie.Need-cast-t46
-cast-t46 c = search needs
+cast-t47 : tie.Need-cast-t47
+cast-t47 c = search needs
 
-mul-place : tie.Need-mul-place
-mul-place c = search needs
+mul-at : tie.Need-mul-at
+mul-at c = search needs
+
+add-if1 : tie.Need-add-if1
+add-if1 c = search needs
 
 slice-aggregate-place : tie.Need-slice-aggregate-place
 slice-aggregate-place c = search needs
@@ -65,26 +74,34 @@ returns : tie.Need-returns
 unfolding formulaBytes
 returns c = c .before .before .place .ensures
 
+returns-2 : tie.Need-returns-2
+returns-2 c =
+    let a = c .before .before .args in
+    let e : length (formulaBytes (a .formula)) ≡ 16 = formula-length (a .formula) in
+    sym (placed-not (now (a .out)) (16 * a .n) (formulaBytes (a .formula)) (omega arith))
+
 pub put-spec : {M : Type 1} → statement M
 put-spec =
     tie.close
     (tie.spec
-    cast-t10
-    cast-t13
-    cast-t15
-    cast-t18
-    cast-t21
-    cast-t24
-    cast-t26
-    cast-t29
-    cast-t32
-    cast-t35
-    cast-t37
-    cast-t40
-    cast-t43
-    cast-t46
-    mul-place
+    cast-t11
+    cast-t14
+    cast-t16
+    cast-t19
+    cast-t22
+    cast-t25
+    cast-t27
+    cast-t30
+    cast-t33
+    cast-t36
+    cast-t38
+    cast-t41
+    cast-t44
+    cast-t47
+    mul-at
+    add-if1
     slice-aggregate-place
     place-requires
     same-length
-    returns)
+    returns
+    returns-2)

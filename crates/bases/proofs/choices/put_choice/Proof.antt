@@ -18,7 +18,7 @@ same-length c = search needs
 returns : tie.Need-returns
 returns c =
     let a = c .before .before .before .before .before .before .args in
-    λ at. c .before .before .put-one .ensures at _ (gives-leaf at (a .n) _ (choiceBit (a .step) 0 (a .j)) _ (chosen _ _ (lt-ltb _ _ (c .before .before .before .before .if1 .taken))) (refl, (refl, refl)))
+    (λ at. c .before .before .put-one .ensures .0 at _ (gives-leaf at (a .n) _ (choiceBit (a .step) 0 (a .j)) _ (chosen _ _ (lt-ltb _ _ (c .before .before .before .before .if1 .taken))) (refl, (refl, refl))), c .before .before .put-one .ensures .1)
 
 cast-put-one : tie.Need-cast-put-one
 cast-put-one c = search needs
@@ -32,7 +32,7 @@ same-length-2 c = search needs
 returns-2 : tie.Need-returns-2
 returns-2 c =
     let a = c .before .before .before .before .before .before .args in
-    λ at. c .before .before .put-one2 .ensures at _ (gives-leaf at (a .n) _ (choiceBit (a .step) 1 (a .j - a .threads)) _ (passed _ _ (le-ltb _ _ (c .before .before .before .before .if1 .left))) (refl, (refl, refl)))
+    (λ at. c .before .before .put-one2 .ensures .0 at _ (gives-leaf at (a .n) _ (choiceBit (a .step) 1 (a .j - a .threads)) _ (passed _ _ (le-ltb _ _ (c .before .before .before .before .if1 .left))) (refl, (refl, refl))), c .before .before .put-one2 .ensures .1)
 
 pub put-choice-spec : {M : Type 1} → statement M
 put-choice-spec =

@@ -23,7 +23,7 @@ same-length c = search needs
 returns : tie.Need-returns
 returns c =
     let a = c .before .before .before .before .before .before .before .before .args in
-    c .before .before .put-one .ensures (placeOf (a .slots .now)) _ (gives-binary (placeOf (a .slots .now)) (a .n) _ and2 _ (slot none 0 (a .j)) (refl, (refl, refl)) refl refl (c .before .before .before .before .before .permit .ensures) (c .before .before .before .before .place .ensures))
+    (c .before .before .put-one .ensures .0 (placeOf (a .slots .now)) _ (gives-binary (placeOf (a .slots .now)) (a .n) _ and2 _ (slot none 0 (a .j)) (refl, (refl, refl)) refl refl (c .before .before .before .before .before .permit .ensures) (c .before .before .before .before .place .ensures)), c .before .before .put-one .ensures .1)
 
 pub put-fit-spec : {M : Type 1} → statement M
 put-fit-spec =

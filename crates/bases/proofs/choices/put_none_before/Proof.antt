@@ -16,7 +16,7 @@ put-none-requires : tie.Need-put-none-requires
 put-none-requires c κs = search needs
 
 returns : tie.Need-returns
-returns c = let a = c .before .before .before .before .args in puts-as (chosen _ _ (eq-eqb _ _ (c .before .if1 .taken))) (c .put-none .ensures (a .n) yes (now (a .out)) refl refl)
+returns c = let a = c .before .before .before .before .args in (puts-as (chosen _ _ (eq-eqb _ _ (c .before .if1 .taken))) (c .put-none .ensures .0 (a .n) yes (now (a .out)) refl refl), c .put-none .ensures .1)
 
 sub-i : tie.Need-sub-i
 sub-i c = search needs
@@ -38,9 +38,11 @@ same-length c = search needs
 
 returns-2 : tie.Need-returns-2
 returns-2 c =
-    let a = c .before .before .before .before .before .before .before .before .before .before .args in
-    puts-as (passed _ _ (ne-eqb _ _ (c .before .before .before .before .before .before .before .if1 .left))) (c .before .before .put-one .ensures (placeOf (a .slots .now)) _
-    (gives-ternary (placeOf (a .slots .now)) (a .n) _ (if3 1) (slot choice 0 (a .j - 1)) (slot no 0 0) (slot none 0 (a .j - 1)) (refl, (refl, refl)) (c .before .before .before .before .before .before .place .ensures) (c .before .before .before .before .before .place2 .ensures) (c .before .before .before .before .place3 .ensures)))
+    let a = c .before .before .before .before .before .before .before .before .before .before .args in (
+      puts-as (passed _ _ (ne-eqb _ _ (c .before .before .before .before .before .before .before .if1 .left))) (c .before .before .put-one .ensures .0 (placeOf (a .slots .now)) _
+          (gives-ternary (placeOf (a .slots .now)) (a .n) _ (if3 1) (slot choice 0 (a .j - 1)) (slot no 0 0) (slot none 0 (a .j - 1)) (refl, (refl, refl)) (c .before .before .before .before .before .before .place .ensures) (c .before .before .before .before .before .place2 .ensures) (c .before .before .before .before .place3 .ensures))),
+      c .before .before .put-one .ensures .1,
+    )
 
 pub put-none-before-spec : {M : Type 1} → statement M
 put-none-before-spec =

@@ -23,7 +23,7 @@ same-length c = search needs
 returns : tie.Need-returns
 returns c =
     let a = c .before .before .before .before .before .before .before .before .args in
-    c .before .before .put-one .ensures (placeOf (a .slots .now)) _ (gives-binary (placeOf (a .slots .now)) (a .n) _ read2 (slot heap 0 0) (slot writeTo 0 (a .threads)) (refl, (refl, refl)) refl refl (c .before .before .before .before .before .place .ensures) (c .before .before .before .before .place2 .ensures))
+    (c .before .before .put-one .ensures .0 (placeOf (a .slots .now)) _ (gives-binary (placeOf (a .slots .now)) (a .n) _ read2 (slot heap 0 0) (slot writeTo 0 (a .threads)) (refl, (refl, refl)) refl refl (c .before .before .before .before .before .place .ensures) (c .before .before .before .before .place2 .ensures)), c .before .before .put-one .ensures .1)
 
 pub put-flush-value-spec : {M : Type 1} → statement M
 put-flush-value-spec =

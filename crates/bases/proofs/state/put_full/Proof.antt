@@ -29,9 +29,11 @@ same-length c = search needs
 
 returns : tie.Need-returns
 returns c =
-    let a = c .before .before .before .before .before .before .before .before .before .args in
-    c .before .before .put-one .ensures (placeOf (a .slots .now)) _
-    (gives-ternary (placeOf (a .slots .now)) (a .n) _ (if3 1) (slot choice 0 (a .threads + a .t)) (slot no 0 0) (slot full (a .t) 0) (refl, (refl, refl)) (c .before .before .before .before .before .before .place .ensures) (c .before .before .before .before .before .place2 .ensures) (c .before .before .before .before .place3 .ensures))
+    let a = c .before .before .before .before .before .before .before .before .before .args in (
+      c .before .before .put-one .ensures .0 (placeOf (a .slots .now)) _
+          (gives-ternary (placeOf (a .slots .now)) (a .n) _ (if3 1) (slot choice 0 (a .threads + a .t)) (slot no 0 0) (slot full (a .t) 0) (refl, (refl, refl)) (c .before .before .before .before .before .before .place .ensures) (c .before .before .before .before .before .place2 .ensures) (c .before .before .before .before .place3 .ensures)),
+      c .before .before .put-one .ensures .1,
+    )
 
 pub put-full-spec : {M : Type 1} → statement M
 put-full-spec =

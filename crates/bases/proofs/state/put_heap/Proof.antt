@@ -25,9 +25,11 @@ same-length c = search needs
 
 returns : tie.Need-returns
 returns c =
-    let a = c .before .before .before .before .before .before .before .before .before .args in
-    c .before .before .put-one .ensures (placeOf (a .slots .now)) _
-    (gives-ternary (placeOf (a .slots .now)) (a .n) _ write3 (slot heap 0 0) (slot writeTo 0 (a .threads)) (slot writeValue 0 (a .threads)) (refl, (refl, refl)) (c .before .before .before .before .before .before .place .ensures) (c .before .before .before .before .before .place2 .ensures) (c .before .before .before .before .place3 .ensures))
+    let a = c .before .before .before .before .before .before .before .before .before .args in (
+      c .before .before .put-one .ensures .0 (placeOf (a .slots .now)) _
+          (gives-ternary (placeOf (a .slots .now)) (a .n) _ write3 (slot heap 0 0) (slot writeTo 0 (a .threads)) (slot writeValue 0 (a .threads)) (refl, (refl, refl)) (c .before .before .before .before .before .before .place .ensures) (c .before .before .before .before .before .place2 .ensures) (c .before .before .before .before .place3 .ensures)),
+      c .before .before .put-one .ensures .1,
+    )
 
 pub put-heap-spec : {M : Type 1} → statement M
 put-heap-spec =

@@ -36,10 +36,12 @@ same-length c = search needs
 
 returns : tie.Need-returns
 returns c =
-    let a = c .before .before .before .before .before .before .before .before .before .before .before .before .args in
-    λ h. c .before .before .put-three .ensures (placeOf (a .slots .now)) _ h
-    (gives-may (placeOf (a .slots .now)) (a .n) _ (slot full (a .t) 0) (slot barred (a .t) 0) (slot waits (a .t) 0) (refl, (refl, (refl, (refl, refl))))
-    (c .before .before .before .before .before .before .formula .ensures) (c .before .before .before .before .before .formula2 .ensures) (c .before .before .before .before .formula3 .ensures) (c .before .before .before .before .before .before .before .before .before .place .ensures) (c .before .before .before .before .before .before .before .before .place2 .ensures) (c .before .before .before .before .before .before .before .place3 .ensures))
+    let a = c .before .before .before .before .before .before .before .before .before .before .before .before .args in (
+      λ h. c .before .before .put-three .ensures .0 (placeOf (a .slots .now)) _ h
+          (gives-may (placeOf (a .slots .now)) (a .n) _ (slot full (a .t) 0) (slot barred (a .t) 0) (slot waits (a .t) 0) (refl, (refl, (refl, (refl, refl))))
+          (c .before .before .before .before .before .before .formula .ensures) (c .before .before .before .before .before .formula2 .ensures) (c .before .before .before .before .formula3 .ensures) (c .before .before .before .before .before .before .before .before .before .place .ensures) (c .before .before .before .before .before .before .before .before .place2 .ensures) (c .before .before .before .before .before .before .before .place3 .ensures)),
+      c .before .before .put-three .ensures .1,
+    )
 
 pub put-may-spec : {M : Type 1} → statement M
 put-may-spec =

@@ -20,7 +20,7 @@ same-length c = search needs
 returns : tie.Need-returns
 returns c =
     let a = c .before .before .before .before .before .before .before .args in
-    c .before .before .put-one .ensures (placeOf (a .slots .now)) _ (gives-unary (placeOf (a .slots .now)) (a .n) _ not1 (slot opening 0 (a .p)) (refl, (refl, refl)) (c .before .before .before .before .place .ensures))
+    (c .before .before .put-one .ensures .0 (placeOf (a .slots .now)) _ (gives-unary (placeOf (a .slots .now)) (a .n) _ not1 (slot opening 0 (a .p)) (refl, (refl, refl)) (c .before .before .before .before .place .ensures)), c .before .before .put-one .ensures .1)
 
 pub put-shut-spec : {M : Type 1} → statement M
 put-shut-spec = tie.close (tie.spec place-requires put-one-requires same-length returns)

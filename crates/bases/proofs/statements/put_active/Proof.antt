@@ -22,9 +22,11 @@ same-length c = search needs
 
 returns : tie.Need-returns
 returns c =
-    let a = c .before .before .before .before .before .before .before .before .args in
-    λ h. c .before .before .put-one .ensures (placeOf (a .slots .now)) _
-    (gives-binary (placeOf (a .slots .now)) (a .n) _ and2 (slot flag (a .t) (a .i)) (slot choice 0 (a .t)) (refl, (refl, refl)) refl refl (c .before .before .before .before .before .flag-place .ensures) (c .before .before .before .before .place .ensures))
+    let a = c .before .before .before .before .before .before .before .before .args in (
+      λ h. c .before .before .put-one .ensures .0 (placeOf (a .slots .now)) _
+          (gives-binary (placeOf (a .slots .now)) (a .n) _ and2 (slot flag (a .t) (a .i)) (slot choice 0 (a .t)) (refl, (refl, refl)) refl refl (c .before .before .before .before .before .flag-place .ensures) (c .before .before .before .before .place .ensures)),
+      c .before .before .put-one .ensures .1,
+    )
 
 pub put-active-spec : {M : Type 1} → statement M
 put-active-spec =

@@ -11,9 +11,6 @@ use borrow.Author.Needs.{needs}
 use Rattle.bases.proofs.statements.put_address.Statement.{statement}
 use Rattle.bases.proofs.statements.put_address.Tie as tie
 
-fetch-requires : tie.Need-fetch-requires
-fetch-requires c κs = search needs
-
 place-requires : tie.Need-place-requires
 place-requires c κs = search needs
 
@@ -25,24 +22,27 @@ same-length c = search needs
 
 returns : tie.Need-returns
 returns c =
-    let a = c .before .before .before .before .before .before .before .before .before .before .before .args in
-    λ cs k h. puts-as (chosen _ _ (ap (λ (s : Statement). eqb (s .mode) 1) (sym (c .before .before .before .before .before .before .before .fetch .ensures)) ∙ eq-eqb _ _ (c .before .before .before .before .before .if1 .taken)))
-    (c .before .before .put-load .ensures (slot argument (a .t) (a .i)) (c .before .before .before .before .place .ensures) h)
+    let a = c .before .before .before .before .before .before .before .before .before .args in (
+      λ S cs k e h. puts-as (chosen _ _ (ap (λ (s : Statement). eqb (s .mode) 1) (sym e) ∙ eq-eqb _ _ (c .before .before .before .before .before .if1 .taken)))
+          (c .before .before .put-load .ensures .0 (slot argument (a .t) (a .i)) (c .before .before .before .before .place .ensures) h),
+      c .before .before .put-load .ensures .1,
+    )
 
 put-none-requires : tie.Need-put-none-requires
 put-none-requires c κs = search needs
 
 returns-2 : tie.Need-returns-2
 returns-2 c =
-    let a = c .before .before .before .before .before .before .before .args in
-    λ cs k h. puts-as (passed _ _ (ap (λ (s : Statement). eqb (s .mode) 1) (sym (c .before .before .before .fetch .ensures)) ∙ ne-eqb _ _ (c .before .if1 .left)))
-    (c .put-none .ensures (a .n) argument (now (a .out)) refl refl)
+    let a = c .before .before .before .before .before .args in (
+      λ S cs k e h. puts-as (passed _ _ (ap (λ (s : Statement). eqb (s .mode) 1) (sym e) ∙ ne-eqb _ _ (c .before .if1 .left)))
+          (c .put-none .ensures .0 (a .n) argument (now (a .out)) refl refl),
+      c .put-none .ensures .1,
+    )
 
 pub put-address-spec : {M : Type 1} → statement M
 put-address-spec =
     tie.close
     (tie.spec
-    fetch-requires
     place-requires
     put-load-requires
     same-length

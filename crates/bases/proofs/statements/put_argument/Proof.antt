@@ -7,9 +7,6 @@ use borrow.Author.Needs.{needs}
 use Rattle.bases.proofs.statements.put_argument.Statement.{statement}
 use Rattle.bases.proofs.statements.put_argument.Tie as tie
 
-fetch-requires : tie.Need-fetch-requires
-fetch-requires c κs = search needs
-
 put-constant-requires : tie.Need-put-constant-requires
 put-constant-requires c κs = search needs
 
@@ -17,7 +14,7 @@ same-length : tie.Need-same-length
 same-length c = search needs
 
 returns : tie.Need-returns
-returns c = λ at cs k. puts-as (ap (λ (s : Statement). leaf (constantWord (s .argument))) (sym (c .before .before .before .before .fetch .ensures))) (c .before .before .put-constant .ensures at)
+returns c = (λ S at cs k t i e. puts-as (ap (λ (s : Statement). leaf (constantWord (s .argument))) (sym e)) (c .before .before .put-constant .ensures .0 at), c .before .before .put-constant .ensures .1)
 
 pub put-argument-spec : {M : Type 1} → statement M
-put-argument-spec = tie.close (tie.spec fetch-requires put-constant-requires same-length returns)
+put-argument-spec = tie.close (tie.spec put-constant-requires same-length returns)

@@ -21,10 +21,12 @@ same-length c = search needs
 
 returns : tie.Need-returns
 returns c =
-    let a = c .before .before .before .before .before .before .before .before .args in
-    λ o k e s f p h. c .before .before .put-one .ensures (placeOf (a .slots .now)) _
-    (gives-binary (placeOf (a .slots .now)) (a .n) _ o (slot accu (a .t) 0) (slot k (a .t) (a .i)) (refl, (refl, refl)) e s
-    (c .before .before .before .before .before .place .ensures) (c .before .before .before .before .place2 .ensures ∙ (λ z. placeFrom (a .slots .now) (f z) (a .t) (a .i) (p z))))
+    let a = c .before .before .before .before .before .before .before .before .args in (
+      λ o k e s f p h. c .before .before .put-one .ensures .0 (placeOf (a .slots .now)) _
+          (gives-binary (placeOf (a .slots .now)) (a .n) _ o (slot accu (a .t) 0) (slot k (a .t) (a .i)) (refl, (refl, refl)) e s
+          (c .before .before .before .before .before .place .ensures) (c .before .before .before .before .place2 .ensures ∙ (λ z. placeFrom (a .slots .now) (f z) (a .t) (a .i) (p z)))),
+      c .before .before .put-one .ensures .1,
+    )
 
 pub put-arithmetic-spec : {M : Type 1} → statement M
 put-arithmetic-spec =

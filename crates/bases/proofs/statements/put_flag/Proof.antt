@@ -13,9 +13,6 @@ use borrow.Author.Needs.{needs}
 use Rattle.bases.proofs.statements.put_flag.Statement.{statement}
 use Rattle.bases.proofs.statements.put_flag.Tie as tie
 
-fetch-requires : tie.Need-fetch-requires
-fetch-requires c κs = search needs
-
 cast-put-none : tie.Need-cast-put-none
 cast-put-none c = search needs
 
@@ -24,9 +21,11 @@ put-none-requires c κs = search needs
 
 returns : tie.Need-returns
 returns c =
-    let a = c .before .before .before .before .before .before .args in
-    λ cs k h. puts-as (chosen _ _ (ap (λ (s : Statement). rests (s .number)) (sym (c .before .before .fetch .ensures)) ∙ c .before .if1 .taken))
-    (c .put-none .ensures (a .n) flag (now (a .out)) refl (cast-test (eqb (a .i) 0)))
+    let a = c .before .before .before .before .args in (
+      λ S cs k e h. puts-as (chosen _ _ (ap (λ (s : Statement). rests (s .number)) (sym e) ∙ c .before .if1 .taken))
+          (c .put-none .ensures .0 (a .n) flag (now (a .out)) refl (cast-test (eqb (a .i) 0))),
+      c .put-none .ensures .1,
+    )
 
 place-requires : tie.Need-place-requires
 place-requires c κs = search needs
@@ -45,16 +44,17 @@ same-length c = search needs
 
 returns-2 : tie.Need-returns-2
 returns-2 c =
-    let a = c .before .before .before .before .before .before .before .before .before .before .before .before .args in
-    λ cs k h. puts-as (passed _ _ (ap (λ (s : Statement). rests (s .number)) (sym (c .before .before .before .before .before .before .before .before .fetch .ensures)) ∙ c .before .before .before .before .before .before .before .if1 .left))
-    (c .before .before .put-one .ensures (placeOf (a .slots .now)) _
-    (gives-ternary (placeOf (a .slots .now)) (a .n) _ (if3 1) (slot choice 0 (a .t)) (slot no 0 0) (slot flag (a .t) (a .i)) (refl, (refl, refl)) (c .before .before .before .before .before .before .place .ensures) (c .before .before .before .before .before .place2 .ensures) (c .before .before .before .before .flag-place .ensures)))
+    let a = c .before .before .before .before .before .before .before .before .before .before .args in (
+      λ S cs k e h. puts-as (passed _ _ (ap (λ (s : Statement). rests (s .number)) (sym e) ∙ c .before .before .before .before .before .before .before .if1 .left))
+          (c .before .before .put-one .ensures .0 (placeOf (a .slots .now)) _
+          (gives-ternary (placeOf (a .slots .now)) (a .n) _ (if3 1) (slot choice 0 (a .t)) (slot no 0 0) (slot flag (a .t) (a .i)) (refl, (refl, refl)) (c .before .before .before .before .before .before .place .ensures) (c .before .before .before .before .before .place2 .ensures) (c .before .before .before .before .flag-place .ensures))),
+      c .before .before .put-one .ensures .1,
+    )
 
 pub put-flag-spec : {M : Type 1} → statement M
 put-flag-spec =
     tie.close
     (tie.spec
-    fetch-requires
     cast-put-none
     put-none-requires
     returns

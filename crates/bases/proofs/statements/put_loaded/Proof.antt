@@ -10,9 +10,6 @@ use borrow.Author.Needs.{needs}
 use Rattle.bases.proofs.statements.put_loaded.Statement.{statement}
 use Rattle.bases.proofs.statements.put_loaded.Tie as tie
 
-fetch-requires : tie.Need-fetch-requires
-fetch-requires c κs = search needs
-
 place-requires : tie.Need-place-requires
 place-requires c κs = search needs
 
@@ -24,24 +21,27 @@ same-length c = search needs
 
 returns : tie.Need-returns
 returns c =
-    let a = c .before .before .before .before .before .before .before .before .before .before .args in
-    λ cs k h. puts-as (chosen _ _ (ap (λ (s : Statement). loads (s .number)) (sym (c .before .before .before .before .before .before .fetch .ensures)) ∙ c .before .before .before .before .before .if1 .taken))
-    (c .before .before .put-load .ensures (slot address (a .t) (a .i)) (c .before .before .before .before .place .ensures) h)
+    let a = c .before .before .before .before .before .before .before .before .args in (
+      λ S cs k e h. puts-as (chosen _ _ (ap (λ (s : Statement). loads (s .number)) (sym e) ∙ c .before .before .before .before .before .if1 .taken))
+          (c .before .before .put-load .ensures .0 (slot address (a .t) (a .i)) (c .before .before .before .before .place .ensures) h),
+      c .before .before .put-load .ensures .1,
+    )
 
 put-none-requires : tie.Need-put-none-requires
 put-none-requires c κs = search needs
 
 returns-2 : tie.Need-returns-2
 returns-2 c =
-    let a = c .before .before .before .before .before .before .args in
-    λ cs k h. puts-as (passed _ _ (ap (λ (s : Statement). loads (s .number)) (sym (c .before .before .fetch .ensures)) ∙ c .before .if1 .left))
-    (c .put-none .ensures (a .n) nought (now (a .out)) refl refl)
+    let a = c .before .before .before .before .args in (
+      λ S cs k e h. puts-as (passed _ _ (ap (λ (s : Statement). loads (s .number)) (sym e) ∙ c .before .if1 .left))
+          (c .put-none .ensures .0 (a .n) nought (now (a .out)) refl refl),
+      c .put-none .ensures .1,
+    )
 
 pub put-loaded-spec : {M : Type 1} → statement M
 put-loaded-spec =
     tie.close
     (tie.spec
-    fetch-requires
     place-requires
     put-load-requires
     same-length

@@ -15,9 +15,6 @@ use Rattle.bases.proofs.statements.put_swaps.Tie as tie
 add-next : tie.Need-add-next
 add-next c = search needs
 
-fetch-requires : tie.Need-fetch-requires
-fetch-requires c κs = search needs
-
 place-requires : tie.Need-place-requires
 place-requires c κs = search needs
 
@@ -47,27 +44,30 @@ same-length c = search needs
 
 returns : tie.Need-returns
 returns c =
-    let a = c .before .before .before .before .before .before .before .before .before .before .before .before .before .before .before .before .before .args in
-    λ cs k h. puts-as (chosen _ _ (ap (λ (s : Statement). eqb (s .number) 16) (sym (c .before .before .before .before .before .before .before .before .before .before .before .before .before .fetch .ensures)) ∙ eq-eqb _ _ (c .before .before .before .before .before .before .before .before .before .before .before .if1 .taken)))
-    (c .before .before .put-three .ensures (placeOf (a .slots .now)) _ h
-    (gives-swaps (placeOf (a .slots .now)) (a .n) _ (slot active (a .t) (a .i)) (slot heap 0 0) (slot address (a .t) (a .i)) (slot mem (a .t) 0) (refl, (refl, (refl, (refl, refl))))
-    (c .before .before .before .before .before .before .formula .ensures) (c .before .before .before .before .before .formula2 .ensures) (c .before .before .before .before .formula3 .ensures) (c .before .before .before .before .before .before .before .place4 .ensures) (c .before .before .before .before .before .before .before .before .before .before .place .ensures) (c .before .before .before .before .before .before .before .before .before .place2 .ensures) (c .before .before .before .before .before .before .before .before .place3 .ensures)))
+    let a = c .before .before .before .before .before .before .before .before .before .before .before .before .before .before .before .args in (
+      λ S cs k e h. puts-as (chosen _ _ (ap (λ (s : Statement). eqb (s .number) 16) (sym e) ∙ eq-eqb _ _ (c .before .before .before .before .before .before .before .before .before .before .before .if1 .taken)))
+          (c .before .before .put-three .ensures .0 (placeOf (a .slots .now)) _ h
+          (gives-swaps (placeOf (a .slots .now)) (a .n) _ (slot active (a .t) (a .i)) (slot heap 0 0) (slot address (a .t) (a .i)) (slot mem (a .t) 0) (refl, (refl, (refl, (refl, refl))))
+          (c .before .before .before .before .before .before .formula .ensures) (c .before .before .before .before .before .formula2 .ensures) (c .before .before .before .before .formula3 .ensures) (c .before .before .before .before .before .before .before .place4 .ensures) (c .before .before .before .before .before .before .before .before .before .before .place .ensures) (c .before .before .before .before .before .before .before .before .before .place2 .ensures) (c .before .before .before .before .before .before .before .before .place3 .ensures))),
+      c .before .before .put-three .ensures .1,
+    )
 
 put-none-requires : tie.Need-put-none-requires
 put-none-requires c κs = search needs
 
 returns-2 : tie.Need-returns-2
 returns-2 c =
-    let a = c .before .before .before .before .before .before .before .args in
-    λ cs k h. puts-as (passed _ _ (ap (λ (s : Statement). eqb (s .number) 16) (sym (c .before .before .before .fetch .ensures)) ∙ ne-eqb _ _ (c .before .if1 .left)))
-    (c .put-none .ensures (a .n) no (now (a .out)) refl refl)
+    let a = c .before .before .before .before .before .args in (
+      λ S cs k e h. puts-as (passed _ _ (ap (λ (s : Statement). eqb (s .number) 16) (sym e) ∙ ne-eqb _ _ (c .before .if1 .left)))
+          (c .put-none .ensures .0 (a .n) no (now (a .out)) refl refl),
+      c .put-none .ensures .1,
+    )
 
 pub put-swaps-spec : {M : Type 1} → statement M
 put-swaps-spec =
     tie.close
     (tie.spec
     add-next
-    fetch-requires
     place-requires
     place-requires-2
     place-requires-3

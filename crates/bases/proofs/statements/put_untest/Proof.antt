@@ -14,9 +14,6 @@ use borrow.Author.Needs.{needs}
 use Rattle.bases.proofs.statements.put_untest.Statement.{statement}
 use Rattle.bases.proofs.statements.put_untest.Tie as tie
 
-fetch-requires : tie.Need-fetch-requires
-fetch-requires c κs = search needs
-
 is-jump-requires : tie.Need-is-jump-requires
 is-jump-requires c κs = search needs
 
@@ -31,27 +28,30 @@ same-length c = search needs
 
 returns : tie.Need-returns
 returns c =
-    let a = c .before .before .before .before .before .before .before .before .before .before .before .args in
-    λ cs k h. puts-as (chosen _ _ (ap (λ (s : Statement). isConditional (s .number)) (sym (c .before .before .before .before .before .before .before .fetch .ensures))
-    ∙ ap (λ (b : Bool). b && not (eqb (c .before .before .before .before .before .before .before .fetch .result .number) 9)) (sym (c .before .before .before .before .before .before .is-jump .ensures)) ∙ c .before .before .before .before .before .if1 .taken))
-    (c .before .before .put-one .ensures (placeOf (a .slots .now)) _
-    (gives-unary (placeOf (a .slots .now)) (a .n) _ not1 (slot test (a .t) (a .i)) (refl, (refl, refl)) (c .before .before .before .before .place .ensures)))
+    let a = c .before .before .before .before .before .before .before .before .before .args in (
+      λ S cs k e h. puts-as (chosen _ _ (ap (λ (s : Statement). isConditional (s .number)) (sym e)
+          ∙ ap (λ (b : Bool). b && not (eqb (a .statement .number) 9)) (sym (c .before .before .before .before .before .before .is-jump .ensures)) ∙ c .before .before .before .before .before .if1 .taken))
+          (c .before .before .put-one .ensures .0 (placeOf (a .slots .now)) _
+          (gives-unary (placeOf (a .slots .now)) (a .n) _ not1 (slot test (a .t) (a .i)) (refl, (refl, refl)) (c .before .before .before .before .place .ensures))),
+      c .before .before .put-one .ensures .1,
+    )
 
 put-none-requires : tie.Need-put-none-requires
 put-none-requires c κs = search needs
 
 returns-2 : tie.Need-returns-2
 returns-2 c =
-    let a = c .before .before .before .before .before .before .before .args in
-    λ cs k h. puts-as (passed _ _ (ap (λ (s : Statement). isConditional (s .number)) (sym (c .before .before .before .fetch .ensures))
-    ∙ ap (λ (b : Bool). b && not (eqb (c .before .before .before .fetch .result .number) 9)) (sym (c .before .before .is-jump .ensures)) ∙ c .before .if1 .left))
-    (c .put-none .ensures (a .n) no (now (a .out)) refl refl)
+    let a = c .before .before .before .before .before .args in (
+      λ S cs k e h. puts-as (passed _ _ (ap (λ (s : Statement). isConditional (s .number)) (sym e)
+          ∙ ap (λ (b : Bool). b && not (eqb (a .statement .number) 9)) (sym (c .before .before .is-jump .ensures)) ∙ c .before .if1 .left))
+          (c .put-none .ensures .0 (a .n) no (now (a .out)) refl refl),
+      c .put-none .ensures .1,
+    )
 
 pub put-untest-spec : {M : Type 1} → statement M
 put-untest-spec =
     tie.close
     (tie.spec
-    fetch-requires
     is-jump-requires
     place-requires
     put-one-requires

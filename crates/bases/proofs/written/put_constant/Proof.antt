@@ -1,5 +1,6 @@
 -- `bases::written::put_constant` meets its contract. Assumes nothing.
 use denote.Ref.{now}
+use native.Mathlib.Omega.{arith}
 use mathlib.Core.Path.{refl}
 use Rattle.table.specs.Programs.{leaf, constantWord, leafFormula}
 use Rattle.bases.proofs.Given.{gives-leaf, puts-one}
@@ -17,7 +18,7 @@ returns : tie.Need-returns
 returns c =
     let a = c .before .before .before .before .before .args in
     let word = constantWord (a .word) in
-    λ at. puts-one at (a .n) (leaf word) (now (a .out)) _ (leafFormula word) (gives-leaf at (a .n) _ word word refl (refl, (refl, refl))) (c .before .before .put .ensures)
+    (λ at. puts-one at (a .n) (leaf word) (now (a .out)) _ (leafFormula word) (gives-leaf at (a .n) _ word word refl (refl, (refl, refl))) (c .before .before .put .ensures), omega arith)
 
 pub put-constant-spec : {M : Type 1} → statement M
 put-constant-spec = tie.close (tie.spec put-requires same-length returns)

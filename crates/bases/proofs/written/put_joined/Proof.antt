@@ -21,11 +21,13 @@ same-length c = search needs
 
 returns : tie.Need-returns
 returns c =
-    let a = c .before .before .before .before .before .before .before .before .args in
-    λ o k l e s f g p q. c .before .before .put-one .ensures (placeOf (a .slots .now)) _
-    (gives-binary (placeOf (a .slots .now)) (a .n) _ o (slot k (a .a) (a .b)) (slot l (a .c) (a .d)) (refl, (refl, refl)) e s
-    (c .before .before .before .before .before .place .ensures ∙ (λ z. placeFrom (a .slots .now) (f z) (a .a) (a .b) (p z)))
-    (c .before .before .before .before .place2 .ensures ∙ (λ z. placeFrom (a .slots .now) (g z) (a .c) (a .d) (q z))))
+    let a = c .before .before .before .before .before .before .before .before .args in (
+      λ o k l e s f g p q. c .before .before .put-one .ensures .0 (placeOf (a .slots .now)) _
+          (gives-binary (placeOf (a .slots .now)) (a .n) _ o (slot k (a .a) (a .b)) (slot l (a .c) (a .d)) (refl, (refl, refl)) e s
+          (c .before .before .before .before .before .place .ensures ∙ (λ z. placeFrom (a .slots .now) (f z) (a .a) (a .b) (p z)))
+          (c .before .before .before .before .place2 .ensures ∙ (λ z. placeFrom (a .slots .now) (g z) (a .c) (a .d) (q z)))),
+      c .before .before .put-one .ensures .1,
+    )
 
 pub put-joined-spec : {M : Type 1} → statement M
 put-joined-spec =

@@ -78,14 +78,16 @@ returns c =
     let f = c .before .before .before .before .before .before .before .before .before .before .before .before .before .before .before .before .before .before .before .before .before .before .before .before .before .formula .result in
     let g = c .before .before .before .before .before .before .before .before .before .before .before .before .before .before .before .before .before .before .before .before .before .before .before .formula2 .result in
     let k = c .before .before .before .before .before .before .before .before .before .before .before .before .before .before .before .before .before .before .before .before .before .formula3 .result in
-    let l = c .before .before .before .before .before .before .before .before .before .before .before .before .before .before .before .before .before .before .before .formula4 .result in
-    λ s e h. puts-four at (a .n) _ (now (a .out)) _ f g k l
-    (gives-load at (a .n) (slot full (a .t) 0) (slot adr (a .t) 0) s (slot val (a .t) 0) (slot heap 0 0)
-    (c .before .before .before .before .before .before .before .before .before .before .before .before .before .before .before .before .before .before .before .before .before .before .before .before .before .formula .ensures) (c .before .before .before .before .before .before .before .before .before .before .before .before .before .before .before .before .before .before .before .before .before .before .before .formula2 .ensures) (c .before .before .before .before .before .before .before .before .before .before .before .before .before .before .before .before .before .before .before .before .before .formula3 .ensures) (c .before .before .before .before .before .before .before .before .before .before .before .before .before .before .before .before .before .before .before .formula4 .ensures) (c .before .before .before .before .before .before .before .before .before .before .before .before .before .before .before .before .before .before .before .before .before .before .before .before .place2 .ensures) (c .before .before .before .before .before .before .before .before .before .before .before .before .before .before .before .before .before .before .before .before .before .before .before .before .before .before .place .ensures) e (c .before .before .before .before .before .before .before .before .before .before .before .before .before .before .before .before .before .before .before .before .place4 .ensures) (c .before .before .before .before .before .before .before .before .before .before .before .before .before .before .before .before .before .before .before .before .before .before .place3 .ensures))
-    (c .before .before .put4 .ensures
-    ∙ ((λ z. recordAt (c .before .before .before .after3 .ensures h three z) l (c .before .before .before .before .before .before .before .put3 .ensures z))
-    ∙ ((λ z. recordAt (a .n + 3) l (recordAt (c .before .before .before .before .before .before .before .before .after2 .ensures h two z) k (c .before .before .before .before .before .before .before .before .before .before .before .before .put2 .ensures z)))
-    ∙ (λ z. recordAt (a .n + 3) l (recordAt (a .n + 2) k (recordAt (c .before .before .before .before .before .before .before .before .before .before .before .before .before .after .ensures h one z) g (c .before .before .before .before .before .before .before .before .before .before .before .before .before .before .before .before .before .put .ensures z)))))))
+    let l = c .before .before .before .before .before .before .before .before .before .before .before .before .before .before .before .before .before .before .before .formula4 .result in (
+      λ s e h. puts-four at (a .n) _ (now (a .out)) _ f g k l
+          (gives-load at (a .n) (slot full (a .t) 0) (slot adr (a .t) 0) s (slot val (a .t) 0) (slot heap 0 0)
+          (c .before .before .before .before .before .before .before .before .before .before .before .before .before .before .before .before .before .before .before .before .before .before .before .before .before .formula .ensures) (c .before .before .before .before .before .before .before .before .before .before .before .before .before .before .before .before .before .before .before .before .before .before .before .formula2 .ensures) (c .before .before .before .before .before .before .before .before .before .before .before .before .before .before .before .before .before .before .before .before .before .formula3 .ensures) (c .before .before .before .before .before .before .before .before .before .before .before .before .before .before .before .before .before .before .before .formula4 .ensures) (c .before .before .before .before .before .before .before .before .before .before .before .before .before .before .before .before .before .before .before .before .before .before .before .before .place2 .ensures) (c .before .before .before .before .before .before .before .before .before .before .before .before .before .before .before .before .before .before .before .before .before .before .before .before .before .before .place .ensures) e (c .before .before .before .before .before .before .before .before .before .before .before .before .before .before .before .before .before .before .before .before .place4 .ensures) (c .before .before .before .before .before .before .before .before .before .before .before .before .before .before .before .before .before .before .before .before .before .before .place3 .ensures))
+          (c .before .before .put4 .ensures
+          ∙ ((λ z. recordAt (c .before .before .before .after3 .ensures h three z) l (c .before .before .before .before .before .before .before .put3 .ensures z))
+          ∙ ((λ z. recordAt (a .n + 3) l (recordAt (c .before .before .before .before .before .before .before .before .after2 .ensures h two z) k (c .before .before .before .before .before .before .before .before .before .before .before .before .put2 .ensures z)))
+          ∙ (λ z. recordAt (a .n + 3) l (recordAt (a .n + 2) k (recordAt (c .before .before .before .before .before .before .before .before .before .before .before .before .before .after .ensures h one z) g (c .before .before .before .before .before .before .before .before .before .before .before .before .before .before .before .before .before .put .ensures z))))))),
+      omega arith,
+    )
 
 pub put-load-spec : {M : Type 1} → statement M
 put-load-spec =

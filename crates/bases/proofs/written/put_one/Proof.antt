@@ -1,5 +1,6 @@
 -- `bases::written::put_one` meets its contract. Assumes nothing.
 use denote.Ref.{now}
+use native.Mathlib.Omega.{arith}
 use mathlib.Core.Path.{ap, _∙_}
 use Rattle.table.specs.declared.Formula.{Formula}
 use Rattle.bases.specs.Fews.{plain}
@@ -20,9 +21,11 @@ same-length c = search needs
 
 returns : tie.Need-returns
 returns c =
-    let a = c .before .before .before .before .before .before .args in
-    λ at t g. puts-one at (a .n) t (now (a .out)) _ (plain (a .operation) (a .sort) (a .a) (a .b) (a .c)) g
-    (c .before .before .put .ensures ∙ ap (λ (f : Formula). recordAt (a .n) f (now (a .out))) (c .before .before .before .before .formula .ensures))
+    let a = c .before .before .before .before .before .before .args in (
+      λ at t g. puts-one at (a .n) t (now (a .out)) _ (plain (a .operation) (a .sort) (a .a) (a .b) (a .c)) g
+          (c .before .before .put .ensures ∙ ap (λ (f : Formula). recordAt (a .n) f (now (a .out))) (c .before .before .before .before .formula .ensures)),
+      omega arith,
+    )
 
 pub put-one-spec : {M : Type 1} → statement M
 put-one-spec = tie.close (tie.spec formula-requires put-requires same-length returns)

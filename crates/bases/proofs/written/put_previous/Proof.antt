@@ -13,7 +13,7 @@ put-none-requires : tie.Need-put-none-requires
 put-none-requires c κs = search needs
 
 returns : tie.Need-returns
-returns c = λ n k l out e f p q. puts-as (ap (λ (s : Slot). ref s) (chosen _ _ (eq-eqb _ _ (c .before .if1 .taken)))) (c .put-none .ensures n l out f q)
+returns c = (λ n k l out e f p q. puts-as (ap (λ (s : Slot). ref s) (chosen _ _ (eq-eqb _ _ (c .before .if1 .taken)))) (c .put-none .ensures .0 n l out f q), c .put-none .ensures .1)
 
 sub-put-none : tie.Need-sub-put-none
 sub-put-none c = search needs
@@ -22,7 +22,7 @@ put-none-requires-2 : tie.Need-put-none-requires-2
 put-none-requires-2 c κs = search needs
 
 returns-2 : tie.Need-returns-2
-returns-2 c = λ n k l out e f p q. puts-as (ap (λ (s : Slot). ref s) (passed _ _ (ne-eqb _ _ (c .before .if1 .left)))) (c .put-none2 .ensures n k out e p)
+returns-2 c = (λ n k l out e f p q. puts-as (ap (λ (s : Slot). ref s) (passed _ _ (ne-eqb _ _ (c .before .if1 .left)))) (c .put-none2 .ensures .0 n k out e p), c .put-none2 .ensures .1)
 
 pub put-previous-spec : {M : Type 1} → statement M
 put-previous-spec =

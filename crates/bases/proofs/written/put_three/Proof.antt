@@ -34,11 +34,13 @@ returns : tie.Need-returns
 returns c =
     let a = c .before .before .before .before .before .before .before .before .before .before .before .before .before .before .before .args in
     let one : 1 ≤ 4 = omega arith in
-    let two : 2 ≤ 4 = omega arith in
-    λ at t h g. puts-three at (a .n) t (now (a .out)) _ (a .first) (a .second) (a .third) g
-    (c .before .before .put3 .ensures
-    ∙ ((λ z. recordAt (c .before .before .before .after2 .ensures h two z) (a .third) (c .before .before .before .before .before .before .before .put2 .ensures z))
-    ∙ (λ z. recordAt (a .n + 2) (a .third) (recordAt (c .before .before .before .before .before .before .before .before .after .ensures h one z) (a .second) (c .before .before .before .before .before .before .before .before .before .before .before .before .put .ensures z)))))
+    let two : 2 ≤ 4 = omega arith in (
+      λ at t h g. puts-three at (a .n) t (now (a .out)) _ (a .first) (a .second) (a .third) g
+          (c .before .before .put3 .ensures
+          ∙ ((λ z. recordAt (c .before .before .before .after2 .ensures h two z) (a .third) (c .before .before .before .before .before .before .before .put2 .ensures z))
+          ∙ (λ z. recordAt (a .n + 2) (a .third) (recordAt (c .before .before .before .before .before .before .before .before .after .ensures h one z) (a .second) (c .before .before .before .before .before .before .before .before .before .before .before .before .put .ensures z))))),
+      omega arith,
+    )
 
 pub put-three-spec : {M : Type 1} → statement M
 put-three-spec =

@@ -151,7 +151,7 @@ returns-19 c = λ bytes. at 33 (c .before) (c .match .keys19) bytes
 returns-20 : tie.Need-returns-20
 returns-20 c =
     let a = c .before .before .args in
-    λ bytes. sym (no-links (setBy bytes (a .layout)) (listed (a .points)) (a .a) (a .b) 0 (a .kind) (c .match .rest))
+    λ bytes. sym (no-links (setBy bytes (a .layout)) (listed (a .points)) (a .a) (a .b) (a .kind) (c .match .rest))
 
 pub links-spec : {M : Type 1} → statement M
 links-spec =

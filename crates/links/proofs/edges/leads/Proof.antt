@@ -1,67 +1,34 @@
 -- `links::edges::leads` meets its contract. Assumes nothing.
-use Rattle.links.proofs.Leads.{if-placed, leadsBy, leads-none, leads-rests, leads-always, leads-on, leads-taken, leads-missed, contrary}
-use Rattle.links.specs.Placed.{placedLink}
-use Rattle.places.specs.Places.{placeOf}
-use Rattle.encoding.specs.Steps.{Link as ChainLink, ifThen, only, leads, isConditional, isPlain, rests}
-use Rattle.encoding.specs.Slots.{Kind, slot, active, yes, test, untest}
-use Rattle.records.specs.Sets.{setBy}
-use Rattle.base.proofs.Choice.{or-left, or-right}
-use lib.Dec.{eqb}
-use denote.Ref.{now}
-use native.Mathlib.Numerals.{add-one}
-use Prim.Native.Nat.{_+_}
-use mathlib.Core.List.{[]}
-use mathlib.Core.Bool.{Bool, false, cond, not, _&&_, _||_}
-use mathlib.Core.Path.{_≡_, refl, sym, ap, _∙_}
 use borrow.Author.Tests.{not-true, not-false}
+use mathlib.Core.Path.{_≡_, refl, sym, ap, _∙_}
+use mathlib.Core.Bool.{Bool, false, cond, not, _&&_, _||_}
+use mathlib.Core.List.{[]}
+use Prim.Native.Nat.{ℕ, _+_}
+use native.Mathlib.Numerals.{add-one}
+use denote.Ref.{now}
+use lib.Dec.{eqb}
+use Rattle.base.proofs.Choice.{or-left, or-right}
+use Rattle.records.specs.declared.Statement.{Statement}
+use Rattle.records.specs.Sets.{Set}
+use Rattle.encoding.specs.Slots.{Kind, Slot, slot, active, yes, test, untest}
+use Rattle.encoding.specs.Steps.{Link as ChainLink, ifThen, only, leads, isConditional, isPlain, rests}
+use Rattle.places.specs.Places.{placeOf}
+use Rattle.links.specs.Placed.{placedLink}
+use Rattle.links.proofs.Leads.{if-placed, leadsBy, leads-none, leads-rests, leads-always, leads-on, leads-taken, leads-missed, contrary, tested, leads-by}
 use borrow.Author.Needs.{needs}
 use Rattle.links.proofs.edges.leads.Statement.{statement}
 use Rattle.links.proofs.edges.leads.Tie as tie
-use Rattle.links.proofs.edges.leads.Reads as reads
-use Rattle.links.proofs.edges.leads.Lts as lts
-use Rattle.links.proofs.edges.by_test.Reads as by-test-reads
-use Rattle.links.proofs.parts.bit_if.Reads as bit-if-reads
-use Rattle.links.proofs.parts.none.Reads as none-reads
-use Rattle.links.proofs.statements.is_conditional.Reads as is-conditional-reads
-use Rattle.links.proofs.statements.is_plain.Reads as is-plain-reads
-use Rattle.links.proofs.statements.rests.Reads as rests-reads
-use Rattle.records.proofs.fetch.Reads as fetch-reads
 
 -- what is known past the first tests
-goes : (c : tie.Else2) → rests (c .before .before .before .before .fetch .result .number) ≡ false
+goes : (c : tie.Else2) → rests (c .before .before .before .before .args .statement .number) ≡ false
 goes c = sym (c .before .rests .ensures) ∙ c .if2 .left
 
-both : (c : tie.After-is-conditional) → let f = c .before .before .before .before .before in
-    let n = f .fetch .result .number in let goal = f .fetch .result .argument in let after = f .before .before .before .args .i + 1 in
-    (eqb n 9 || c .is-conditional .result && eqb goal after) ≡ (eqb n 9 || isConditional n && eqb goal after)
+both : (c : tie.After-is-conditional) → let a = c .before .before .before .before .before .args in
+    let n = a .statement .number in let goal = a .statement .argument in
+    (eqb n 9 || c .is-conditional .result && eqb goal (a .i + 1)) ≡ (eqb n 9 || isConditional n && eqb goal (a .i + 1))
 both c =
-    let f = c .before .before .before .before .before in
-    ap (λ (b : Bool). eqb (f .fetch .result .number) 9 || b && eqb (f .fetch .result .argument) (f .before .before .before .args .i + 1)) (c .is-conditional .ensures)
-
-tested : (c : tie.After-fetch) {k l : Kind} → k ≡ l → let a = c .before .before .before .args in
-    placedLink (placeOf (now (a .slots))) (ifThen 1 (slot active (a .t) (a .i)) (slot k (a .t) (a .i)))
-    ≡ placedLink (placeOf (now (a .slots))) (ifThen 1 (slot active (a .t) (a .i)) (slot l (a .t) (a .i)))
-tested c e =
-    let a = c .before .before .before .args in
-    ap (λ (k : Kind). placedLink (placeOf (now (a .slots))) (ifThen 1 (slot active (a .t) (a .i)) (slot k (a .t) (a .i)))) e
-
--- a link by the fetched statement, and as the definition has it
-abbrev fetched : tie.After-fetch → ChainLink
-fetched c = let a = c .before .before .before .args in leadsBy (c .fetch .result) (a .t) (a .j) (a .i) (a .i + 1)
-
-by : (c : tie.After-fetch) {l : ChainLink} → fetched c ≡ l →
-    placedLink (placeOf (now (c .before .before .before .args .slots))) (fetched c) ≡ placedLink (placeOf (now (c .before .before .before .args .slots))) l
-by c e = ap (placedLink (placeOf (now (c .before .before .before .args .slots)))) e
-
-ends : (c : tie.After-fetch) → let a = c .before .before .before .args in
-    placedLink (placeOf (now (a .slots))) (fetched c)
-    ≡ placedLink (placeOf (now (a .slots))) (leads (setBy (now (a .set)) (a .layout)) [] 0 (a .t) (a .j) (a .i))
-ends c =
-    let a = c .before .before .before .args in
-    λ z. placedLink (placeOf (now (a .slots))) (leadsBy (c .fetch .ensures z) (a .t) (a .j) (a .i) (add-one (a .i) z))
-
-fetch-requires : tie.Need-fetch-requires
-fetch-requires c κs = search needs
+    let a = c .before .before .before .before .before .args in
+    ap (λ (b : Bool). eqb (a .statement .number) 9 || b && eqb (a .statement .argument) (a .i + 1)) (c .is-conditional .ensures)
 
 add-after : tie.Need-add-after
 add-after c = search needs
@@ -71,12 +38,11 @@ none-requires c κs = search needs
 
 returns : tie.Need-returns
 returns c =
-    let f = c .before .before .before in
-    let a = f .before .before .before .args in
-    let hit = eqb (f .fetch .result .argument) (a .j) in
+    let a = c .before .before .before .args in
+    let hit = eqb (a .statement .argument) (a .j) in
     let next = eqb (a .i + 1) (a .j) in
     let h = not-true (hit || next) (c .before .if1 .taken) in
-    c .none .ensures ∙ sym (by f (leads-none (f .fetch .result) _ _ _ _ (or-left hit next h) (or-right hit next h))) ∙ ends f
+    λ (S : Set) is. c .none .ensures ∙ leads-by (placeOf (now (a .slots))) (a .statement) S (a .t) (a .j) (a .i) is (leads-none (a .statement) _ _ _ _ (or-left hit next h) (or-right hit next h))
 
 rests-requires : tie.Need-rests-requires
 rests-requires c κs = search needs
@@ -86,8 +52,9 @@ none-requires-2 c κs = search needs
 
 returns-2 : tie.Need-returns-2
 returns-2 c =
-    let f = c .before .before .before .before .before in
-    c .none2 .ensures ∙ sym (by f (leads-rests (f .fetch .result) _ _ _ _ (sym (c .before .before .rests .ensures) ∙ c .before .if2 .taken))) ∙ ends f
+    let a = c .before .before .before .before .before .args in
+    λ (S : Set) is. c .none2 .ensures
+    ∙ leads-by (placeOf (now (a .slots))) (a .statement) S (a .t) (a .j) (a .i) is (leads-rests (a .statement) _ _ _ _ (sym (c .before .before .rests .ensures) ∙ c .before .if2 .taken))
 
 is-conditional-requires : tie.Need-is-conditional-requires
 is-conditional-requires c κs = search needs
@@ -100,11 +67,10 @@ bit-if-requires c κs = search needs
 
 returns-3 : tie.Need-returns-3
 returns-3 c =
-    let d = c .before .before .before in
-    let f = d .before .before .before .before .before in
-    let a = f .before .before .before .args in
-    c .bit-if .ensures ∙ if-placed (placeOf (now (a .slots))) {d = eqb (f .fetch .result .argument) (a .j)} refl 1 (slot active (a .t) (a .i)) (only yes)
-    ∙ sym (by f (leads-always (f .fetch .result) _ _ _ _ (goes (d .before)) (sym (both d) ∙ c .before .if3 .taken))) ∙ ends f
+    let d = c .before .before in
+    let a = d .before .before .before .before .before .args in
+    λ (S : Set) is. c .bit-if .ensures ∙ if-placed (placeOf (now (a .slots))) {d = eqb (a .statement .argument) (a .j)} refl 1 (slot active (a .t) (a .i)) (only yes)
+    ∙ leads-by (placeOf (now (a .slots))) (a .statement) S (a .t) (a .j) (a .i) is (leads-always (a .statement) _ _ _ _ (goes (d .before)) (sym (both d) ∙ c .before .if3 .taken))
 
 is-plain-requires : tie.Need-is-plain-requires
 is-plain-requires c κs = search needs
@@ -115,10 +81,11 @@ by-test-requires c κs = search needs
 returns-4 : tie.Need-returns-4
 returns-4 c =
     let g = c .before .before .before in
-    let d = g .before .before .before in
-    let f = d .before .before .before .before .before in
-    c .by-test .ensures ∙ tested f (ap (λ (b : Bool). cond b test untest) (c .before .is-plain .ensures))
-    ∙ sym (by f (leads-taken (f .fetch .result) _ _ _ _ (goes (d .before)) (sym (both d) ∙ g .before .if3 .left) (sym (d .is-conditional .ensures) ∙ g .if4 .taken) (c .before .before .if5 .taken))) ∙ ends f
+    let d = g .before .before in
+    let a = d .before .before .before .before .before .args in
+    λ (S : Set) is. c .by-test .ensures ∙ tested (placeOf (now (a .slots))) (a .t) (a .i) (ap (λ (b : Bool). cond b test untest) (c .before .is-plain .ensures))
+    ∙ leads-by (placeOf (now (a .slots))) (a .statement) S (a .t) (a .j) (a .i) is
+    (leads-taken (a .statement) _ _ _ _ (goes (d .before)) (sym (both d) ∙ g .before .if3 .left) (sym (d .is-conditional .ensures) ∙ g .if4 .taken) (c .before .before .if5 .taken))
 
 is-plain-requires-2 : tie.Need-is-plain-requires-2
 is-plain-requires-2 c κs = search needs
@@ -129,30 +96,31 @@ by-test-requires-2 c κs = search needs
 returns-5 : tie.Need-returns-5
 returns-5 c =
     let g = c .before .before .before in
-    let d = g .before .before .before in
+    let d = g .before .before in
     let e = d .before .before .before in
-    let f = e .before .before in
+    let a = d .before .before .before .before .before .args in
     let missed = c .before .before .if5 .left in
-    let next = sym (ap (λ (b : Bool). b || eqb (f .before .before .before .args .i + 1) (f .before .before .before .args .j)) missed) ∙ not-false _ (e .if1 .left) in
-    c .by-test2 .ensures ∙ tested f (ap (λ (b : Bool). cond (not b) test untest) (c .before .is-plain2 .ensures) ∙ contrary (isPlain (f .fetch .result .number)))
-    ∙ sym (by f (leads-missed (f .fetch .result) _ _ _ _ (goes (d .before)) (sym (both d) ∙ g .before .if3 .left) (sym (d .is-conditional .ensures) ∙ g .if4 .taken) missed next)) ∙ ends f
+    let next = sym (ap (λ (b : Bool). b || eqb (a .i + 1) (a .j)) missed) ∙ not-false _ (e .if1 .left) in
+    λ (S : Set) is. c .by-test2 .ensures
+    ∙ tested (placeOf (now (a .slots))) (a .t) (a .i) (ap (λ (b : Bool). cond (not b) test untest) (c .before .is-plain2 .ensures) ∙ contrary (isPlain (a .statement .number)))
+    ∙ leads-by (placeOf (now (a .slots))) (a .statement) S (a .t) (a .j) (a .i) is
+    (leads-missed (a .statement) _ _ _ _ (goes (d .before)) (sym (both d) ∙ g .before .if3 .left) (sym (d .is-conditional .ensures) ∙ g .if4 .taken) missed next)
 
 bit-if-requires-2 : tie.Need-bit-if-requires-2
 bit-if-requires-2 c κs = search needs
 
 returns-6 : tie.Need-returns-6
 returns-6 c =
-    let d = c .before .before .before .before in
-    let f = d .before .before .before .before .before in
-    let a = f .before .before .before .args in
-    c .bit-if2 .ensures ∙ if-placed (placeOf (now (a .slots))) {d = eqb (a .i + 1) (a .j)} refl 1 (slot active (a .t) (a .i)) (only yes)
-    ∙ sym (by f (leads-on (f .fetch .result) _ _ _ _ (goes (d .before)) (sym (both d) ∙ c .before .before .if3 .left) (sym (d .is-conditional .ensures) ∙ c .before .if4 .left))) ∙ ends f
+    let d = c .before .before .before in
+    let a = d .before .before .before .before .before .args in
+    λ (S : Set) is. c .bit-if2 .ensures ∙ if-placed (placeOf (now (a .slots))) {d = eqb (a .i + 1) (a .j)} refl 1 (slot active (a .t) (a .i)) (only yes)
+    ∙ leads-by (placeOf (now (a .slots))) (a .statement) S (a .t) (a .j) (a .i) is
+    (leads-on (a .statement) _ _ _ _ (goes (d .before)) (sym (both d) ∙ c .before .before .if3 .left) (sym (d .is-conditional .ensures) ∙ c .before .if4 .left))
 
 pub leads-spec : {M : Type 1} → statement M
 leads-spec =
     tie.close
     (tie.spec
-    fetch-requires
     add-after
     none-requires
     returns

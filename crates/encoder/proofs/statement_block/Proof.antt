@@ -1,0 +1,101 @@
+-- `encoder::statement_block` meets its contract. Assumes nothing.
+use borrow.Author.Needs.{needs}
+use lib.ListN.{length}
+use denote.Ref.{now}
+use native.Mathlib.Omega.{arith}
+use mathlib.Core.List.{List}
+use mathlib.Core.Path.{_≡_, refl, sym, _∙_, subst}
+use Prim.Native.Nat.{ℕ, _+_, _-_, _*_, _≤_, _<_}
+use Rattle.places.specs.Places.{listed}
+use Rattle.places.specs.declared.Points.{Points}
+use Rattle.encoding.specs.Steps.{entry, line}
+use Rattle.encoding.specs.Slots.{kindAt}
+use Rattle.table.specs.Programs.{upto}
+use Rattle.records.specs.Sets.{setBy}
+use Rattle.places.proofs.Pieces.{writes-row, writes-more, limits-after}
+use Rattle.places.specs.Pieces.{Writes, Limits}
+use Rattle.encoder.proofs.Loops.{statement-rows}
+use Rattle.encoder.proofs.statement_block.Statement.{statement}
+use Rattle.encoder.proofs.statement_block.Tie as tie
+use Rattle.encoder.proofs.statement_block.Reads as reads
+use Rattle.encoder.proofs.statement_block.Lts as lts
+use Rattle.values.proofs.statement_line.Reads as statement-line-reads
+
+abbrev Inv-loop : tie.InvT-loop
+Inv-loop set layout nexts slots₀ out₀ step kind n threads next₀ t₀ slots out next t =
+    (t ≤ threads) × (threads ≤ 4) × (next ≤ n + 1152 * t) × (length out ≡ length out₀) × (length slots ≡ length slots₀)
+    × ((points : Points) → Limits layout points slots₀ n → Limits layout points slots next)
+    × ((cs : List ℕ) → Writes (upto (line (setBy set layout) cs step (kindAt kind)) t) out₀ slots₀ n out slots next)
+
+abbrev μ-loop : tie.MeasureT-loop
+μ-loop set layout nexts slots₀ out₀ step kind n threads next₀ t₀ slots out next t = threads - t
+
+loop-holds : tie.Need-loop-holds Inv-loop μ-loop
+loop-holds c =
+    let a = c .before .before .before .before .args in
+    let l = c .before .before .before .before .pre .0 in
+    let most = l .fourThreads in
+    (omega arith, l .fourThreads, omega arith, refl, refl, λ points h. h, λ cs. writes-row (line (setBy (now (a .set)) (a .layout)) cs (a .step) (kindAt (a .kind))) (now (a .out)) (now (a .slots)) (a .n))
+
+statement-line-requires : tie.Need-statement-line-requires Inv-loop μ-loop
+statement-line-requires c κs = search needs
+
+add-t : tie.Need-add-t Inv-loop μ-loop
+add-t c = search needs
+
+loop-less : tie.Need-loop-less Inv-loop μ-loop
+loop-less c = search needs
+
+loop-again : tie.Need-loop-again Inv-loop μ-loop
+loop-again c =
+    let a = c .before .before .before .before .before .before .before .before .before .before .before .before .before .args in
+    let q = c .before .before .before .before .before .before .before .before .before .before .before .before .before .pre in
+    let l = c .before .before .before .before .before .before .before .before .loop in
+    let r = c .before .before .before .before .statement-line in
+    let S = setBy (now (a .set)) (a .layout) in
+    let here = l .inv .5 (a .points) (q .0) in
+    let few : l .next ≤ 1700000000 = omega arith in
+    let last = r .ensures .1 few in (
+      omega arith,
+      l .inv .1,
+      omega arith,
+      search needs,
+      search needs,
+      λ (points : Points) (h : Limits (a .layout) points (now (a .slots)) (a .n)).
+          limits-after (a .layout) points (line S (listed points) (a .step) (kindAt (a .kind)) (l .t)) _ _ _ _ _ _ (r .ensures .0 (listed points) (a .step) (q .4) (omega arith) (here .fewStatements (l .t)) few (here .allPlaces) (here .below)) (l .inv .5 points h),
+      λ (cs : List ℕ).
+          writes-more (line S cs (a .step) (kindAt (a .kind))) (l .t) (now (a .out)) (now (a .slots)) (a .n) _ _ _ _ _ _ (l .inv .6 cs) (r .ensures .0 cs (a .step) (q .4) (omega arith) (here .fewStatements (l .t)) few (here .allPlaces) (here .below)),
+    )
+
+same-length : tie.Need-same-length Inv-loop μ-loop
+same-length c = search needs
+
+same-length-2 : tie.Need-same-length-2 Inv-loop μ-loop
+same-length-2 c = search needs
+
+returns : tie.Need-returns Inv-loop μ-loop
+returns c =
+    let a = c .before .before .before .before .before .before .args in
+    let q = c .before .before .before .before .before .before .pre in
+    let l = c .before .loop in
+    let S = setBy (now (a .set)) (a .layout) in
+    let t-is : l .t ≡ a .layout .threads = omega arith in (
+      subst (λ (j : ℕ). Writes (upto (line S (listed (a .points)) (a .step) (kindAt (a .kind))) j) (now (a .out)) (now (a .slots)) (a .n) (l .out) (l .slots) (l .next))
+          (t-is ∙ statement-rows S (listed (a .points)) (a .step) (a .kind) (q .2) (q .4)) (l .inv .6 (listed (a .points))),
+      omega arith,
+    )
+
+pub statement-block-spec : {M : Type 1} → statement M
+statement-block-spec =
+    tie.close
+    (tie.spec
+    Inv-loop
+    μ-loop
+    loop-holds
+    statement-line-requires
+    add-t
+    loop-less
+    loop-again
+    same-length
+    same-length-2
+    returns)

@@ -1,0 +1,2 @@
+-- Laws of flags written one after the other.
+pub mod Written

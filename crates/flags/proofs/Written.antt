@@ -1,0 +1,58 @@
+-- A flag's tree with its links as the code asks for them, and places below the next index. Assumes nothing.
+use Prim.Native.Nat.{ℕ, suc, _+_, _≤_, _<_}
+use mathlib.Core.Path.{_≡_, ap, sym, subst}
+use mathlib.Core.Bool.{false}
+use mathlib.Core.List.{List, []}
+use native.Mathlib.Omega.{arith}
+use borrow.Author.Tests.{ne-eqb}
+use Rattle.records.specs.Sets.{Set}
+use Rattle.table.specs.Programs.{Command, placesAfter}
+use Rattle.encoding.specs.Slots.{flag, Slot, same, Term}
+use Rattle.encoding.specs.Steps.{Link as ChainLink, skip, linked, chain, base, leads}
+use Rattle.places.specs.Places.{placeOf}
+use Rattle.places.specs.Pieces.{Writes, WritesTree}
+use Rattle.places.proofs.Pieces.{program-below}
+use Rattle.places.proofs.Entries.{treeOf}
+use Rattle.links.specs.Nexts.{namesTarget}
+use Rattle.links.proofs.Leads.{leads-elsewhere}
+use Rattle.links.proofs.Trees.{chain-none, chain-more, chain-to}
+
+-- the chain of a flag, its links as the code asks for them
+pub flag-chained : (S : Set) (cs : List ℕ) (k t j count : ℕ) → count ≡ S .count t → (places : Slot → ℕ) (out : List ℕ) (n : ℕ) (after : List ℕ) (m at : ℕ) →
+    WritesTree places (chain (leads S [] 0 t j) count (base S cs k flag t j)) out n after m at → WritesTree places (treeOf S cs k flag t j) out n after m at
+flag-chained S cs k t j count e places out n after m at w =
+    subst (λ (i : ℕ). WritesTree places (chain (leads S [] 0 t j) i (base S cs k flag t j)) out n after m at) e w
+
+-- places lie below the next index after a piece too
+pub below-after : (P : List (Command Slot)) (out slots : List ℕ) (n : ℕ) (out1 slots1 : List ℕ) (n1 : ℕ) →
+    Writes P out slots n out1 slots1 n1 → ((s : Slot) → placeOf slots s < n) → (s : Slot) → placeOf slots1 s < n1
+below-after P out slots n out1 slots1 n1 w below s =
+    subst (λ (x : ℕ). x < n1) (ap (λ (f : Slot → ℕ). f s) (sym (w .places)))
+    (subst (λ (m : ℕ). placesAfter same (placeOf slots) n P s < m) (sym (w .next)) (program-below P (placeOf slots) n below s))
+
+-- no jump of a thread of `count` statements names j
+module _ (places : Slot → ℕ) (S : Set) (t j count : ℕ) (inside : j < count) (names : (x : ℕ) → x < count → namesTarget (S .statement t x) j ≡ false) (tree : Term) (start : List ℕ) (m : ℕ) where
+  abbrev leading : ℕ → ChainLink
+  leading = leads S [] 0 t j
+
+  elsewhere : (x : ℕ) → x < count → (suc x ≡ j → ⊥) → leading x ≡ skip
+  elsewhere x p f = leads-elsewhere (S .statement t x) t j x (suc x) (names x p) (ne-eqb (suc x) j f)
+
+  -- no statement stands before j
+  pub none-lead : j ≡ 0 → (out : List ℕ) (n at : ℕ) → WritesTree places tree start m out n at → WritesTree places (chain leading count tree) start m out n at
+  none-lead first out n at w =
+      chain-to places leading tree start m out n at 0 count (omega arith)
+      (λ (x : ℕ) (p : 0 ≤ x) (q : x < count). elsewhere x q (λ (e : suc x ≡ j). omega arith))
+      (chain-none places leading tree start m out n at w)
+
+  -- statement i stands before j: the others give no link
+  pub before-leads : (i : ℕ) → i + 1 ≡ j → (out : List ℕ) (n at : ℕ) (out1 : List ℕ) (n1 at1 : ℕ) →
+      (WritesTree places (chain leading i tree) start m out n at → WritesTree places (linked (leading i) (chain leading i tree)) start m out1 n1 at1) →
+      WritesTree places tree start m out n at → WritesTree places (chain leading count tree) start m out1 n1 at1
+  before-leads i next out n at out1 n1 at1 put w =
+      chain-to places leading tree start m out1 n1 at1 (i + 1) count (omega arith)
+      (λ (x : ℕ) (p : i + 1 ≤ x) (q : x < count). elsewhere x q (λ (e : suc x ≡ j). omega arith))
+      (chain-more places leading tree start m out1 n1 at1 i
+      (put (chain-to places leading tree start m out n at 0 i (omega arith)
+      (λ (x : ℕ) (p : 0 ≤ x) (q : x < i). elsewhere x (omega arith) (λ (e : suc x ≡ j). omega arith))
+      (chain-none places leading tree start m out n at w))))

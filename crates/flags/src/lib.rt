@@ -1,0 +1,173 @@
+// The flags of a thread's statements, which say the next one, each with the links of the statements that lead to it.
+// A thread's statements stand from record `first` of the set on: the layout is read once.
+ghost use mathlib.Core.Path.{_≡_};
+ghost use mathlib.Core.List.{List, []};
+ghost use Prim.Native.Nat.{ℕ, _+_, _≤_, _<_};
+ghost use lib.ListN.{length, getD};
+ghost use Rattle.records.specs.Sets.{Set, setBy, statementAt};
+ghost use Rattle.encoding.specs.Slots.{Slot, Term, flag as flagKind};
+ghost use Rattle.encoding.specs.Steps.{chain as chainOf, leads as leadsOf, entry as entryOf, line as lineOf};
+ghost use Rattle.places.specs.Places.{placeOf, size};
+ghost use Rattle.places.specs.Pieces.{Writes, WritesTree};
+ghost use Rattle.links.specs.Nexts.{Nexts};
+use links::Root;
+use links::edges;
+use links::put_link;
+use places::kinds::FLAG;
+use records::Layout;
+
+// Writes the links of the flag of statement j over a tree, where jumps name j: those of the jumps, and that of the statement before.
+fn jump_links(
+    set: &[u8],
+    first: u32,
+    nexts: &[u8],
+    slots: &[u32],
+    out: &mut [u8],
+    t: u8,
+    j: u16,
+    count: u16,
+    n: u32,
+    base: u64,
+) -> Root
+    requires { ⌜ (first < 65536) × (count ≤ 32) × (n ≤ 1900000000) ⌝ }
+    ensures { λ r. ⌜ ((S : Set) (tree : Term) (start : List ℕ) (m : ℕ) → Nexts S (now (nexts .entry)) → ((x : ℕ) → x < count → S .statement t x ≡ statementAt (now (set .entry)) (first + x))
+        → WritesTree (placeOf (now (slots .entry))) tree start m (now (out .entry)) n base
+        → WritesTree (placeOf (now (slots .entry))) (chainOf (leadsOf S [] 0 t j) count tree) start m (now (out .exit)) (r .next) (r .at))
+        × (r .next ≤ n + 32) ⌝ }
+{
+    let mut tree = Root { next: n, at: base };
+    let mut i = edges::leading(set, first, nexts, t, j, 0, count);
+    while i < count {
+        let statement = records::statement_at(set, first + (i as u32));
+        let link = edges::leads(statement, slots, t, j, i);
+        tree = put_link(out, tree.next, tree.at, link);
+        i = edges::leading(set, first, nexts, t, j, i + 1, count);
+    }
+    tree
+}
+
+// Writes the links of the flag of statement j over a tree. Where no jump names j only the statement before leads to it.
+fn flag_links(
+    set: &[u8],
+    first: u32,
+    nexts: &[u8],
+    slots: &[u32],
+    out: &mut [u8],
+    t: u8,
+    j: u16,
+    count: u16,
+    n: u32,
+    base: u64,
+) -> Root
+    requires { ⌜ (first < 65536) × (count ≤ 32) × (j < count) × (n ≤ 1900000000) ⌝ }
+    ensures { λ r. ⌜ ((S : Set) (tree : Term) (start : List ℕ) (m : ℕ) → Nexts S (now (nexts .entry)) → ((x : ℕ) → x < count → S .statement t x ≡ statementAt (now (set .entry)) (first + x))
+        → WritesTree (placeOf (now (slots .entry))) tree start m (now (out .entry)) n base
+        → WritesTree (placeOf (now (slots .entry))) (chainOf (leadsOf S [] 0 t j) count tree) start m (now (out .exit)) (r .next) (r .at))
+        × (r .next ≤ n + 32) ⌝ }
+{
+    let hit = edges::jump_to(set, first, nexts, t, j, 0, count);
+    if hit < count {
+        return jump_links(set, first, nexts, slots, out, t, j, count, n, base);
+    }
+    if 0 < j {
+        let before = j - 1;
+        let statement = records::statement_at(set, first + (before as u32));
+        let link = edges::follows(statement.number, slots, t, before);
+        return put_link(out, n, base, link);
+    }
+    Root { next: n, at: base }
+}
+
+// Writes the flag of statement j of thread t, of `count` statements.
+fn flag(
+    set: &[u8],
+    first: u32,
+    nexts: &[u8],
+    slots: &mut [u32],
+    out: &mut [u8],
+    t: u8,
+    j: u16,
+    count: u16,
+    n: u32,
+) -> u32
+    requires { ⌜ (first < 65536) × (count ≤ 32) × (j < count) × (t < 4) × (n ≤ 1800000000) ⌝ }
+    ensures { λ r. ⌜ ((S : Set) (cs : List ℕ) (k : ℕ) → count ≡ S .count t → Nexts S (now (nexts .entry)) → ((x : ℕ) → x < count → S .statement t x ≡ statementAt (now (set .entry)) (first + x))
+        → length (now (slots .entry)) ≡ size → ((s : Slot) → placeOf (now (slots .entry)) s < n)
+        → Writes (entryOf S cs k flagKind t j) (now (out .entry)) (now (slots .entry)) n (now (out .exit)) (now (slots .exit)) r)
+        × (r ≤ n + 36) ⌝ }
+{
+    let statement = records::statement_at(set, first + (j as u32));
+    let base = bases::put_flag(statement, slots, out, t, j, n);
+    let next = n + base.count;
+    let tree = flag_links(set, first, nexts, slots, out, t, j, count, next, base.root);
+    places::set_place(slots, FLAG, t, j, tree.at);
+    tree.next
+}
+
+// Writes the flags of thread t, of `count` statements.
+fn each_flag(
+    set: &[u8],
+    first: u32,
+    nexts: &[u8],
+    slots: &mut [u32],
+    out: &mut [u8],
+    t: u8,
+    count: u16,
+    n: u32,
+) -> u32
+    requires { ⌜ (first < 65536) × (count ≤ 32) × (t < 4) × (n ≤ 1700000000) ⌝ }
+    ensures { λ r. ⌜ ((S : Set) (cs : List ℕ) (k : ℕ) → count ≡ S .count t → Nexts S (now (nexts .entry)) → ((x : ℕ) → x < count → S .statement t x ≡ statementAt (now (set .entry)) (first + x))
+        → length (now (slots .entry)) ≡ size → ((s : Slot) → placeOf (now (slots .entry)) s < n)
+        → Writes (lineOf S cs k flagKind t) (now (out .entry)) (now (slots .entry)) n (now (out .exit)) (now (slots .exit)) r)
+        × (r ≤ n + 1152) ⌝ }
+{
+    let mut next = n;
+    let mut j: u16 = 0;
+    while j < count {
+        next = flag(set, first, nexts, slots, out, t, j, count, next);
+        j += 1;
+    }
+    next
+}
+
+// An element of an array of words, as a number that is known to be a word.
+fn wide(x: u16) -> u32
+    ensures { λ r. ⌜ (r ≡ x) × (r < 65536) ⌝ }
+{
+    x as u32
+}
+
+// Writes the flags of thread t. The limits are tested here once, so that the compiler leaves out tests of bounds below.
+pub fn flags(
+    set: &[u8],
+    layout: Layout,
+    nexts: &[u8],
+    slots: &mut [u32],
+    out: &mut [u8],
+    t: u8,
+    n: u32,
+) -> u32
+    ensures { λ r. ⌜ ((cs : List ℕ) (k : ℕ) → t < 4 → getD (layout .counts) t 0 ≤ 32 → n ≤ 1700000000
+        → Nexts (setBy (now (set .entry)) layout) (now (nexts .entry))
+        → length (now (slots .entry)) ≡ size → ((s : Slot) → placeOf (now (slots .entry)) s < n)
+        → Writes (lineOf (setBy (now (set .entry)) layout) cs k flagKind t)
+        (now (out .entry)) (now (slots .entry)) n (now (out .exit)) (now (slots .exit)) r)
+        × (n ≤ 1700000000 → r ≤ n + 1152) ⌝ }
+{
+    let thread = t as usize;
+    if 4 <= thread {
+        return n;
+    }
+    let count = layout.counts[thread];
+    if 32 < count {
+        return n;
+    }
+    if slots.len() != 5248 {
+        return n;
+    }
+    if 1700000000 < n {
+        return n;
+    }
+    let first = wide(layout.starts[thread]);
+    each_flag(set, first, nexts, slots, out, t, count, n)
+}

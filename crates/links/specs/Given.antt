@@ -1,0 +1,39 @@
+-- The chains over the statements of a thread: the link that a statement gives, by the kind's number and the statement's instruction. Assumes nothing.
+use Prim.Native.Nat.{ℕ}
+use mathlib.Core.Bool.{Bool, cond, _||_}
+use lib.Dec.{eqb}
+use Rattle.records.specs.Instructions.{STORE, MEM, CAS, HALT, EXIT}
+use Rattle.records.specs.Sets.{Set}
+use Rattle.step.specs.Machine.{needsEmpty}
+use Rattle.table.specs.Formulas.{bitSort, wordSort}
+use Rattle.encoding.specs.Slots.{Kind, Slot, slot, active, swaps, address, loaded, result, accu, yes, argument}
+use Rattle.encoding.specs.Steps.{Link, skip, ifThen, only, setsAccu}
+
+-- where the test holds: if the statement executes, or is a CAS that matches, then the effect
+abbrev pub givenIf : Bool → ℕ → Kind → (t i : ℕ) → Slot → Link
+givenIf counts sort kind t i effect = cond counts (ifThen sort (slot kind t i) effect) skip
+
+-- the link that statement i of thread t gives, where it is instruction n; of other kinds no statement gives one
+abbrev pub givenLink : (kind t i n : ℕ) → Link
+givenLink kind t i n =
+    cond (eqb kind 4) (givenIf (needsEmpty n) bitSort active t i (only yes))
+    (cond (eqb kind 18) (givenIf (eqb n CAS) wordSort swaps t i (slot address t i))
+    (cond (eqb kind 20) (givenIf (eqb n CAS) wordSort swaps t i (slot accu t 0))
+    (cond (eqb kind 22) (givenIf (eqb n EXIT) bitSort active t i (only yes))
+    (cond (eqb kind 23) (givenIf (eqb n EXIT) wordSort active t i (slot argument t i))
+    (cond (eqb kind 25) (givenIf (eqb n STORE) wordSort active t i (slot accu t 0))
+    (cond (eqb kind 26) (givenIf (eqb n STORE) wordSort active t i (slot address t i))
+    (cond (eqb kind 27) (givenIf (eqb n MEM) wordSort active t i (slot loaded t i))
+    (cond (eqb kind 28) (givenIf (setsAccu n) wordSort active t i (slot result t i))
+    (cond (eqb kind 29) (givenIf (eqb n STORE) bitSort active t i (only yes))
+    (cond (eqb kind 30) (givenIf (eqb n HALT) bitSort active t i (only yes)) skip))))))))))
+
+-- the links that the statements of thread t give to the chain of a kind
+abbrev pub givenBy : Set → (kind t i : ℕ) → Link
+givenBy S kind t i = givenLink kind t i (S .statement t i .number)
+
+-- the kinds by number to which `givenLink` gives links: those of shape perThread, then those of shape beforeThread
+abbrev pub given : ℕ → Bool
+given kind =
+    eqb kind 4 || eqb kind 25 || eqb kind 26 || eqb kind 27 || eqb kind 28 || eqb kind 29 || eqb kind 30
+    || eqb kind 18 || eqb kind 20 || eqb kind 22 || eqb kind 23

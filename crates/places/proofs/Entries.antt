@@ -1,0 +1,203 @@
+-- Entries, lines and blocks: their number, what they depend on, and how they are written. Assumes nothing.
+use Prim.Native.Nat.{ℕ, _+_, _-_, _≤_, _<_}
+use mathlib.Core.Path.{_≡_, refl, ap, sym, _∙_, subst}
+use mathlib.Core.Bool.{Bool, true, false, cond, not, _&&_, _||_, true≢false}
+use mathlib.Core.List.{List, [], _∷_}
+use native.Mathlib.Omega.{arith}
+use lib.Dec.{eqb}
+use lib.ListN.{length}
+use borrow.Author.Tests.{eqb-true}
+use Rattle.base.specs.Below.{every}
+use Rattle.base.proofs.Below.{every-at}
+use Rattle.base.proofs.Choice.{cond-both, chosen, passed, and-left, and-right}
+use Rattle.records.specs.Sets.{Set}
+use Rattle.table.specs.Programs.{next, Command, sets, put, compiled, nextAfter, placesAfter}
+use Rattle.encoding.specs.Slots.{Kind, choice, active, opening, shut, barred, held, waits, may, none, fit, one, address, loaded, swaps, result, test, untest, flushTo, writeTo, flushValue, writeValue, raised, exits, codes, heap, val, adr, mem, accu, full, halted, flag, mark, halts, ended, code, no, yes, nought, unit, argument, Slot, slot, same, Term, kinds, kindAt}
+use Rattle.encoding.specs.Steps.{Shape, perChoice, perThread, perStatement, perCheckpoint, perMark, beforeThread, beforeChoice, single, shape, chain, link, links, base, tree, rows, columns, kept, entry, line, leads}
+use Rattle.places.specs.Places.{placeOf}
+use Rattle.places.specs.Pieces.{Writes, WritesTree}
+use Rattle.places.proofs.Pieces.{writes-none}
+
+-- ---- limits
+
+module _ (S : Set) (cs : List ℕ) (four : S .threads ≤ 4) (few : (t : ℕ) → S .count t ≤ 32) (points : length cs ≤ 8) where
+  before : (t : ℕ) → cond (eqb t 0) 0 (S .count (t - 1)) ≤ 32
+  before t = cond-both (λ (n : ℕ). n ≤ 32) (eqb t 0) (omega arith) (few (t - 1))
+
+  -- a chain has at most 32 links
+  pub links-most : (kind : Kind) (a b : ℕ) → links S cs 0 kind a b ≤ 32
+  links-most choice a b = omega arith
+  links-most active a b = omega arith
+  links-most opening a b = omega arith
+  links-most shut a b = omega arith
+  links-most barred a b = few a
+  links-most held a b = omega arith
+  links-most waits a b = omega arith
+  links-most may a b = omega arith
+  links-most none a b = omega arith
+  links-most fit a b = omega arith
+  links-most one a b = omega arith
+  links-most address a b = omega arith
+  links-most loaded a b = omega arith
+  links-most swaps a b = omega arith
+  links-most result a b = omega arith
+  links-most test a b = omega arith
+  links-most untest a b = omega arith
+  links-most flushTo a b = omega arith
+  links-most writeTo a b = before b
+  links-most flushValue a b = omega arith
+  links-most writeValue a b = before b
+  links-most raised a b = few a
+  links-most exits a b = before b
+  links-most codes a b = before b
+  links-most heap a b = omega arith
+  links-most val a b = few a
+  links-most adr a b = few a
+  links-most mem a b = few a
+  links-most accu a b = few a
+  links-most full a b = few a
+  links-most halted a b = few a
+  links-most flag a b = few a
+  links-most mark a b = omega arith
+  links-most halts a b = omega arith
+  links-most ended a b = omega arith
+  links-most code a b = omega arith
+  links-most no a b = omega arith
+  links-most yes a b = omega arith
+  links-most nought a b = omega arith
+  links-most unit a b = omega arith
+  links-most argument a b = omega arith
+
+  pub columns-most : (s : Shape) (a : ℕ) → columns S cs 0 s a ≤ 32
+  columns-most perChoice a = omega arith
+  columns-most perThread a = omega arith
+  columns-most perStatement a = few a
+  columns-most perCheckpoint a = omega arith
+  columns-most perMark a = omega arith
+  columns-most beforeThread a = omega arith
+  columns-most beforeChoice a = omega arith
+  columns-most single a = omega arith
+
+  pub rows-most : (s : Shape) → rows S cs 0 s ≤ 4
+  rows-most perChoice = omega arith
+  rows-most perThread = four
+  rows-most perStatement = four
+  rows-most perCheckpoint = omega arith
+  rows-most perMark = four
+  rows-most beforeThread = omega arith
+  rows-most beforeChoice = omega arith
+  rows-most single = omega arith
+
+-- ---- only a base depends on the step
+
+module _ (S : Set) (cs : List ℕ) (k : ℕ) where
+  pub rows-step : (s : Shape) → rows S cs 0 s ≡ rows S cs k s
+  rows-step perChoice = refl
+  rows-step perThread = refl
+  rows-step perStatement = refl
+  rows-step perCheckpoint = refl
+  rows-step perMark = refl
+  rows-step beforeThread = refl
+  rows-step beforeChoice = refl
+  rows-step single = refl
+
+  pub columns-step : (s : Shape) (a : ℕ) → columns S cs 0 s a ≡ columns S cs k s a
+  columns-step perChoice a = refl
+  columns-step perThread a = refl
+  columns-step perStatement a = refl
+  columns-step perCheckpoint a = refl
+  columns-step perMark a = refl
+  columns-step beforeThread a = refl
+  columns-step beforeChoice a = refl
+  columns-step single a = refl
+
+  pub kept-step : (s : Shape) (a b : ℕ) → kept S cs 0 s a b ≡ kept S cs k s a b
+  kept-step perChoice a b = refl
+  kept-step perThread a b = refl
+  kept-step perStatement a b = refl
+  kept-step perCheckpoint a b = refl
+  kept-step perMark a b = refl
+  kept-step beforeThread a b = refl
+  kept-step beforeChoice a b = refl
+  kept-step single a b = refl
+
+  -- a kind's tree, its links as the code asks for them
+  pub tree-step : (kind : Kind) (a b : ℕ) → chain (link S cs 0 kind a b) (links S cs 0 kind a b) (base S cs k kind a b) ≡ tree S cs k kind a b
+  tree-step choice a b = refl
+  tree-step active a b = refl
+  tree-step opening a b = refl
+  tree-step shut a b = refl
+  tree-step barred a b = refl
+  tree-step held a b = refl
+  tree-step waits a b = refl
+  tree-step may a b = refl
+  tree-step none a b = refl
+  tree-step fit a b = refl
+  tree-step one a b = refl
+  tree-step address a b = refl
+  tree-step loaded a b = refl
+  tree-step swaps a b = refl
+  tree-step result a b = refl
+  tree-step test a b = refl
+  tree-step untest a b = refl
+  tree-step flushTo a b = refl
+  tree-step writeTo a b = refl
+  tree-step flushValue a b = refl
+  tree-step writeValue a b = refl
+  tree-step raised a b = refl
+  tree-step exits a b = refl
+  tree-step codes a b = refl
+  tree-step heap a b = refl
+  tree-step val a b = refl
+  tree-step adr a b = refl
+  tree-step mem a b = refl
+  tree-step accu a b = refl
+  tree-step full a b = refl
+  tree-step halted a b = refl
+  tree-step flag a b = refl
+  tree-step mark a b = refl
+  tree-step halts a b = refl
+  tree-step ended a b = refl
+  tree-step code a b = refl
+  tree-step no a b = refl
+  tree-step yes a b = refl
+  tree-step nought a b = refl
+  tree-step unit a b = refl
+  tree-step argument a b = refl
+
+-- ---- one entry
+
+-- a kind's tree as the code writes it
+abbrev pub treeOf : Set → List ℕ → ℕ → Kind → (a b : ℕ) → Term
+treeOf S cs k kind a b = chain (link S cs 0 kind a b) (links S cs 0 kind a b) (base S cs k kind a b)
+
+module _ (S : Set) (cs : List ℕ) (k : ℕ) (kind : Kind) (a b : ℕ) (out slots : List ℕ) (n : ℕ) where
+  pub entry-none : kept S cs 0 (shape kind) a b ≡ false → Writes (entry S cs k kind a b) out slots n out slots n
+  entry-none e =
+      subst (λ (P : List (Command Slot)). Writes P out slots n out slots n) (sym (passed _ _ (sym (kept-step S cs k (shape kind) a b) ∙ e)))
+      (writes-none out slots n)
+
+  set-written : (t : Term) (after slotsAfter : List ℕ) (m at : ℕ) → WritesTree (placeOf slots) t out n after m at →
+      placeOf slotsAfter ≡ put same (placeOf slots) (slot kind a b) at → length slotsAfter ≡ length slots →
+      Writes (sets (slot kind a b) t ∷ []) out slots n after slotsAfter m
+  unfolding compiled placesAfter nextAfter
+  set-written t after slotsAfter m at w p l = record {
+    written = w .treeWritten;
+    places = p ∙ ap (put same (placeOf slots) (slot kind a b)) (w .treeRoot);
+    next = w .treeNext;
+    slotsStay = l;
+  }
+
+  pub entry-kept : (after slotsAfter : List ℕ) (m at : ℕ) → kept S cs 0 (shape kind) a b ≡ true → WritesTree (placeOf slots) (treeOf S cs k kind a b) out n after m at →
+      placeOf slotsAfter ≡ put same (placeOf slots) (slot kind a b) at → length slotsAfter ≡ length slots →
+      Writes (entry S cs k kind a b) out slots n after slotsAfter m
+  entry-kept after slotsAfter m at e w p l =
+      subst (λ (P : List (Command Slot)). Writes P out slots n after slotsAfter m) (sym (chosen _ _ (sym (kept-step S cs k (shape kind) a b) ∙ e)))
+      (subst (λ (t : Term). Writes (sets (slot kind a b) t ∷ []) out slots n after slotsAfter m) (tree-step S cs k kind a b)
+      (set-written (treeOf S cs k kind a b) after slotsAfter m at w p l))
+
+-- the line of a kind by number
+pub line-at : (S : Set) (cs : List ℕ) (k kind l a : ℕ) → kind ≡ l → (out slots : List ℕ) (n : ℕ) (after slotsAfter : List ℕ) (m : ℕ) →
+    Writes (line S cs k (kindAt l) a) out slots n after slotsAfter m → Writes (line S cs k (kindAt kind) a) out slots n after slotsAfter m
+line-at S cs k kind l a e out slots n after slotsAfter m w =
+    subst (λ (i : ℕ). Writes (line S cs k (kindAt i) a) out slots n after slotsAfter m) (sym e) w

@@ -1,0 +1,2 @@
+-- Laws of the kinds that have one value for each statement.
+pub mod Values

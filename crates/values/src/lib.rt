@@ -1,0 +1,268 @@
+// The values that each statement has, written for one thread. Each kind has its own loop: one loop for all kinds, which
+// tests the kind for each value, is too slow.
+ghost use mathlib.Core.Path.{_≡_};
+ghost use mathlib.Core.Bool.{true};
+ghost use mathlib.Core.List.{List};
+ghost use Prim.Native.Nat.{ℕ, _+_, _≤_, _<_};
+ghost use lib.ListN.{length, getD};
+ghost use Rattle.records.specs.Sets.{Set, setBy};
+ghost use Rattle.encoding.specs.Slots.{Slot, kindAt, active, address, loaded, swaps, result, test, untest, argument};
+ghost use Rattle.encoding.specs.Steps.{base as baseOf, entry as entryOf, line as lineOf};
+ghost use Rattle.places.specs.Places.{placeOf, size};
+ghost use Rattle.places.specs.Pieces.{Writes};
+ghost use Rattle.bases.specs.Fews.{Puts, ofStatement};
+ghost use Rattle.values.specs.Lines.{Line};
+use bases::Written;
+use places::kinds;
+use records::Layout;
+
+// Sets the place of a value whose tree was written from index n on; gives the next index.
+fn settle(slots: &mut [u32], kind: u8, t: u8, i: u16, n: u32, tree: Written) -> u32
+    requires { ⌜ (n ≤ 1800000000) × (tree .count ≤ 4) ⌝ }
+    ensures { λ r. ⌜ ((S : Set) (cs : List ℕ) (k : ℕ) (out after : List ℕ) → kind < 41 → ofStatement kind ≡ true → t < 4 → i < 32
+        → length (now (slots .entry)) ≡ size → ((s : Slot) → placeOf (now (slots .entry)) s < n)
+        → Puts tree (placeOf (now (slots .entry))) n (baseOf S cs k (kindAt kind) t i) out after
+        → Writes (entryOf S cs k (kindAt kind) t i) out (now (slots .entry)) n after (now (slots .exit)) r)
+        × (length (now (slots .exit)) ≡ length (now (slots .entry)))
+        × (r ≤ n + 4) ⌝ }
+{
+    places::set_place(slots, kind, t, i, tree.root);
+    n + tree.count
+}
+
+// Whether each statement executes.
+fn actives(
+    set: &[u8],
+    first: u16,
+    count: u16,
+    slots: &mut [u32],
+    out: &mut [u8],
+    t: u8,
+    n: u32,
+) -> u32
+    requires { ⌜ (count ≤ 32) × (t < 4) × (n ≤ 1700000000) × (length (now slots) ≡ size) ⌝ }
+    ensures { λ r. ⌜ (Line active (now (set .entry)) first count t (now (out .entry)) (now (slots .entry)) n (now (out .exit)) (now (slots .exit)) r) × (r ≤ n + 1152) ⌝ }
+{
+    let mut next = n;
+    let mut i: u16 = 0;
+    while i < count {
+        let tree = bases::put_active(slots, out, t, i, next);
+        next = settle(slots, kinds::ACTIVE, t, i, next, tree);
+        i += 1;
+    }
+    next
+}
+
+// The address of each statement.
+fn addresses(
+    set: &[u8],
+    first: u16,
+    count: u16,
+    slots: &mut [u32],
+    out: &mut [u8],
+    t: u8,
+    n: u32,
+) -> u32
+    requires { ⌜ (count ≤ 32) × (t < 4) × (n ≤ 1700000000) × (length (now slots) ≡ size) ⌝ }
+    ensures { λ r. ⌜ (Line address (now (set .entry)) first count t (now (out .entry)) (now (slots .entry)) n (now (out .exit)) (now (slots .exit)) r) × (r ≤ n + 1152) ⌝ }
+{
+    let mut next = n;
+    let mut i: u16 = 0;
+    while i < count {
+        let statement = records::statement_at(set, (first as u32) + (i as u32));
+        let tree = bases::put_address(statement, slots, out, t, i, next);
+        next = settle(slots, kinds::ADDRESS, t, i, next, tree);
+        i += 1;
+    }
+    next
+}
+
+// The word that each statement loads.
+fn loads(
+    set: &[u8],
+    first: u16,
+    count: u16,
+    slots: &mut [u32],
+    out: &mut [u8],
+    t: u8,
+    n: u32,
+) -> u32
+    requires { ⌜ (count ≤ 32) × (t < 4) × (n ≤ 1700000000) × (length (now slots) ≡ size) ⌝ }
+    ensures { λ r. ⌜ (Line loaded (now (set .entry)) first count t (now (out .entry)) (now (slots .entry)) n (now (out .exit)) (now (slots .exit)) r) × (r ≤ n + 1152) ⌝ }
+{
+    let mut next = n;
+    let mut i: u16 = 0;
+    while i < count {
+        let statement = records::statement_at(set, (first as u32) + (i as u32));
+        let tree = bases::put_loaded(statement, slots, out, t, i, next);
+        next = settle(slots, kinds::LOADED, t, i, next, tree);
+        i += 1;
+    }
+    next
+}
+
+// Whether each statement is a CAS that executes and matches.
+fn swaps(
+    set: &[u8],
+    first: u16,
+    count: u16,
+    slots: &mut [u32],
+    out: &mut [u8],
+    t: u8,
+    n: u32,
+) -> u32
+    requires { ⌜ (count ≤ 32) × (t < 4) × (n ≤ 1700000000) × (length (now slots) ≡ size) ⌝ }
+    ensures { λ r. ⌜ (Line swaps (now (set .entry)) first count t (now (out .entry)) (now (slots .entry)) n (now (out .exit)) (now (slots .exit)) r) × (r ≤ n + 1152) ⌝ }
+{
+    let mut next = n;
+    let mut i: u16 = 0;
+    while i < count {
+        let statement = records::statement_at(set, (first as u32) + (i as u32));
+        let tree = bases::put_swaps(statement, slots, out, t, i, next);
+        next = settle(slots, kinds::SWAPS, t, i, next, tree);
+        i += 1;
+    }
+    next
+}
+
+// What accu becomes by each statement.
+fn results(
+    set: &[u8],
+    first: u16,
+    count: u16,
+    slots: &mut [u32],
+    out: &mut [u8],
+    t: u8,
+    n: u32,
+) -> u32
+    requires { ⌜ (count ≤ 32) × (t < 4) × (n ≤ 1700000000) × (length (now slots) ≡ size) ⌝ }
+    ensures { λ r. ⌜ (Line result (now (set .entry)) first count t (now (out .entry)) (now (slots .entry)) n (now (out .exit)) (now (slots .exit)) r) × (r ≤ n + 1152) ⌝ }
+{
+    let mut next = n;
+    let mut i: u16 = 0;
+    while i < count {
+        let statement = records::statement_at(set, (first as u32) + (i as u32));
+        let tree = bases::put_result(statement, slots, out, t, i, next);
+        next = settle(slots, kinds::RESULT, t, i, next, tree);
+        i += 1;
+    }
+    next
+}
+
+// The test of each statement.
+fn tests(
+    set: &[u8],
+    first: u16,
+    count: u16,
+    slots: &mut [u32],
+    out: &mut [u8],
+    t: u8,
+    n: u32,
+) -> u32
+    requires { ⌜ (count ≤ 32) × (t < 4) × (n ≤ 1700000000) × (length (now slots) ≡ size) ⌝ }
+    ensures { λ r. ⌜ (Line test (now (set .entry)) first count t (now (out .entry)) (now (slots .entry)) n (now (out .exit)) (now (slots .exit)) r) × (r ≤ n + 1152) ⌝ }
+{
+    let mut next = n;
+    let mut i: u16 = 0;
+    while i < count {
+        let statement = records::statement_at(set, (first as u32) + (i as u32));
+        let tree = bases::put_test(statement, slots, out, t, i, next);
+        next = settle(slots, kinds::TEST, t, i, next, tree);
+        i += 1;
+    }
+    next
+}
+
+// Whether the test of each statement does not hold.
+fn untests(
+    set: &[u8],
+    first: u16,
+    count: u16,
+    slots: &mut [u32],
+    out: &mut [u8],
+    t: u8,
+    n: u32,
+) -> u32
+    requires { ⌜ (count ≤ 32) × (t < 4) × (n ≤ 1700000000) × (length (now slots) ≡ size) ⌝ }
+    ensures { λ r. ⌜ (Line untest (now (set .entry)) first count t (now (out .entry)) (now (slots .entry)) n (now (out .exit)) (now (slots .exit)) r) × (r ≤ n + 1152) ⌝ }
+{
+    let mut next = n;
+    let mut i: u16 = 0;
+    while i < count {
+        let statement = records::statement_at(set, (first as u32) + (i as u32));
+        let tree = bases::put_untest(statement, slots, out, t, i, next);
+        next = settle(slots, kinds::UNTEST, t, i, next, tree);
+        i += 1;
+    }
+    next
+}
+
+// The argument of each statement.
+fn arguments(
+    set: &[u8],
+    first: u16,
+    count: u16,
+    slots: &mut [u32],
+    out: &mut [u8],
+    t: u8,
+    n: u32,
+) -> u32
+    requires { ⌜ (count ≤ 32) × (t < 4) × (n ≤ 1700000000) × (length (now slots) ≡ size) ⌝ }
+    ensures { λ r. ⌜ (Line argument (now (set .entry)) first count t (now (out .entry)) (now (slots .entry)) n (now (out .exit)) (now (slots .exit)) r) × (r ≤ n + 1152) ⌝ }
+{
+    let mut next = n;
+    let mut i: u16 = 0;
+    while i < count {
+        let statement = records::statement_at(set, (first as u32) + (i as u32));
+        let tree = bases::put_argument(statement, out, next);
+        next = settle(slots, kinds::ARGUMENT, t, i, next, tree);
+        i += 1;
+    }
+    next
+}
+
+// Writes the values of a kind for the statements of thread t, their records from index n on; gives the next index.
+// The limits are tested here once, so that the compiler need not test bounds in the loops.
+pub fn statement_line(
+    set: &[u8],
+    layout: Layout,
+    slots: &mut [u32],
+    out: &mut [u8],
+    kind: u8,
+    t: u8,
+    n: u32,
+) -> u32
+    ensures { λ r. ⌜ ((cs : List ℕ) (k : ℕ) → ofStatement kind ≡ true → t < 4 → getD (layout .counts) t 0 ≤ 32 → n ≤ 1700000000
+        → length (now (slots .entry)) ≡ size → ((s : Slot) → placeOf (now (slots .entry)) s < n)
+        → Writes (lineOf (setBy (now (set .entry)) layout) cs k (kindAt kind) t) (now (out .entry)) (now (slots .entry)) n (now (out .exit)) (now (slots .exit)) r)
+        × (n ≤ 1700000000 → r ≤ n + 1152) ⌝ }
+{
+    if 4 <= t {
+        return n;
+    }
+    let thread = t as usize;
+    let counts = layout.counts;
+    let count = counts[thread];
+    if 32 < count {
+        return n;
+    }
+    if slots.len() != 5248 {
+        return n;
+    }
+    if 1700000000 < n {
+        return n;
+    }
+    let starts = layout.starts;
+    let first = starts[thread];
+    match kind {
+        kinds::ACTIVE => actives(set, first, count, slots, out, t, n),
+        kinds::ADDRESS => addresses(set, first, count, slots, out, t, n),
+        kinds::LOADED => loads(set, first, count, slots, out, t, n),
+        kinds::SWAPS => swaps(set, first, count, slots, out, t, n),
+        kinds::RESULT => results(set, first, count, slots, out, t, n),
+        kinds::TEST => tests(set, first, count, slots, out, t, n),
+        kinds::UNTEST => untests(set, first, count, slots, out, t, n),
+        kinds::ARGUMENT => arguments(set, first, count, slots, out, t, n),
+        _ => n,
+    }
+}
