@@ -1,11 +1,12 @@
 -- A value of a table whose links the statements of a thread give. Assumes nothing.
-use Prim.Native.Nat.{ℕ, _<_}
+use Prim.Native.Nat.{ℕ, _+_, _<_}
 use mathlib.Core.Path.{_≡_}
-use mathlib.Core.Bool.{true, false}
+use mathlib.Core.Bool.{Bool, true, false, _||_}
 use mathlib.Core.List.{List}
+use lib.Dec.{eqb}
 use Rattle.records.specs.Sets.{Set}
 use Rattle.encoding.specs.Slots.{kindAt}
-use Rattle.encoding.specs.Steps.{shape, link, links, kept}
+use Rattle.encoding.specs.Steps.{perThread, beforeThread, shape, link, links, kept}
 use Rattle.bases.specs.Fews.{ofStatement}
 use Rattle.links.specs.Given.{givenBy}
 
@@ -17,3 +18,22 @@ pub record GivenEntry (S : Set) (cs : List ℕ) (kind a b t : ℕ) : Type 0 wher
   pub known : kind < 41
   pub plain : ofStatement kind ≡ false
   pub noFlag : kind ≡ 31 → ⊥
+
+-- the kinds by number that have one value for each thread, whose links the thread's statements give
+abbrev pub byThread : ℕ → Bool
+byThread kind = eqb kind 4 || eqb kind 25 || eqb kind 26 || eqb kind 27 || eqb kind 28 || eqb kind 29 || eqb kind 30
+
+pub record ByThread (S : Set) (cs : List ℕ) (kind : ℕ) : Type 0 where
+  pub own : (t : ℕ) → GivenEntry S cs kind t 0 t
+  pub each : shape (kindAt kind) ≡ perThread
+
+-- those that have one before the first thread, without links, and one after each thread, whose links its statements give
+abbrev pub afterThread : ℕ → Bool
+afterThread kind = eqb kind 18 || eqb kind 20 || eqb kind 22 || eqb kind 23
+
+pub record AfterThread (S : Set) (cs : List ℕ) (kind : ℕ) : Type 0 where
+  pub next : (b t : ℕ) → b ≡ t + 1 → GivenEntry S cs kind 0 b t
+  pub before : shape (kindAt kind) ≡ beforeThread
+  pub linkless : links S cs 0 (kindAt kind) 0 0 ≡ 0
+  pub other : ofStatement kind ≡ false
+  pub noFlags : kind ≡ 31 → ⊥

@@ -12,14 +12,14 @@ ghost use Rattle.table.specs.Repeats.{movedBy};
 ghost use Rattle.table.specs.Programs.{leafFormula, choiceBit, needs, aims, upto, compiled, nextAfter};
 ghost use Rattle.encoding.specs.Encodings.{mapDemand, starting, goalTree, firsts as firstsOf, encoded as encodedOf};
 ghost use Rattle.encoding.specs.Slots.{Slot, same, Term, kindAt, code as codeKind};
-ghost use Rattle.encoding.specs.Steps.{shape, perThread, beforeThread, only, word0, chain as chainOf, link as linkOf, links as linksOf, entry as entryOf, line as lineOf, block as blockOf, blocks as blocksOf, ruled, step as stepOf};
+ghost use Rattle.encoding.specs.Steps.{only, word0, chain as chainOf, link as linkOf, links as linksOf, entry as entryOf, line as lineOf, block as blockOf, blocks as blocksOf, ruled, step as stepOf};
 ghost use Rattle.places.specs.Places.{placeOf, listed, size as placesCount};
 ghost use Rattle.bases.specs.Fews.{ofStatement};
 ghost use Rattle.links.specs.Given.{given};
 ghost use Rattle.links.specs.Nexts.{Nexts};
 ghost use Rattle.encoder.specs.Answers.{sizeAnswer, encodeAnswer, tableOutput};
 ghost use Rattle.places.specs.Pieces.{Writes, WritesTree, Limits};
-ghost use Rattle.encoder.specs.Entries.{GivenEntry};
+ghost use Rattle.encoder.specs.Entries.{GivenEntry, byThread, ByThread, afterThread, AfterThread};
 ghost use Rattle.encoder.specs.Repeating.{Started, Stepped, Ended};
 use links::Root;
 use links::put_link;
@@ -253,7 +253,7 @@ fn register_block(
     kind: u8,
     n: u32,
 ) -> u32
-    requires { ⌜ (Limits layout points (now slots) n) × (n ≤ 1600000000) × (kind < 41) × (Nexts (setBy (now set) layout) (now nexts)) × ((t : ℕ) → GivenEntry (setBy (now set) layout) (listed points) kind t 0 t) × (shape (kindAt kind) ≡ perThread) ⌝ }
+    requires { ⌜ (Limits layout points (now slots) n) × (n ≤ 1600000000) × (kind < 41) × (Nexts (setBy (now set) layout) (now nexts)) × (ByThread (setBy (now set) layout) (listed points) kind) ⌝ }
     ensures { λ r. ⌜ (Writes (blockOf (setBy (now (set .entry)) layout) (listed points) step (kindAt kind))
         (now (out .entry)) (now (slots .entry)) n (now (out .exit)) (now (slots .exit)) r)
         × (r ≤ n + 4608) ⌝ }
@@ -297,7 +297,7 @@ fn running_block(
     kind: u8,
     n: u32,
 ) -> u32
-    requires { ⌜ (Limits layout points (now slots) n) × (n ≤ 1600000000) × (kind < 41) × (Nexts (setBy (now set) layout) (now nexts)) × ((b t : ℕ) → b ≡ t + 1 → GivenEntry (setBy (now set) layout) (listed points) kind 0 b t) × (shape (kindAt kind) ≡ beforeThread) × (ofStatement kind ≡ false) × (kind ≡ 31 → ⊥) × (linksOf (setBy (now set) layout) (listed points) 0 (kindAt kind) 0 0 ≡ 0) ⌝ }
+    requires { ⌜ (Limits layout points (now slots) n) × (n ≤ 1600000000) × (kind < 41) × (Nexts (setBy (now set) layout) (now nexts)) × (AfterThread (setBy (now set) layout) (listed points) kind) ⌝ }
     ensures { λ r. ⌜ (Writes (blockOf (setBy (now (set .entry)) layout) (listed points) step (kindAt kind))
         (now (out .entry)) (now (slots .entry)) n (now (out .exit)) (now (slots .exit)) r)
         × (r ≤ n + 4608) ⌝ }
@@ -382,6 +382,26 @@ fn flag_block(
     next
 }
 
+// Whether a kind has one value for each thread, whose links the thread's statements give.
+fn by_thread(kind: u8) -> bool
+    ensures { λ r. ⌜ r ≡ byThread kind ⌝ }
+{
+    (kind == BARRED)
+        | (kind == VAL)
+        | (kind == ADR)
+        | (kind == MEM)
+        | (kind == ACCU)
+        | (kind == FULL)
+        | (kind == HALTED)
+}
+
+// Whether it has one before the first thread and one after each, whose links the thread's statements give.
+fn after_thread(kind: u8) -> bool
+    ensures { λ r. ⌜ r ≡ afterThread kind ⌝ }
+{
+    (kind == WRITE_TO) | (kind == WRITE_VALUE) | (kind == EXITS) | (kind == CODES)
+}
+
 // Writes all values of a kind. Each sort of kind has its own loop: with one loop for all, the compiler keeps what each needs at hand for the others too.
 fn block(
     set: &[u8],
@@ -406,21 +426,16 @@ fn block(
     if bases::of_statement(kind) {
         return statement_block(set, layout, points, nexts, slots, out, step, kind, n);
     }
-    match kind {
-        BARRED => register_block(set, layout, points, nexts, slots, out, step, BARRED, n),
-        VAL => register_block(set, layout, points, nexts, slots, out, step, VAL, n),
-        ADR => register_block(set, layout, points, nexts, slots, out, step, ADR, n),
-        MEM => register_block(set, layout, points, nexts, slots, out, step, MEM, n),
-        ACCU => register_block(set, layout, points, nexts, slots, out, step, ACCU, n),
-        FULL => register_block(set, layout, points, nexts, slots, out, step, FULL, n),
-        HALTED => register_block(set, layout, points, nexts, slots, out, step, HALTED, n),
-        WRITE_TO => running_block(set, layout, points, nexts, slots, out, step, WRITE_TO, n),
-        WRITE_VALUE => running_block(set, layout, points, nexts, slots, out, step, WRITE_VALUE, n),
-        EXITS => running_block(set, layout, points, nexts, slots, out, step, EXITS, n),
-        CODES => running_block(set, layout, points, nexts, slots, out, step, CODES, n),
-        FLAG => flag_block(set, layout, points, nexts, slots, out, step, n),
-        _ => plain_block(set, layout, points, nexts, slots, out, step, kind, n),
+    if by_thread(kind) {
+        return register_block(set, layout, points, nexts, slots, out, step, kind, n);
     }
+    if after_thread(kind) {
+        return running_block(set, layout, points, nexts, slots, out, step, kind, n);
+    }
+    if kind == FLAG {
+        return flag_block(set, layout, points, nexts, slots, out, step, n);
+    }
+    plain_block(set, layout, points, nexts, slots, out, step, kind, n)
 }
 
 // Writes all values of some kinds.

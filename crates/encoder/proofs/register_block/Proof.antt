@@ -51,7 +51,7 @@ given-entry-requires c κs =
     let l = c .before .before .before .before .before .loop in
     let q = c .before .before .before .before .before .before .before .before .before .before .pre in
     let first = c .before .before .before .first .ensures in
-    (l .inv .5, omega arith, omega arith, omega arith, q .3, q .4 (l .t), omega arith, first .0, first .1, c .before .before .count .ensures)
+    (l .inv .5, omega arith, omega arith, omega arith, q .3, q .4 .own (l .t), omega arith, first .0, first .1, c .before .before .count .ensures)
 
 add-t : tie.Need-add-t Inv-loop μ-loop
 add-t c = search needs
@@ -67,7 +67,7 @@ loop-again c =
     let r = c .before .before .before .before .given-entry in
     let S = setBy (now (a .set)) (a .layout) in
     let f = line S (listed (a .points)) (a .step) (kindAt (a .kind)) in
-    let w = line-one S (listed (a .points)) (a .step) (a .kind) _ _ _ _ _ _ (q .5) (l .t) (r .ensures .0) in (
+    let w = line-one S (listed (a .points)) (a .step) (a .kind) _ _ _ _ _ _ (q .4 .each) (l .t) (r .ensures .0) in (
       omega arith,
       l .inv .1,
       omega arith,
@@ -90,7 +90,7 @@ returns c =
     let l = c .before .loop in
     let S = setBy (now (a .set)) (a .layout) in
     let t-is : l .t ≡ a .layout .threads = omega arith in
-    (registers S (listed (a .points)) (a .step) (a .kind) _ _ _ _ _ _ (q .5) (l .t) t-is (l .inv .6), omega arith)
+    (registers S (listed (a .points)) (a .step) (a .kind) _ _ _ _ _ _ (q .4 .each) (l .t) t-is (l .inv .6), omega arith)
 
 pub register-block-spec : {M : Type 1} → statement M
 register-block-spec =

@@ -36,7 +36,7 @@ abbrev μ-loop : tie.MeasureT-loop
 entry-requires : tie.Need-entry-requires Inv-loop μ-loop
 entry-requires c κs =
     let q = c .before .before .before .before .before .before .pre in
-    (q .0, omega arith, q .2, omega arith, omega arith, q .3, q .6, q .7, λ e. q .8)
+    (q .0, omega arith, q .2, omega arith, omega arith, q .3, q .4 .other, q .4 .noFlags, λ e. q .4 .linkless)
 
 loop-holds : tie.Need-loop-holds Inv-loop μ-loop
 loop-holds c =
@@ -66,7 +66,7 @@ given-entry-requires c κs =
     let q = c .before .before .before .before .before .before .before .before .before .before .before .before .before .before .before .before .before .pre in
     let r = c .before .before .before .before .before .before .before .before .before .before .entry .ensures .1 in
     let first = c .before .before .before .first .ensures in
-    (l .inv .5, omega arith, omega arith, omega arith, q .3, q .4 (l .t + 1) (l .t) refl, omega arith, first .0, first .1, c .before .before .count .ensures)
+    (l .inv .5, omega arith, omega arith, omega arith, q .3, q .4 .next (l .t + 1) (l .t) refl, omega arith, first .0, first .1, c .before .before .count .ensures)
 
 add-t : tie.Need-add-t Inv-loop μ-loop
 add-t c = search needs
@@ -107,7 +107,7 @@ returns c =
     let begins = writes-more f 0 (now (a .out)) (now (a .slots)) (a .n) _ _ _ _ _ _ (writes-row f (now (a .out)) (now (a .slots)) (a .n)) (r .ensures .0) in
     let first = r .ensures .1 in
     let t-is : l .t ≡ a .layout .threads = omega arith in
-    (running S (listed (a .points)) (a .step) (a .kind) _ _ _ _ _ _ (q .5) (l .t) t-is (l .inv .6 (now (a .out)) (now (a .slots)) (a .n) begins), omega arith)
+    (running S (listed (a .points)) (a .step) (a .kind) _ _ _ _ _ _ (q .4 .before) (l .t) t-is (l .inv .6 (now (a .out)) (now (a .slots)) (a .n) begins), omega arith)
 
 pub running-block-spec : {M : Type 1} → statement M
 running-block-spec =
