@@ -8,7 +8,8 @@ use lib.ListN.{take}
 use Rattle.table.specs.declared.Formula.{Formula}
 use Rattle.table.specs.Formulas.{writtenAt}
 use Rattle.table.specs.Programs.{next, root, records}
-use Rattle.encoding.specs.Slots.{Slot, Term}
+use Rattle.encoding.specs.Slots.{Slot, slot, Term, full, adr, val, heap}
+use Rattle.bases.specs.declared.written.Load.{Load}
 use Rattle.bases.specs.declared.written.Written.{Written}
 
 -- how many records, the index of the tree's own, and the records
@@ -36,6 +37,10 @@ pub record Puts (put : Written) (places : Slot → ℕ) (n : ℕ) (t : Term) (ou
   pub rootPut : put .root ≡ root places n t
   pub countPut : n + put .count ≡ next n t
   pub fewPut : put .count ≤ 4
+
+-- where the values lie that every load of thread t uses
+abbrev pub loadOf : (Slot → ℕ) → ℕ → Load
+loadOf at t = record { full = at (slot full t 0); adr = at (slot adr t 0); val = at (slot val t 0); heap = at (slot heap 0 0) }
 
 -- the kinds by number that have one value for each statement, and no links: active, address to untest, and argument
 abbrev pub ofStatement : ℕ → Bool

@@ -4,10 +4,10 @@ ghost use mathlib.Core.List.{List};
 ghost use Prim.Native.Nat.{ℕ, _≤_};
 ghost use Rattle.records.specs.Sets.{Set};
 ghost use Rattle.table.specs.Programs.{Binary, binaryNumber, binarySort, ref, binary, and2};
-ghost use Rattle.encoding.specs.Slots.{Kind, Slot, slot, kindNumber, startPlace, choice, active, address, loaded, swaps, result, test, untest, flag, accu, argument};
+ghost use Rattle.encoding.specs.Slots.{Kind, Slot, slot, kindNumber, startPlace, choice, active, address, loaded, swaps, result, test, untest, flag, accu, no, nought, argument};
 ghost use Rattle.encoding.specs.Steps.{base as baseOf};
 ghost use Rattle.places.specs.Places.{placeOf};
-ghost use Rattle.bases.specs.Fews.{Puts};
+ghost use Rattle.bases.specs.Fews.{Puts, loadOf};
 use crate::operations::AND;
 use crate::operations::BIT;
 use crate::operations::EQUAL;
@@ -20,8 +20,10 @@ use crate::operations::READ;
 use crate::operations::TIMES;
 use crate::operations::TOP;
 use crate::operations::WORD;
+use crate::written::Load;
 use crate::written::Written;
 use crate::written::formula;
+use crate::written::put_at;
 use crate::written::put_constant;
 use crate::written::put_load;
 use crate::written::put_none;
@@ -66,30 +68,33 @@ pub fn put_address(
     statement: Statement,
     slots: &[u32],
     out: &mut [u8],
+    load: Load,
     t: u8,
     i: u16,
     n: u32,
 ) -> Written
-    ensures { λ r. ⌜ ((S : Set) (cs : List ℕ) (k : ℕ) → statement ≡ S .statement t i → n ≤ 2000000000
+    ensures { λ r. ⌜ ((S : Set) (cs : List ℕ) (k : ℕ) → statement ≡ S .statement t i → load ≡ loadOf (placeOf (now (slots .entry))) t → n ≤ 2000000000
         → Puts r (placeOf (now (slots .entry))) n (baseOf S cs k address t i) (now (out .entry)) (now (out .exit))) × (r .count ≤ 4) ⌝ }
 {
     if statement.mode == 1 {
         let argument = place(slots, ARGUMENT, t, i, 2);
-        return put_load(slots, out, t, argument, n);
+        return put_load(out, load, argument, n);
     }
     put_none(slots, ARGUMENT, t, i, 2)
 }
 
-// The word that a statement loads.
+// The word that a statement loads; `nothing` is where that of others lies.
 pub fn put_loaded(
     statement: Statement,
     slots: &[u32],
     out: &mut [u8],
+    load: Load,
+    nothing: u64,
     t: u8,
     i: u16,
     n: u32,
 ) -> Written
-    ensures { λ r. ⌜ ((S : Set) (cs : List ℕ) (k : ℕ) → statement ≡ S .statement t i → n ≤ 2000000000
+    ensures { λ r. ⌜ ((S : Set) (cs : List ℕ) (k : ℕ) → statement ≡ S .statement t i → load ≡ loadOf (placeOf (now (slots .entry))) t → nothing ≡ placeOf (now (slots .entry)) (slot nought 0 0) → n ≤ 2000000000
         → Puts r (placeOf (now (slots .entry))) n (baseOf S cs k loaded t i) (now (out .entry)) (now (out .exit))) × (r .count ≤ 4) ⌝ }
 {
     let number = statement.number;
@@ -100,21 +105,22 @@ pub fn put_loaded(
         | (number == instructions::MEM)
     {
         let address = place(slots, ADDRESS, t, i, 2);
-        return put_load(slots, out, t, address, n);
+        return put_load(out, load, address, n);
     }
-    put_none(slots, NOUGHT, 0, 0, 2)
+    put_at(nothing)
 }
 
-// A CAS that executes and matches.
+// A CAS that executes and matches; `nothing` is where the bit of others lies.
 pub fn put_swaps(
     statement: Statement,
     slots: &[u32],
     out: &mut [u8],
+    nothing: u64,
     t: u8,
     i: u16,
     n: u32,
 ) -> Written
-    ensures { λ r. ⌜ ((S : Set) (cs : List ℕ) (k : ℕ) → statement ≡ S .statement t i → n ≤ 2000000000
+    ensures { λ r. ⌜ ((S : Set) (cs : List ℕ) (k : ℕ) → statement ≡ S .statement t i → nothing ≡ placeOf (now (slots .entry)) (slot no 0 0) → n ≤ 2000000000
         → Puts r (placeOf (now (slots .entry))) n (baseOf S cs k swaps t i) (now (out .entry)) (now (out .exit))) × (r .count ≤ 4) ⌝ }
 {
     let k = n as u64;
@@ -129,7 +135,7 @@ pub fn put_swaps(
         let third = formula(AND, BIT, active, next, 0);
         return put_three(out, n, first, second, third);
     }
-    put_none(slots, NO, 0, 0, 0)
+    put_at(nothing)
 }
 
 // Accu and another word of the statement, joined.
@@ -180,16 +186,17 @@ pub fn put_result(
     }
 }
 
-// The test of a conditional jump.
+// The test of a conditional jump; `nothing` is where that of others lies.
 pub fn put_test(
     statement: Statement,
     slots: &[u32],
     out: &mut [u8],
+    nothing: u64,
     t: u8,
     i: u16,
     n: u32,
 ) -> Written
-    ensures { λ r. ⌜ ((S : Set) (cs : List ℕ) (k : ℕ) → statement ≡ S .statement t i → n ≤ 2000000000
+    ensures { λ r. ⌜ ((S : Set) (cs : List ℕ) (k : ℕ) → statement ≡ S .statement t i → nothing ≡ placeOf (now (slots .entry)) (slot no 0 0) → n ≤ 2000000000
         → Puts r (placeOf (now (slots .entry))) n (baseOf S cs k test t i) (now (out .entry)) (now (out .exit))) × (r .count ≤ 4) ⌝ }
 {
     let k = n as u64;
@@ -212,19 +219,20 @@ pub fn put_test(
         let third = formula(OR, BIT, k, next, 0);
         return put_three(out, n, first, second, third);
     }
-    put_none(slots, NO, 0, 0, 0)
+    put_at(nothing)
 }
 
-// The test of a conditional jump does not hold.
+// The test of a conditional jump does not hold; `nothing` is where the bit of others lies.
 pub fn put_untest(
     statement: Statement,
     slots: &[u32],
     out: &mut [u8],
+    nothing: u64,
     t: u8,
     i: u16,
     n: u32,
 ) -> Written
-    ensures { λ r. ⌜ ((S : Set) (cs : List ℕ) (k : ℕ) → statement ≡ S .statement t i → n ≤ 2000000000
+    ensures { λ r. ⌜ ((S : Set) (cs : List ℕ) (k : ℕ) → statement ≡ S .statement t i → nothing ≡ placeOf (now (slots .entry)) (slot no 0 0) → n ≤ 2000000000
         → Puts r (placeOf (now (slots .entry))) n (baseOf S cs k untest t i) (now (out .entry)) (now (out .exit))) × (r .count ≤ 4) ⌝ }
 {
     let number = statement.number;
@@ -233,7 +241,7 @@ pub fn put_untest(
         let test = place(slots, TEST, t, i, 0);
         return put_one(out, n, NOT, BIT, test, 0, 0);
     }
-    put_none(slots, NO, 0, 0, 0)
+    put_at(nothing)
 }
 
 // Statement i of thread t is the next one unless the thread executes; HALT and EXIT stay.

@@ -7,7 +7,7 @@ ghost use lib.Dec.{eqb};
 ghost use Rattle.table.specs.Programs.{Binary, binaryNumber, binarySort, ref, leaf, binary, ternary, constantWord, and2, equal2, read2, if3};
 ghost use Rattle.encoding.specs.Slots.{Kind, Slot, slot, Term, kindNumber, startPlace, full, adr, val, heap};
 ghost use Rattle.places.specs.Places.{placeOf};
-ghost use Rattle.bases.specs.Fews.{Gives, Puts, plain, oneFew, threeFew};
+ghost use Rattle.bases.specs.Fews.{Gives, Puts, loadOf, plain, oneFew, threeFew};
 use crate::operations::AND;
 use crate::operations::BIT;
 use crate::operations::CONSTANT;
@@ -62,6 +62,13 @@ pub fn put_none(slots: &[u32], kind: u8, a: u8, b: u16, start: u64) -> Written
     Written { count: 0, root }
 }
 
+// No record: the tree is another value, which lies at `root`.
+pub fn put_at(root: u64) -> Written
+    ensures { λ r. ⌜ ((at : Slot → ℕ) (n : ℕ) (s : Slot) (out : List ℕ) → root ≡ at s → Puts r at n (ref s) out out) × (r .count ≤ 4) ⌝ }
+{
+    Written { count: 0, root }
+}
+
 // One record.
 pub fn put_one(out: &mut [u8], n: u32, operation: u8, sort: u8, a: u64, b: u64, c: u64) -> Written
     ensures { λ r. ⌜ ((at : Slot → ℕ) (t : Term) → Gives (oneFew n (plain operation sort a b c)) at n t → Puts r at n t (now (out .entry)) (now (out .exit))) × (r .count ≤ 4) ⌝ }
@@ -106,17 +113,41 @@ pub fn put_three(out: &mut [u8], n: u32, first: Formula, second: Formula, third:
     }
 }
 
-// A load of the address at index x by thread t: if full and adr is x then val else the cell.
-pub fn put_load(slots: &[u32], out: &mut [u8], t: u8, x: u64, n: u32) -> Written
-    ensures { λ r. ⌜ ((s : Slot) → x ≡ placeOf (now (slots .entry)) s → n ≤ 2000000000 → Puts r (placeOf (now (slots .entry))) n
+// Where the values lie that every load of a thread uses.
+pub struct Load {
+    pub full: u64,
+    pub adr: u64,
+    pub val: u64,
+    pub heap: u64,
+}
+
+// The places for the loads of thread t. A loop over statements asks for them once.
+pub fn load_of(slots: &[u32], t: u8) -> Load
+    ensures { λ r. ⌜ r ≡ loadOf (placeOf (now (slots .entry))) t ⌝ }
+{
+    let full = place(slots, FULL, t, 0, 0);
+    let adr = place(slots, ADR, t, 0, 2);
+    let val = place(slots, VAL, t, 0, 2);
+    let heap = place(slots, HEAP, 0, 0, 3);
+    Load {
+        full,
+        adr,
+        val,
+        heap,
+    }
+}
+
+// A load of the address at index x: if full and adr is x then val else the cell.
+pub fn put_load(out: &mut [u8], load: Load, x: u64, n: u32) -> Written
+    ensures { λ r. ⌜ ((at : Slot → ℕ) (t : ℕ) (s : Slot) → load ≡ loadOf at t → x ≡ at s → n ≤ 2000000000 → Puts r at n
         (ternary (if3 2) (binary and2 (ref (slot full t 0)) (binary equal2 (ref (slot adr t 0)) (ref s))) (ref (slot val t 0)) (binary read2 (ref (slot heap 0 0)) (ref s))) (now (out .entry)) (now (out .exit))) × (r .count ≤ 4) ⌝ }
 {
     let k = n as u64;
     let root = k + 3;
-    let first = formula(EQUAL, BIT, place(slots, ADR, t, 0, 2), x, 0);
-    let second = formula(AND, BIT, place(slots, FULL, t, 0, 0), k, 0);
-    let third = formula(READ, WORD, place(slots, HEAP, 0, 0, 3), x, 0);
-    let fourth = formula(IF, WORD, k + 1, place(slots, VAL, t, 0, 2), k + 2);
+    let first = formula(EQUAL, BIT, load.adr, x, 0);
+    let second = formula(AND, BIT, load.full, k, 0);
+    let third = formula(READ, WORD, load.heap, x, 0);
+    let fourth = formula(IF, WORD, k + 1, load.val, k + 2);
     table::put(out, n, first);
     table::put(out, after(n, 1), second);
     table::put(out, after(n, 2), third);

@@ -74,7 +74,7 @@ module _ (S : Set) (cs : List ℕ) where
       noFlag = λ z. absurd (omega arith);
     };
     before = refl;
-    linkless = refl;
+    first = record { linkless = refl; there = refl };
     other = refl;
     noFlags = λ z. absurd (omega arith);
   }
@@ -91,7 +91,7 @@ module _ (S : Set) (cs : List ℕ) where
       noFlag = λ z. absurd (omega arith);
     };
     before = refl;
-    linkless = refl;
+    first = record { linkless = refl; there = refl };
     other = refl;
     noFlags = λ z. absurd (omega arith);
   }
@@ -108,7 +108,7 @@ module _ (S : Set) (cs : List ℕ) where
       noFlag = λ z. absurd (omega arith);
     };
     before = refl;
-    linkless = refl;
+    first = record { linkless = refl; there = refl };
     other = refl;
     noFlags = λ z. absurd (omega arith);
   }
@@ -125,7 +125,7 @@ module _ (S : Set) (cs : List ℕ) where
       noFlag = λ z. absurd (omega arith);
     };
     before = refl;
-    linkless = refl;
+    first = record { linkless = refl; there = refl };
     other = refl;
     noFlags = λ z. absurd (omega arith);
   }

@@ -1,18 +1,23 @@
 -- Blocks as their loops write them: one value for each thread, one after each thread, a line for each thread. Assumes nothing.
 use Prim.Native.Nat.{ℕ, suc, _+_, _<_}
 use mathlib.Core.Path.{_≡_, refl, ap, sym, _∙_, subst}
-use mathlib.Core.Bool.{Bool, true, false, not, _||_, true≢false}
+use mathlib.Core.Bool.{Bool, true, false, not, _&&_, _||_, true≢false}
 use mathlib.Core.List.{List}
 use native.Mathlib.Numerals.{add-one}
+use lib.Dec.{eqb}
+use borrow.Author.Tests.{eqb-true}
 use Rattle.base.specs.Below.{every}
 use Rattle.base.proofs.Below.{every-at}
+use Rattle.base.proofs.Choice.{and-left, and-right}
 use Rattle.records.specs.Sets.{Set}
 use Rattle.table.specs.Programs.{Command, upto}
 use Rattle.encoding.specs.Slots.{Slot, kinds, kindAt}
-use Rattle.encoding.specs.Steps.{Shape, perChoice, perThread, perStatement, perCheckpoint, perMark, beforeThread, beforeChoice, single, shape, rows, columns, entry, line, block}
-use Rattle.places.specs.Pieces.{Writes}
+use Rattle.encoding.specs.Steps.{Shape, perChoice, perThread, perStatement, perCheckpoint, perMark, beforeThread, beforeChoice, single, shape, chain, link, links, base, rows, columns, kept, entry, line, block}
+use Rattle.places.specs.Pieces.{Writes, WritesTree}
 use Rattle.places.proofs.Pieces.{writes-row, writes-more}
+use Rattle.places.proofs.Entries.{treeOf}
 use Rattle.bases.specs.Fews.{ofStatement}
+use Rattle.encoder.specs.Entries.{BareEntry, bare, Bare}
 
 module _ (S : Set) (cs : List ℕ) (k kind : ℕ) (out slots : List ℕ) (n : ℕ) (after slotsAfter : List ℕ) (m : ℕ) where
   -- ---- one value for each thread
@@ -35,6 +40,66 @@ module _ (S : Set) (cs : List ℕ) (k kind : ℕ) (out slots : List ℕ) (n : �
       subst (λ (j : ℕ). Writes (upto (line S cs k (kindAt kind)) j) out slots n after slotsAfter m) (sym (ap (rows S cs k) e))
       (writes-more (line S cs k (kindAt kind)) 0 out slots n out slots n after slotsAfter m (writes-row (line S cs k (kindAt kind)) out slots n)
       (subst (λ (j : ℕ). Writes (upto (entry S cs k (kindAt kind) 0) j) out slots n after slotsAfter m) columns-are w))
+
+-- ---- values without links
+
+-- a base written is the whole tree
+pub bare-written : (S : Set) (cs : List ℕ) (k kind a b : ℕ) → BareEntry S cs kind a b → (places : Slot → ℕ) (out : List ℕ) (n : ℕ) (after : List ℕ) (m at : ℕ) →
+    WritesTree places (base S cs k (kindAt kind) a b) out n after m at → WritesTree places (treeOf S cs k (kindAt kind) a b) out n after m at
+unfolding chain
+bare-written S cs k kind a b bare places out n after m at w =
+    subst (λ (l : ℕ). WritesTree places (chain (link S cs 0 (kindAt kind) a b) l (base S cs k (kindAt kind) a b)) out n after m at) (sym (bare .linkless)) w
+
+module _ (S : Set) (cs : List ℕ) (a b : ℕ) where
+  -- there, and without links
+  lone : ℕ → Bool
+  lone n = eqb (links S cs 0 (kindAt n) a b) 0 && kept S cs 0 (shape (kindAt n)) a b
+
+  lone-tabled : every 41 (λ n. not (bare n) || lone n) ≡ true
+  unfolding every kinds lone
+  lone-tabled = refl
+
+  lone-at : (kind : ℕ) → kind < 41 → bare kind ≡ true → BareEntry S cs kind a b
+  unfolding lone
+  lone-at kind h is =
+      let holds = sym (ap (λ (t : Bool). not t || lone kind) is) ∙ every-at (λ n. not (bare n) || lone n) 41 kind lone-tabled h in
+      record {
+        linkless = eqb-true (links S cs 0 (kindAt kind) a b) 0 (and-left (eqb (links S cs 0 (kindAt kind) a b) 0) (kept S cs 0 (shape (kindAt kind)) a b) holds);
+        there = and-right (eqb (links S cs 0 (kindAt kind) a b) 0) (kept S cs 0 (shape (kindAt kind)) a b) holds;
+      }
+
+-- as many columns in each row
+even : Shape → Bool
+even perChoice = true
+even perThread = true
+even perStatement = false
+even perCheckpoint = true
+even perMark = true
+even beforeThread = true
+even beforeChoice = true
+even single = true
+
+even-tabled : every 41 (λ n. not (bare n) || even (shape (kindAt n))) ≡ true
+unfolding every kinds even
+even-tabled = refl
+
+even-columns : (S : Set) (cs : List ℕ) (s : Shape) → even s ≡ true → (a : ℕ) → columns S cs 0 s a ≡ columns S cs 0 s 0
+unfolding even
+even-columns S cs perChoice e a = refl
+even-columns S cs perThread e a = refl
+even-columns S cs perStatement e a = absurd (true≢false (sym e))
+even-columns S cs perCheckpoint e a = refl
+even-columns S cs perMark e a = refl
+even-columns S cs beforeThread e a = refl
+even-columns S cs beforeChoice e a = refl
+even-columns S cs single e a = refl
+
+pub all-bare : (S : Set) (cs : List ℕ) (kind : ℕ) → kind < 41 → bare kind ≡ true → Bare S cs kind
+all-bare S cs kind h is = record {
+  each = λ a b. lone-at S cs a b kind h is;
+  alike = even-columns S cs (shape (kindAt kind))
+      (sym (ap (λ (t : Bool). not t || even (shape (kindAt kind))) is) ∙ every-at (λ n. not (bare n) || even (shape (kindAt n))) 41 kind even-tabled h);
+}
 
 -- ---- a line for each thread
 

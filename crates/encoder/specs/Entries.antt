@@ -6,9 +6,23 @@ use mathlib.Core.List.{List}
 use lib.Dec.{eqb}
 use Rattle.records.specs.Sets.{Set}
 use Rattle.encoding.specs.Slots.{kindAt}
-use Rattle.encoding.specs.Steps.{perThread, beforeThread, shape, link, links, kept}
+use Rattle.encoding.specs.Steps.{perThread, beforeThread, shape, link, links, columns, kept}
 use Rattle.bases.specs.Fews.{ofStatement}
 use Rattle.links.specs.Given.{givenBy}
+
+-- the value of a kind for a and b is there, and has no links
+pub record BareEntry (S : Set) (cs : List ℕ) (kind a b : ℕ) : Type 0 where
+  pub linkless : links S cs 0 (kindAt kind) a b ≡ 0
+  pub there : kept S cs 0 (shape (kindAt kind)) a b ≡ true
+
+-- the kinds by number whose values are all there and have no links, as many for each a
+abbrev pub bare : ℕ → Bool
+bare kind =
+    eqb kind 0 || eqb kind 3 || eqb kind 7 || eqb kind 8 || eqb kind 9 || eqb kind 24 || eqb kind 34 || eqb kind 35 || eqb kind 39
+
+pub record Bare (S : Set) (cs : List ℕ) (kind : ℕ) : Type 0 where
+  pub each : (a b : ℕ) → BareEntry S cs kind a b
+  pub alike : (a : ℕ) → columns S cs 0 (shape (kindAt kind)) a ≡ columns S cs 0 (shape (kindAt kind)) 0
 
 -- the value of a kind for a and b has a link for each statement of thread t, that which the statement gives
 pub record GivenEntry (S : Set) (cs : List ℕ) (kind a b t : ℕ) : Type 0 where
@@ -34,6 +48,6 @@ afterThread kind = eqb kind 18 || eqb kind 20 || eqb kind 22 || eqb kind 23
 pub record AfterThread (S : Set) (cs : List ℕ) (kind : ℕ) : Type 0 where
   pub next : (b t : ℕ) → b ≡ t + 1 → GivenEntry S cs kind 0 b t
   pub before : shape (kindAt kind) ≡ beforeThread
-  pub linkless : links S cs 0 (kindAt kind) 0 0 ≡ 0
+  pub first : BareEntry S cs kind 0 0
   pub other : ofStatement kind ≡ false
   pub noFlags : kind ≡ 31 → ⊥

@@ -12,14 +12,15 @@ ghost use Rattle.table.specs.Repeats.{movedBy};
 ghost use Rattle.table.specs.Programs.{leafFormula, choiceBit, needs, aims, upto, compiled, nextAfter};
 ghost use Rattle.encoding.specs.Encodings.{mapDemand, starting, goalTree, firsts as firstsOf, encoded as encodedOf};
 ghost use Rattle.encoding.specs.Slots.{Slot, same, Term, kindAt, code as codeKind};
-ghost use Rattle.encoding.specs.Steps.{only, word0, chain as chainOf, link as linkOf, links as linksOf, entry as entryOf, line as lineOf, block as blockOf, blocks as blocksOf, ruled, step as stepOf};
+ghost use Rattle.encoding.specs.Steps.{only, word0, shape, rows as rowsOf, columns as columnsOf, chain as chainOf, link as linkOf, links as linksOf, entry as entryOf, line as lineOf, block as blockOf, blocks as blocksOf, ruled, step as stepOf};
 ghost use Rattle.places.specs.Places.{placeOf, listed, size as placesCount};
 ghost use Rattle.bases.specs.Fews.{ofStatement};
 ghost use Rattle.links.specs.Given.{given};
-ghost use Rattle.links.specs.Nexts.{Nexts};
+ghost use Rattle.links.specs.Members.{Members};
 ghost use Rattle.encoder.specs.Answers.{sizeAnswer, encodeAnswer, tableOutput};
 ghost use Rattle.places.specs.Pieces.{Writes, WritesTree, Limits};
-ghost use Rattle.encoder.specs.Entries.{GivenEntry, byThread, ByThread, afterThread, AfterThread};
+ghost use Rattle.places.specs.Idle.{Idle};
+ghost use Rattle.encoder.specs.Entries.{BareEntry, bare, Bare, GivenEntry, byThread, ByThread, afterThread, AfterThread};
 ghost use Rattle.encoder.specs.Repeating.{Started, Stepped, Ended};
 use links::Root;
 use links::put_link;
@@ -28,18 +29,23 @@ use places::kinds::ACCU;
 use places::kinds::ADR;
 use places::kinds::ARGUMENT;
 use places::kinds::BARRED;
+use places::kinds::CHOICE;
 use places::kinds::CODE;
 use places::kinds::CODES;
 use places::kinds::ENDED;
 use places::kinds::EXITS;
+use places::kinds::FIT;
 use places::kinds::FLAG;
 use places::kinds::FULL;
 use places::kinds::HALTED;
 use places::kinds::HEAP;
+use places::kinds::MAY;
 use places::kinds::MEM;
 use places::kinds::NONE;
 use places::kinds::NOUGHT;
 use places::kinds::ONE;
+use places::kinds::RAISED;
+use places::kinds::SHUT;
 use places::kinds::UNIT;
 use places::kinds::VAL;
 use places::kinds::WRITE_TO;
@@ -60,7 +66,7 @@ fn chain(
     set: &[u8],
     layout: Layout,
     points: Points,
-    nexts: &[u8],
+    members: &[u8],
     slots: &[u32],
     out: &mut [u8],
     kind: u8,
@@ -69,26 +75,24 @@ fn chain(
     n: u32,
     base: u64,
 ) -> Root
-    requires { ⌜ (n ≤ 1900000000) × (linksOf (setBy (now set) layout) (listed points) 0 (kindAt kind) a b ≤ 32) × (Nexts (setBy (now set) layout) (now nexts)) × (kind ≡ 31 → ⊥) × (given kind ≡ true → linksOf (setBy (now set) layout) (listed points) 0 (kindAt kind) a b ≡ 0) ⌝ }
+    requires { ⌜ (n ≤ 1900000000) × (linksOf (setBy (now set) layout) (listed points) 0 (kindAt kind) a b ≤ 32) × (Members (setBy (now set) layout) (now members)) × (kind ≡ 31 → ⊥) × (given kind ≡ false)
+        × (a < 4) × (length (now slots) ≡ placesCount) ⌝ }
     ensures { λ r. ⌜ ((tree : Term) (start : List ℕ) (m : ℕ) → WritesTree (placeOf (now (slots .entry))) tree start m (now (out .entry)) n base
         → WritesTree (placeOf (now (slots .entry)))
         (chainOf (linkOf (setBy (now (set .entry)) layout) (listed points) 0 (kindAt kind) a b) (linksOf (setBy (now (set .entry)) layout) (listed points) 0 (kindAt kind) a b) tree)
         start m (now (out .exit)) (r .next) (r .at))
         × (r .next ≤ n + 32) ⌝ }
 {
+    if kind == RAISED {
+        return links::chains::raised_chain(set, layout, points, members, slots, out, a, b, n, base);
+    }
     let count = links::chains::links(layout, points, kind, a, b);
     let mut tree = Root { next: n, at: base };
-    if count == 0 {
-        return tree;
-    }
-    let from = links::chains::givers(kind, a);
-    let class = from.class;
-    let thread = from.thread;
-    let mut i = links::nexts::next_of(nexts, class, thread, 0, count);
+    let mut i: u16 = 0;
     while i < count {
-        let link = links::chains::link(set, layout, points, slots, kind, a, b, i);
+        let link = links::chains::link(set, layout, points, members, slots, kind, a, b, i);
         tree = put_link(out, tree.next, tree.at, link);
-        i = links::nexts::next_of(nexts, class, thread, i + 1, count);
+        i += 1;
     }
     tree
 }
@@ -98,7 +102,7 @@ fn entry(
     set: &[u8],
     layout: Layout,
     points: Points,
-    nexts: &[u8],
+    members: &[u8],
     slots: &mut [u32],
     out: &mut [u8],
     step: u8,
@@ -107,19 +111,19 @@ fn entry(
     b: u16,
     n: u32,
 ) -> u32
-    requires { ⌜ (Limits layout points (now slots) n) × (n ≤ 1800000000) × (kind < 41) × (a < 4) × (b < 32) × (Nexts (setBy (now set) layout) (now nexts)) × (ofStatement kind ≡ false) × (kind ≡ 31 → ⊥) × (given kind ≡ true → linksOf (setBy (now set) layout) (listed points) 0 (kindAt kind) a b ≡ 0) ⌝ }
+    requires { ⌜ (Limits layout points (now slots) n) × (n ≤ 1800000000) × (kind < 41) × (a < 4) × (b < 32) × (Members (setBy (now set) layout) (now members)) × (ofStatement kind ≡ false) × (kind ≡ 31 → ⊥) × (given kind ≡ false) ⌝ }
     ensures { λ r. ⌜ (Writes (entryOf (setBy (now (set .entry)) layout) (listed points) step (kindAt kind) a b)
         (now (out .entry)) (now (slots .entry)) n (now (out .exit)) (now (slots .exit)) r)
         × (r ≤ n + 36) ⌝ }
 {
-    if links::kept(set, layout, points, kind, a, b) {
+    if links::kept(set, layout, points, members, kind, a, b) {
         let base = bases::put_base(slots, out, layout.threads, step, kind, a, b, n);
         let next = n + base.count;
         let tree = chain(
             set,
             layout,
             points,
-            nexts,
+            members,
             slots,
             out,
             kind,
@@ -134,12 +138,90 @@ fn entry(
     n
 }
 
+// Writes the value of a kind for a and b, which is there and has no links.
+fn bare_entry(
+    slots: &mut [u32],
+    out: &mut [u8],
+    threads: u8,
+    step: u8,
+    kind: u8,
+    a: u8,
+    b: u16,
+    n: u32,
+) -> u32
+    requires { ⌜ (n ≤ 1800000000) × (kind < 41) × (a < 4) × (b < 32) × (ofStatement kind ≡ false) × (kind ≡ 31 → ⊥) ⌝ }
+    ensures { λ r. ⌜ ((S : Set) (cs : List ℕ) → S .threads ≡ threads → BareEntry S cs kind a b → length (now (slots .entry)) ≡ placesCount
+        → ((s : Slot) → placeOf (now (slots .entry)) s < n)
+        → Writes (entryOf S cs step (kindAt kind) a b) (now (out .entry)) (now (slots .entry)) n (now (out .exit)) (now (slots .exit)) r)
+        × (r ≤ n + 4) ⌝ }
+{
+    let base = bases::put_base(slots, out, threads, step, kind, a, b, n);
+    places::set_place(slots, kind, a, b, base.root);
+    n + base.count
+}
+
+// Writes the values of a kind for a, which have no links, at most 32 of them.
+fn bare_line(
+    slots: &mut [u32],
+    out: &mut [u8],
+    threads: u8,
+    step: u8,
+    kind: u8,
+    a: u8,
+    columns: u16,
+    n: u32,
+) -> u32
+    requires { ⌜ (n ≤ 1700000000) × (kind < 41) × (a < 4) × (columns ≤ 32) × (ofStatement kind ≡ false) × (kind ≡ 31 → ⊥) ⌝ }
+    ensures { λ r. ⌜ ((S : Set) (cs : List ℕ) → S .threads ≡ threads → ((b : ℕ) → BareEntry S cs kind a b) → length (now (slots .entry)) ≡ placesCount
+        → ((s : Slot) → placeOf (now (slots .entry)) s < n)
+        → Writes (upto (entryOf S cs step (kindAt kind) a) columns) (now (out .entry)) (now (slots .entry)) n (now (out .exit)) (now (slots .exit)) r)
+        × (r ≤ n + 128) ⌝ }
+{
+    let mut next = n;
+    let mut b: u16 = 0;
+    while b < columns {
+        next = bare_entry(slots, out, threads, step, kind, a, b, next);
+        b += 1;
+    }
+    next
+}
+
+// Writes all values of a kind that has no links: `rows` times `columns` of them.
+fn bare_block(
+    slots: &mut [u32],
+    out: &mut [u8],
+    threads: u8,
+    step: u8,
+    kind: u8,
+    rows: u8,
+    columns: u16,
+    n: u32,
+) -> u32
+    requires { ⌜ (n ≤ 1600000000) × (kind < 41) × (rows ≤ 4) × (columns ≤ 32) × (ofStatement kind ≡ false) × (kind ≡ 31 → ⊥) ⌝ }
+    ensures { λ r. ⌜ ((S : Set) (cs : List ℕ) → S .threads ≡ threads → Bare S cs kind → rows ≡ rowsOf S cs 0 (shape (kindAt kind)) → columns ≡ columnsOf S cs 0 (shape (kindAt kind)) 0
+        → length (now (slots .entry)) ≡ placesCount → ((s : Slot) → placeOf (now (slots .entry)) s < n)
+        → Writes (blockOf S cs step (kindAt kind)) (now (out .entry)) (now (slots .entry)) n (now (out .exit)) (now (slots .exit)) r)
+        × (r ≤ n + 512) ⌝ }
+{
+    let mut next = n;
+    // With the length known here, the compiler drops the tests of places.
+    if slots.len() != 5248 {
+        return next;
+    }
+    let mut a: u8 = 0;
+    while a < rows {
+        next = bare_line(slots, out, threads, step, kind, a, columns, next);
+        a += 1;
+    }
+    next
+}
+
 // Writes the values of a kind for a.
 fn line(
     set: &[u8],
     layout: Layout,
     points: Points,
-    nexts: &[u8],
+    members: &[u8],
     slots: &mut [u32],
     out: &mut [u8],
     step: u8,
@@ -147,7 +229,7 @@ fn line(
     a: u8,
     n: u32,
 ) -> u32
-    requires { ⌜ (Limits layout points (now slots) n) × (n ≤ 1700000000) × (kind < 41) × (a < 4) × (Nexts (setBy (now set) layout) (now nexts)) × (ofStatement kind ≡ false) × (kind ≡ 31 → ⊥) × (given kind ≡ false) ⌝ }
+    requires { ⌜ (Limits layout points (now slots) n) × (n ≤ 1700000000) × (kind < 41) × (a < 4) × (Members (setBy (now set) layout) (now members)) × (ofStatement kind ≡ false) × (kind ≡ 31 → ⊥) × (given kind ≡ false) ⌝ }
     ensures { λ r. ⌜ (Writes (lineOf (setBy (now (set .entry)) layout) (listed points) step (kindAt kind) a)
         (now (out .entry)) (now (slots .entry)) n (now (out .exit)) (now (slots .exit)) r)
         × (r ≤ n + 1152) ⌝ }
@@ -160,7 +242,7 @@ fn line(
             set,
             layout,
             points,
-            nexts,
+            members,
             slots,
             out,
             step,
@@ -179,14 +261,14 @@ fn plain_block(
     set: &[u8],
     layout: Layout,
     points: Points,
-    nexts: &[u8],
+    members: &[u8],
     slots: &mut [u32],
     out: &mut [u8],
     step: u8,
     kind: u8,
     n: u32,
 ) -> u32
-    requires { ⌜ (Limits layout points (now slots) n) × (n ≤ 1600000000) × (kind < 41) × (Nexts (setBy (now set) layout) (now nexts)) × (ofStatement kind ≡ false) × (kind ≡ 31 → ⊥) × (given kind ≡ false) ⌝ }
+    requires { ⌜ (Limits layout points (now slots) n) × (n ≤ 1600000000) × (kind < 41) × (Members (setBy (now set) layout) (now members)) × (ofStatement kind ≡ false) × (kind ≡ 31 → ⊥) × (given kind ≡ false) ⌝ }
     ensures { λ r. ⌜ (Writes (blockOf (setBy (now (set .entry)) layout) (listed points) step (kindAt kind))
         (now (out .entry)) (now (slots .entry)) n (now (out .exit)) (now (slots .exit)) r)
         × (r ≤ n + 4608) ⌝ }
@@ -195,7 +277,18 @@ fn plain_block(
     let mut next = n;
     let mut a: u8 = 0;
     while a < count {
-        next = line(set, layout, points, nexts, slots, out, step, kind, a, next);
+        next = line(
+            set,
+            layout,
+            points,
+            members,
+            slots,
+            out,
+            step,
+            kind,
+            a,
+            next,
+        );
         a += 1;
     }
     next
@@ -203,83 +296,50 @@ fn plain_block(
 
 // Writes the value of a kind for a and b, whose links the statements of thread t give.
 fn given_entry(
-    set: &[u8],
-    layout: Layout,
-    points: Points,
-    nexts: &[u8],
+    members: &[u8],
     slots: &mut [u32],
     out: &mut [u8],
+    threads: u8,
     step: u8,
     kind: u8,
     a: u8,
     b: u16,
     t: u8,
-    first: u32,
-    count: u16,
     n: u32,
 ) -> u32
-    requires { ⌜ (Limits layout points (now slots) n) × (n ≤ 1800000000) × (a < 4) × (b < 32) × (Nexts (setBy (now set) layout) (now nexts)) × (GivenEntry (setBy (now set) layout) (listed points) kind a b t)
-        × (t < 4) × (first ≡ getD (layout .starts) t 0) × (first < 65536) × (count ≡ getD (layout .counts) t 0) ⌝ }
-    ensures { λ r. ⌜ (Writes (entryOf (setBy (now (set .entry)) layout) (listed points) step (kindAt kind) a b)
-        (now (out .entry)) (now (slots .entry)) n (now (out .exit)) (now (slots .exit)) r)
+    requires { ⌜ (n ≤ 1800000000) × (a < 4) × (b < 32) × (t < 4) ⌝ }
+    ensures { λ r. ⌜ ((S : Set) (cs : List ℕ) → S .threads ≡ threads → GivenEntry S cs kind a b t → Members S (now (members .entry)) → length (now (slots .entry)) ≡ placesCount
+        → ((s : Slot) → placeOf (now (slots .entry)) s < n)
+        → Writes (entryOf S cs step (kindAt kind) a b) (now (out .entry)) (now (slots .entry)) n (now (out .exit)) (now (slots .exit)) r)
         × (r ≤ n + 36) ⌝ }
 {
-    let base = bases::put_base(slots, out, layout.threads, step, kind, a, b, n);
-    let tree = links::given_chain(
-        set,
-        first,
-        count,
-        nexts,
-        slots,
-        out,
-        kind,
-        t,
-        n + base.count,
-        base.root,
-    );
+    let base = bases::put_base(slots, out, threads, step, kind, a, b, n);
+    let next = n + base.count;
+    let tree = links::given_chain(members, slots, out, kind, t, next, base.root);
     places::set_place(slots, kind, a, b, tree.at);
     tree.next
 }
 
 // Writes a register of each thread, or what else it has one value of, whose links its own statements give.
 fn register_block(
-    set: &[u8],
-    layout: Layout,
-    points: Points,
-    nexts: &[u8],
+    members: &[u8],
     slots: &mut [u32],
     out: &mut [u8],
+    threads: u8,
     step: u8,
     kind: u8,
     n: u32,
 ) -> u32
-    requires { ⌜ (Limits layout points (now slots) n) × (n ≤ 1600000000) × (kind < 41) × (Nexts (setBy (now set) layout) (now nexts)) × (ByThread (setBy (now set) layout) (listed points) kind) ⌝ }
-    ensures { λ r. ⌜ (Writes (blockOf (setBy (now (set .entry)) layout) (listed points) step (kindAt kind))
-        (now (out .entry)) (now (slots .entry)) n (now (out .exit)) (now (slots .exit)) r)
-        × (r ≤ n + 4608) ⌝ }
+    requires { ⌜ (n ≤ 1600000000) × (threads ≤ 4) ⌝ }
+    ensures { λ r. ⌜ ((S : Set) (cs : List ℕ) → S .threads ≡ threads → ByThread S cs kind → Members S (now (members .entry)) → length (now (slots .entry)) ≡ placesCount
+        → ((s : Slot) → placeOf (now (slots .entry)) s < n)
+        → Writes (blockOf S cs step (kindAt kind)) (now (out .entry)) (now (slots .entry)) n (now (out .exit)) (now (slots .exit)) r)
+        × (r ≤ n + 144) ⌝ }
 {
-    let threads = layout.threads;
     let mut next = n;
     let mut t: u8 = 0;
     while t < threads {
-        let first = links::first(layout, t);
-        let count = links::count(layout, t);
-        next = given_entry(
-            set,
-            layout,
-            points,
-            nexts,
-            slots,
-            out,
-            step,
-            kind,
-            t,
-            0,
-            t,
-            first,
-            count,
-            next,
-        );
+        next = given_entry(members, slots, out, threads, step, kind, t, 0, t, next);
         t += 1;
     }
     next
@@ -287,43 +347,25 @@ fn register_block(
 
 // Writes a value before the first thread, and one after each thread whose links its statements give.
 fn running_block(
-    set: &[u8],
-    layout: Layout,
-    points: Points,
-    nexts: &[u8],
+    members: &[u8],
     slots: &mut [u32],
     out: &mut [u8],
+    threads: u8,
     step: u8,
     kind: u8,
     n: u32,
 ) -> u32
-    requires { ⌜ (Limits layout points (now slots) n) × (n ≤ 1600000000) × (kind < 41) × (Nexts (setBy (now set) layout) (now nexts)) × (AfterThread (setBy (now set) layout) (listed points) kind) ⌝ }
-    ensures { λ r. ⌜ (Writes (blockOf (setBy (now (set .entry)) layout) (listed points) step (kindAt kind))
-        (now (out .entry)) (now (slots .entry)) n (now (out .exit)) (now (slots .exit)) r)
-        × (r ≤ n + 4608) ⌝ }
+    requires { ⌜ (n ≤ 1600000000) × (threads ≤ 4) × (kind < 41) × (ofStatement kind ≡ false) × (kind ≡ 31 → ⊥) ⌝ }
+    ensures { λ r. ⌜ ((S : Set) (cs : List ℕ) → S .threads ≡ threads → AfterThread S cs kind → Members S (now (members .entry)) → length (now (slots .entry)) ≡ placesCount
+        → ((s : Slot) → placeOf (now (slots .entry)) s < n)
+        → Writes (blockOf S cs step (kindAt kind)) (now (out .entry)) (now (slots .entry)) n (now (out .exit)) (now (slots .exit)) r)
+        × (r ≤ n + 148) ⌝ }
 {
-    let threads = layout.threads;
-    let mut next = entry(set, layout, points, nexts, slots, out, step, kind, 0, 0, n);
+    let mut next = bare_entry(slots, out, threads, step, kind, 0, 0, n);
     let mut t: u8 = 0;
     while t < threads {
-        let first = links::first(layout, t);
-        let count = links::count(layout, t);
-        next = given_entry(
-            set,
-            layout,
-            points,
-            nexts,
-            slots,
-            out,
-            step,
-            kind,
-            0,
-            (t as u16) + 1,
-            t,
-            first,
-            count,
-            next,
-        );
+        let b = (t as u16) + 1;
+        next = given_entry(members, slots, out, threads, step, kind, 0, b, t, next);
         t += 1;
     }
     next
@@ -334,14 +376,14 @@ fn statement_block(
     set: &[u8],
     layout: Layout,
     points: Points,
-    nexts: &[u8],
+    members: &[u8],
     slots: &mut [u32],
     out: &mut [u8],
     step: u8,
     kind: u8,
     n: u32,
 ) -> u32
-    requires { ⌜ (Limits layout points (now slots) n) × (n ≤ 1600000000) × (kind < 41) × (Nexts (setBy (now set) layout) (now nexts)) × (ofStatement kind ≡ true) ⌝ }
+    requires { ⌜ (Limits layout points (now slots) n) × (n ≤ 1600000000) × (kind < 41) × (Members (setBy (now set) layout) (now members)) × (ofStatement kind ≡ true) × (Idle (setBy (now set) layout) (placeOf (now slots))) ⌝ }
     ensures { λ r. ⌜ (Writes (blockOf (setBy (now (set .entry)) layout) (listed points) step (kindAt kind))
         (now (out .entry)) (now (slots .entry)) n (now (out .exit)) (now (slots .exit)) r)
         × (r ≤ n + 4608) ⌝ }
@@ -350,7 +392,7 @@ fn statement_block(
     let mut next = n;
     let mut t: u8 = 0;
     while t < threads {
-        next = values::statement_line(set, layout, slots, out, kind, t, next);
+        next = values::statement_line(set, layout, members, slots, out, kind, t, next);
         t += 1;
     }
     next
@@ -361,13 +403,13 @@ fn flag_block(
     set: &[u8],
     layout: Layout,
     points: Points,
-    nexts: &[u8],
+    members: &[u8],
     slots: &mut [u32],
     out: &mut [u8],
     step: u8,
     n: u32,
 ) -> u32
-    requires { ⌜ (Limits layout points (now slots) n) × (n ≤ 1600000000) × (Nexts (setBy (now set) layout) (now nexts)) ⌝ }
+    requires { ⌜ (Limits layout points (now slots) n) × (n ≤ 1600000000) × (Members (setBy (now set) layout) (now members)) ⌝ }
     ensures { λ r. ⌜ (Writes (blockOf (setBy (now (set .entry)) layout) (listed points) step (kindAt 31))
         (now (out .entry)) (now (slots .entry)) n (now (out .exit)) (now (slots .exit)) r)
         × (r ≤ n + 4608) ⌝ }
@@ -376,7 +418,7 @@ fn flag_block(
     let mut next = n;
     let mut t: u8 = 0;
     while t < threads {
-        next = flags::flags(set, layout, nexts, slots, out, t, next);
+        next = flags::flags(set, layout, members, slots, out, t, next);
         t += 1;
     }
     next
@@ -402,19 +444,34 @@ fn after_thread(kind: u8) -> bool
     (kind == WRITE_TO) | (kind == WRITE_VALUE) | (kind == EXITS) | (kind == CODES)
 }
 
+// Whether the values of a kind are all there and have no links.
+fn is_bare(kind: u8) -> bool
+    ensures { λ r. ⌜ r ≡ bare kind ⌝ }
+{
+    (kind == CHOICE)
+        | (kind == SHUT)
+        | (kind == MAY)
+        | (kind == NONE)
+        | (kind == FIT)
+        | (kind == HEAP)
+        | (kind == ENDED)
+        | (kind == CODE)
+        | (kind == UNIT)
+}
+
 // Writes all values of a kind. Each sort of kind has its own loop: with one loop for all, the compiler keeps what each needs at hand for the others too.
 fn block(
     set: &[u8],
     layout: Layout,
     points: Points,
-    nexts: &[u8],
+    members: &[u8],
     slots: &mut [u32],
     out: &mut [u8],
     step: u8,
     kind: u8,
     n: u32,
 ) -> u32
-    requires { ⌜ (Limits layout points (now slots) n) × (n ≤ 1600000000) × (kind < 41) × (Nexts (setBy (now set) layout) (now nexts)) ⌝ }
+    requires { ⌜ (Limits layout points (now slots) n) × (n ≤ 1600000000) × (kind < 41) × (Members (setBy (now set) layout) (now members)) × (Idle (setBy (now set) layout) (placeOf (now slots))) ⌝ }
     ensures { λ r. ⌜ (Writes (blockOf (setBy (now (set .entry)) layout) (listed points) step (kindAt kind))
         (now (out .entry)) (now (slots .entry)) n (now (out .exit)) (now (slots .exit)) r)
         × (r ≤ n + 4608) ⌝ }
@@ -424,18 +481,23 @@ fn block(
         return n;
     }
     if bases::of_statement(kind) {
-        return statement_block(set, layout, points, nexts, slots, out, step, kind, n);
+        return statement_block(set, layout, points, members, slots, out, step, kind, n);
     }
     if by_thread(kind) {
-        return register_block(set, layout, points, nexts, slots, out, step, kind, n);
+        return register_block(members, slots, out, layout.threads, step, kind, n);
     }
     if after_thread(kind) {
-        return running_block(set, layout, points, nexts, slots, out, step, kind, n);
+        return running_block(members, slots, out, layout.threads, step, kind, n);
     }
     if kind == FLAG {
-        return flag_block(set, layout, points, nexts, slots, out, step, n);
+        return flag_block(set, layout, points, members, slots, out, step, n);
     }
-    plain_block(set, layout, points, nexts, slots, out, step, kind, n)
+    if is_bare(kind) {
+        let rows = links::rows(layout, kind);
+        let columns = links::columns(layout, points, kind, 0);
+        return bare_block(slots, out, layout.threads, step, kind, rows, columns, n);
+    }
+    plain_block(set, layout, points, members, slots, out, step, kind, n)
 }
 
 // Writes all values of some kinds.
@@ -443,7 +505,7 @@ fn blocks(
     set: &[u8],
     layout: Layout,
     points: Points,
-    nexts: &[u8],
+    members: &[u8],
     slots: &mut [u32],
     out: &mut [u8],
     step: u8,
@@ -451,7 +513,7 @@ fn blocks(
     count: u8,
     n: u32,
 ) -> u32
-    requires { ⌜ (Limits layout points (now slots) n) × (n ≤ 1500000000) × (from + count < 41) × (Nexts (setBy (now set) layout) (now nexts)) ⌝ }
+    requires { ⌜ (Limits layout points (now slots) n) × (n ≤ 1500000000) × (from + count < 41) × (Members (setBy (now set) layout) (now members)) × (Idle (setBy (now set) layout) (placeOf (now slots))) ⌝ }
     ensures { λ r. ⌜ (Writes (blocksOf (setBy (now (set .entry)) layout) (listed points) step from count)
         (now (out .entry)) (now (slots .entry)) n (now (out .exit)) (now (slots .exit)) r)
         × (r ≤ n + 188928) ⌝ }
@@ -459,7 +521,17 @@ fn blocks(
     let mut next = n;
     let mut i: u8 = 0;
     while i < count {
-        next = block(set, layout, points, nexts, slots, out, step, from + i, next);
+        next = block(
+            set,
+            layout,
+            points,
+            members,
+            slots,
+            out,
+            step,
+            from + i,
+            next,
+        );
         i += 1;
     }
     next
@@ -501,20 +573,20 @@ fn one_step(
     set: &[u8],
     layout: Layout,
     points: Points,
-    nexts: &[u8],
+    members: &[u8],
     slots: &mut [u32],
     out: &mut [u8],
     step: u8,
     n: u32,
 ) -> u32
-    requires { ⌜ (Limits layout points (now slots) n) × (n ≤ 1400000000) × (Nexts (setBy (now set) layout) (now nexts)) ⌝ }
+    requires { ⌜ (Limits layout points (now slots) n) × (n ≤ 1400000000) × (Members (setBy (now set) layout) (now members)) × (Idle (setBy (now set) layout) (placeOf (now slots))) ⌝ }
     ensures { λ r. ⌜ (Writes (stepOf (setBy (now (set .entry)) layout) (listed points) step)
         (now (out .entry)) (now (slots .entry)) n (now (out .exit)) (now (slots .exit)) r)
         × (r ≤ n + 377858) ⌝ }
 {
-    let chosen = blocks(set, layout, points, nexts, slots, out, step, 0, 11, n);
+    let chosen = blocks(set, layout, points, members, slots, out, step, 0, 11, n);
     let next = rule(layout, slots, out, chosen);
-    blocks(set, layout, points, nexts, slots, out, step, 11, 25, next)
+    blocks(set, layout, points, members, slots, out, step, 11, 25, next)
 }
 
 // Writes the steps.
@@ -522,13 +594,13 @@ fn steps(
     set: &[u8],
     layout: Layout,
     points: Points,
-    nexts: &[u8],
+    members: &[u8],
     slots: &mut [u32],
     out: &mut [u8],
     bound: u8,
     n: u32,
 ) -> u32
-    requires { ⌜ (Limits layout points (now slots) n) × (n ≤ 1000000) × (bound ≤ 64) × (Nexts (setBy (now set) layout) (now nexts)) ⌝ }
+    requires { ⌜ (Limits layout points (now slots) n) × (n ≤ 1000000) × (bound ≤ 64) × (Members (setBy (now set) layout) (now members)) × (Idle (setBy (now set) layout) (placeOf (now slots))) ⌝ }
     ensures { λ r. ⌜ (Writes (upto (stepOf (setBy (now (set .entry)) layout) (listed points)) bound)
         (now (out .entry)) (now (slots .entry)) n (now (out .exit)) (now (slots .exit)) r)
         × (r ≤ n + 24182912) ⌝ }
@@ -536,7 +608,7 @@ fn steps(
     let mut next = n;
     let mut k: u8 = 0;
     while k < bound {
-        next = one_step(set, layout, points, nexts, slots, out, k, next);
+        next = one_step(set, layout, points, members, slots, out, k, next);
         k += 1;
     }
     next
@@ -648,18 +720,18 @@ fn before_steps(
     set: &[u8],
     layout: Layout,
     points: Points,
-    nexts: &[u8],
+    members: &[u8],
     map: &[u8],
     slots: &mut [u32],
     out: &mut [u8],
 ) -> u32
-    requires { ⌜ (Limits layout points (now slots) 4) × (cells (now map) ≤ 128) × (Nexts (setBy (now set) layout) (now nexts)) ⌝ }
+    requires { ⌜ (Limits layout points (now slots) 4) × (cells (now map) ≤ 128) × (Members (setBy (now set) layout) (now members)) × (Idle (setBy (now set) layout) (placeOf (now slots))) ⌝ }
     ensures { λ r. ⌜ (Writes (starting (setBy (now (set .entry)) layout) (listed points) ++ upto (mapDemand (now (map .entry))) (cells (now (map .entry))))
         (now (out .entry)) (now (slots .entry)) 4 (now (out .exit)) (now (slots .exit)) r)
         × (r ≤ 9860) ⌝ }
 {
-    let one = block(set, layout, points, nexts, slots, out, 0, UNIT, 4);
-    let all = block(set, layout, points, nexts, slots, out, 0, ARGUMENT, one);
+    let one = block(set, layout, points, members, slots, out, 0, UNIT, 4);
+    let all = block(set, layout, points, members, slots, out, 0, ARGUMENT, one);
     demands(map, slots, out, all)
 }
 
@@ -793,18 +865,18 @@ fn few_steps(
     set: &[u8],
     layout: Layout,
     points: Points,
-    nexts: &[u8],
+    members: &[u8],
     slots: &mut [u32],
     out: &mut [u8],
     bound: u8,
     first: u32,
 ) -> Last
-    requires { ⌜ (Limits layout points (now slots) first) × (first ≤ 10000) × (bound ≤ 64) × (Nexts (setBy (now set) layout) (now nexts)) ⌝ }
+    requires { ⌜ (Limits layout points (now slots) first) × (first ≤ 10000) × (bound ≤ 64) × (Members (setBy (now set) layout) (now members)) × (Idle (setBy (now set) layout) (placeOf (now slots))) ⌝ }
     ensures { λ r. ⌜ (Ended (setBy (now (set .entry)) layout) (listed points) (placeOf (now (slots .entry))) first bound
         (now (out .entry)) (now (out .exit)) (r .next) (r .code) (r .nought))
         × (r .next ≤ 25000000) ⌝ }
 {
-    let next = steps(set, layout, points, nexts, slots, out, bound, first);
+    let next = steps(set, layout, points, members, slots, out, bound, first);
     Last {
         next,
         code: places::place(slots, CODE, 0, 0, 2),
@@ -837,22 +909,22 @@ fn all_steps(
     set: &[u8],
     layout: Layout,
     points: Points,
-    nexts: &[u8],
+    members: &[u8],
     slots: &mut [u32],
     out: &mut [u8],
     bound: u8,
     first: u32,
 ) -> Last
-    requires { ⌜ (Limits layout points (now slots) first) × (first ≤ 10000) × (bound ≤ 64) × (Nexts (setBy (now set) layout) (now nexts))
-        × (16 * nextAfter same first (upto (stepOf (setBy (now set) layout) (listed points)) bound) ≤ length (now out)) ⌝ }
+    requires { ⌜ (Limits layout points (now slots) first) × (first ≤ 10000) × (bound ≤ 64) × (Members (setBy (now set) layout) (now members))
+        × (16 * nextAfter same first (upto (stepOf (setBy (now set) layout) (listed points)) bound) ≤ length (now out)) × (Idle (setBy (now set) layout) (placeOf (now slots))) ⌝ }
     ensures { λ r. ⌜ (Ended (setBy (now (set .entry)) layout) (listed points) (placeOf (now (slots .entry))) first bound
         (now (out .entry)) (now (out .exit)) (r .next) (r .code) (r .nought))
         × (r .next ≤ 900000000) ⌝ }
 {
     if bound <= 2 {
-        return few_steps(set, layout, points, nexts, slots, out, bound, first);
+        return few_steps(set, layout, points, members, slots, out, bound, first);
     }
-    let second = few_steps(set, layout, points, nexts, slots, out, 2, first);
+    let second = few_steps(set, layout, points, members, slots, out, 2, first);
     later_steps(layout.threads, out, bound, first, second)
 }
 
@@ -864,12 +936,21 @@ fn write(set: &[u8], layout: Layout, points: Points, map: &[u8], bound: u8, tabl
         × (16 * length (encodedOf (setBy (now set) layout) (listed points) (now map) bound) ≤ length (now table)) ⌝ }
     ensures { λ _. ⌜ now (table .exit) ≡ writtenAt (now (table .entry)) 0 (encodedOf (setBy (now (set .entry)) layout) (listed points) (now (map .entry)) bound) ⌝ }
 {
-    let mut nexts = [0u8; 1188];
-    links::nexts::make(set, layout, &mut nexts);
+    let mut members = [0u8; 1452];
+    links::members::make(set, layout, &mut members);
     let mut slots = [0u32; 5248];
     firsts(table);
-    let first = before_steps(set, layout, points, &nexts, map, &mut slots, table);
-    let last = all_steps(set, layout, points, &nexts, &mut slots, table, bound, first);
+    let first = before_steps(set, layout, points, &members, map, &mut slots, table);
+    let last = all_steps(
+        set,
+        layout,
+        points,
+        &members,
+        &mut slots,
+        table,
+        bound,
+        first,
+    );
     goal(table, last.next, last.code, last.nought);
 }
 

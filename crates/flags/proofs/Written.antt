@@ -1,19 +1,16 @@
--- A flag's tree with its links as the code asks for them, and places below the next index. Assumes nothing.
+-- A flag's tree with its links as the code asks for them. Assumes nothing.
 use Prim.Native.Nat.{ℕ, suc, _+_, _≤_, _<_}
-use mathlib.Core.Path.{_≡_, ap, sym, subst}
+use mathlib.Core.Path.{_≡_, subst}
 use mathlib.Core.Bool.{false}
 use mathlib.Core.List.{List, []}
 use native.Mathlib.Omega.{arith}
 use borrow.Author.Tests.{ne-eqb}
 use Rattle.records.specs.Sets.{Set}
-use Rattle.table.specs.Programs.{Command, placesAfter}
-use Rattle.encoding.specs.Slots.{flag, Slot, same, Term}
+use Rattle.encoding.specs.Slots.{flag, Slot, Term}
 use Rattle.encoding.specs.Steps.{Link as ChainLink, skip, linked, chain, base, leads}
-use Rattle.places.specs.Places.{placeOf}
-use Rattle.places.specs.Pieces.{Writes, WritesTree}
-use Rattle.places.proofs.Pieces.{program-below}
+use Rattle.places.specs.Pieces.{WritesTree}
 use Rattle.places.proofs.Entries.{treeOf}
-use Rattle.links.specs.Nexts.{namesTarget}
+use Rattle.links.specs.Members.{namesTarget}
 use Rattle.links.proofs.Leads.{leads-elsewhere}
 use Rattle.links.proofs.Trees.{chain-none, chain-more, chain-to}
 
@@ -22,13 +19,6 @@ pub flag-chained : (S : Set) (cs : List ℕ) (k t j count : ℕ) → count ≡ S
     WritesTree places (chain (leads S [] 0 t j) count (base S cs k flag t j)) out n after m at → WritesTree places (treeOf S cs k flag t j) out n after m at
 flag-chained S cs k t j count e places out n after m at w =
     subst (λ (i : ℕ). WritesTree places (chain (leads S [] 0 t j) i (base S cs k flag t j)) out n after m at) e w
-
--- places lie below the next index after a piece too
-pub below-after : (P : List (Command Slot)) (out slots : List ℕ) (n : ℕ) (out1 slots1 : List ℕ) (n1 : ℕ) →
-    Writes P out slots n out1 slots1 n1 → ((s : Slot) → placeOf slots s < n) → (s : Slot) → placeOf slots1 s < n1
-below-after P out slots n out1 slots1 n1 w below s =
-    subst (λ (x : ℕ). x < n1) (ap (λ (f : Slot → ℕ). f s) (sym (w .places)))
-    (subst (λ (m : ℕ). placesAfter same (placeOf slots) n P s < m) (sym (w .next)) (program-below P (placeOf slots) n below s))
 
 -- no jump of a thread of `count` statements names j
 module _ (places : Slot → ℕ) (S : Set) (t j count : ℕ) (inside : j < count) (names : (x : ℕ) → x < count → namesTarget (S .statement t x) j ≡ false) (tree : Term) (start : List ℕ) (m : ℕ) where

@@ -1,26 +1,60 @@
 // The flags of a thread's statements, which say the next one, each with the links of the statements that lead to it.
 // A thread's statements stand from record `first` of the set on: the layout is read once.
 ghost use mathlib.Core.Path.{_≡_};
+ghost use mathlib.Core.Bool.{false};
 ghost use mathlib.Core.List.{List, []};
 ghost use Prim.Native.Nat.{ℕ, _+_, _≤_, _<_};
+ghost use lib.Dec.{eqb};
 ghost use lib.ListN.{length, getD};
 ghost use Rattle.records.specs.Sets.{Set, setBy, statementAt};
 ghost use Rattle.encoding.specs.Slots.{Slot, Term, flag as flagKind};
 ghost use Rattle.encoding.specs.Steps.{chain as chainOf, leads as leadsOf, entry as entryOf, line as lineOf};
 ghost use Rattle.places.specs.Places.{placeOf, size};
 ghost use Rattle.places.specs.Pieces.{Writes, WritesTree};
-ghost use Rattle.links.specs.Nexts.{Nexts};
+ghost use Rattle.links.specs.Members.{Members};
+ghost use Rattle.flags.specs.Named.{Unnamed};
 use links::Root;
 use links::edges;
+use links::members::IS_JUMP;
+use links::members::count_of;
+use links::members::member;
 use links::put_link;
 use places::kinds::FLAG;
 use records::Layout;
+
+// Marks statement j in `named`.
+fn mark(named: &mut [u8], j: u16)
+    ensures { λ _. ⌜ (length (now (named .exit)) ≡ length (now (named .entry)))
+        × ((k : ℕ) → k < length (now (named .entry)) → getD (now (named .exit)) k 0 ≡ 0 → (getD (now (named .entry)) k 0 ≡ 0) × (eqb j k ≡ false)) ⌝ }
+{
+    let at = j as usize;
+    if at < named.len() {
+        named[at] = 1;
+    }
+}
+
+// Marks in `named` the statements of thread t that its jumps name. Few do, so most flags need no search among the jumps.
+fn name_targets(set: &[u8], first: u32, members: &[u8], named: &mut [u8], t: u8, count: u16)
+    requires { ⌜ (first < 65536) × (t < 4) ⌝ }
+    ensures { λ _. ⌜ (length (now (named .exit)) ≡ length (now (named .entry)))
+        × ((S : Set) → count ≡ S .count t → Members S (now (members .entry)) → ((x : ℕ) → x < count → S .statement t x ≡ statementAt (now (set .entry)) (first + x))
+        → (j : ℕ) → j < length (now (named .entry)) → Unnamed S t count j (now (named .exit))) ⌝ }
+{
+    let many = count_of(members, IS_JUMP, t);
+    let mut p: u16 = 0;
+    while p < many {
+        let i = member(members, IS_JUMP, t, p);
+        let statement = records::statement_at(set, first + (i as u32));
+        mark(named, statement.argument);
+        p += 1;
+    }
+}
 
 // Writes the links of the flag of statement j over a tree, where jumps name j: those of the jumps, and that of the statement before.
 fn jump_links(
     set: &[u8],
     first: u32,
-    nexts: &[u8],
+    members: &[u8],
     slots: &[u32],
     out: &mut [u8],
     t: u8,
@@ -29,19 +63,19 @@ fn jump_links(
     n: u32,
     base: u64,
 ) -> Root
-    requires { ⌜ (first < 65536) × (count ≤ 32) × (n ≤ 1900000000) ⌝ }
-    ensures { λ r. ⌜ ((S : Set) (tree : Term) (start : List ℕ) (m : ℕ) → Nexts S (now (nexts .entry)) → ((x : ℕ) → x < count → S .statement t x ≡ statementAt (now (set .entry)) (first + x))
+    requires { ⌜ (first < 65536) × (count ≤ 32) × (n ≤ 1900000000) × (t < 4) ⌝ }
+    ensures { λ r. ⌜ ((S : Set) (tree : Term) (start : List ℕ) (m : ℕ) → count ≡ S .count t → Members S (now (members .entry)) → ((x : ℕ) → x < count → S .statement t x ≡ statementAt (now (set .entry)) (first + x))
         → WritesTree (placeOf (now (slots .entry))) tree start m (now (out .entry)) n base
         → WritesTree (placeOf (now (slots .entry))) (chainOf (leadsOf S [] 0 t j) count tree) start m (now (out .exit)) (r .next) (r .at))
         × (r .next ≤ n + 32) ⌝ }
 {
     let mut tree = Root { next: n, at: base };
-    let mut i = edges::leading(set, first, nexts, t, j, 0, count);
+    let mut i = edges::leading(set, first, members, t, j, 0, count);
     while i < count {
         let statement = records::statement_at(set, first + (i as u32));
         let link = edges::leads(statement, slots, t, j, i);
         tree = put_link(out, tree.next, tree.at, link);
-        i = edges::leading(set, first, nexts, t, j, i + 1, count);
+        i = edges::leading(set, first, members, t, j, i + 1, count);
     }
     tree
 }
@@ -50,7 +84,8 @@ fn jump_links(
 fn flag_links(
     set: &[u8],
     first: u32,
-    nexts: &[u8],
+    members: &[u8],
+    named: &[u8],
     slots: &[u32],
     out: &mut [u8],
     t: u8,
@@ -59,15 +94,14 @@ fn flag_links(
     n: u32,
     base: u64,
 ) -> Root
-    requires { ⌜ (first < 65536) × (count ≤ 32) × (j < count) × (n ≤ 1900000000) ⌝ }
-    ensures { λ r. ⌜ ((S : Set) (tree : Term) (start : List ℕ) (m : ℕ) → Nexts S (now (nexts .entry)) → ((x : ℕ) → x < count → S .statement t x ≡ statementAt (now (set .entry)) (first + x))
+    requires { ⌜ (first < 65536) × (count ≤ 32) × (j < count) × (n ≤ 1900000000) × (t < 4) ⌝ }
+    ensures { λ r. ⌜ ((S : Set) (tree : Term) (start : List ℕ) (m : ℕ) → count ≡ S .count t → Members S (now (members .entry)) → Unnamed S t count j (now (named .entry)) → ((x : ℕ) → x < count → S .statement t x ≡ statementAt (now (set .entry)) (first + x))
         → WritesTree (placeOf (now (slots .entry))) tree start m (now (out .entry)) n base
         → WritesTree (placeOf (now (slots .entry))) (chainOf (leadsOf S [] 0 t j) count tree) start m (now (out .exit)) (r .next) (r .at))
         × (r .next ≤ n + 32) ⌝ }
 {
-    let hit = edges::jump_to(set, first, nexts, t, j, 0, count);
-    if hit < count {
-        return jump_links(set, first, nexts, slots, out, t, j, count, n, base);
+    if base::byte_at(named, j as usize) != 0 {
+        return jump_links(set, first, members, slots, out, t, j, count, n, base);
     }
     if 0 < j {
         let before = j - 1;
@@ -82,7 +116,8 @@ fn flag_links(
 fn flag(
     set: &[u8],
     first: u32,
-    nexts: &[u8],
+    members: &[u8],
+    named: &[u8],
     slots: &mut [u32],
     out: &mut [u8],
     t: u8,
@@ -91,7 +126,7 @@ fn flag(
     n: u32,
 ) -> u32
     requires { ⌜ (first < 65536) × (count ≤ 32) × (j < count) × (t < 4) × (n ≤ 1800000000) ⌝ }
-    ensures { λ r. ⌜ ((S : Set) (cs : List ℕ) (k : ℕ) → count ≡ S .count t → Nexts S (now (nexts .entry)) → ((x : ℕ) → x < count → S .statement t x ≡ statementAt (now (set .entry)) (first + x))
+    ensures { λ r. ⌜ ((S : Set) (cs : List ℕ) (k : ℕ) → count ≡ S .count t → Members S (now (members .entry)) → Unnamed S t count j (now (named .entry)) → ((x : ℕ) → x < count → S .statement t x ≡ statementAt (now (set .entry)) (first + x))
         → length (now (slots .entry)) ≡ size → ((s : Slot) → placeOf (now (slots .entry)) s < n)
         → Writes (entryOf S cs k flagKind t j) (now (out .entry)) (now (slots .entry)) n (now (out .exit)) (now (slots .exit)) r)
         × (r ≤ n + 36) ⌝ }
@@ -99,7 +134,19 @@ fn flag(
     let statement = records::statement_at(set, first + (j as u32));
     let base = bases::put_flag(statement, slots, out, t, j, n);
     let next = n + base.count;
-    let tree = flag_links(set, first, nexts, slots, out, t, j, count, next, base.root);
+    let tree = flag_links(
+        set,
+        first,
+        members,
+        named,
+        slots,
+        out,
+        t,
+        j,
+        count,
+        next,
+        base.root,
+    );
     places::set_place(slots, FLAG, t, j, tree.at);
     tree.next
 }
@@ -108,7 +155,7 @@ fn flag(
 fn each_flag(
     set: &[u8],
     first: u32,
-    nexts: &[u8],
+    members: &[u8],
     slots: &mut [u32],
     out: &mut [u8],
     t: u8,
@@ -116,15 +163,17 @@ fn each_flag(
     n: u32,
 ) -> u32
     requires { ⌜ (first < 65536) × (count ≤ 32) × (t < 4) × (n ≤ 1700000000) ⌝ }
-    ensures { λ r. ⌜ ((S : Set) (cs : List ℕ) (k : ℕ) → count ≡ S .count t → Nexts S (now (nexts .entry)) → ((x : ℕ) → x < count → S .statement t x ≡ statementAt (now (set .entry)) (first + x))
+    ensures { λ r. ⌜ ((S : Set) (cs : List ℕ) (k : ℕ) → count ≡ S .count t → Members S (now (members .entry)) → ((x : ℕ) → x < count → S .statement t x ≡ statementAt (now (set .entry)) (first + x))
         → length (now (slots .entry)) ≡ size → ((s : Slot) → placeOf (now (slots .entry)) s < n)
         → Writes (lineOf S cs k flagKind t) (now (out .entry)) (now (slots .entry)) n (now (out .exit)) (now (slots .exit)) r)
         × (r ≤ n + 1152) ⌝ }
 {
+    let mut named = [0u8; 32];
+    name_targets(set, first, members, &mut named, t, count);
     let mut next = n;
     let mut j: u16 = 0;
     while j < count {
-        next = flag(set, first, nexts, slots, out, t, j, count, next);
+        next = flag(set, first, members, &named, slots, out, t, j, count, next);
         j += 1;
     }
     next
@@ -141,14 +190,14 @@ fn wide(x: u16) -> u32
 pub fn flags(
     set: &[u8],
     layout: Layout,
-    nexts: &[u8],
+    members: &[u8],
     slots: &mut [u32],
     out: &mut [u8],
     t: u8,
     n: u32,
 ) -> u32
     ensures { λ r. ⌜ ((cs : List ℕ) (k : ℕ) → t < 4 → getD (layout .counts) t 0 ≤ 32 → n ≤ 1700000000
-        → Nexts (setBy (now (set .entry)) layout) (now (nexts .entry))
+        → Members (setBy (now (set .entry)) layout) (now (members .entry))
         → length (now (slots .entry)) ≡ size → ((s : Slot) → placeOf (now (slots .entry)) s < n)
         → Writes (lineOf (setBy (now (set .entry)) layout) cs k flagKind t)
         (now (out .entry)) (now (slots .entry)) n (now (out .exit)) (now (slots .exit)) r)
@@ -169,5 +218,5 @@ pub fn flags(
         return n;
     }
     let first = wide(layout.starts[thread]);
-    each_flag(set, first, nexts, slots, out, t, count, n)
+    each_flag(set, first, members, slots, out, t, count, n)
 }

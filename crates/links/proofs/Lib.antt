@@ -1,8 +1,11 @@
--- Laws of shapes, threads, links and next statements.
+-- Laws of shapes, threads, their statements and checkpoints, links and the members of classes.
 pub mod Blocks
-pub mod ByKind
+pub mod Contains
+pub mod Filling
+pub mod Givers
+pub mod Held
 pub mod Leads
-pub mod Following
+pub mod Listed
 pub mod Skips
 pub mod Threads
 pub mod Trees

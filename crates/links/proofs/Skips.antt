@@ -1,4 +1,4 @@
--- Kinds whose chains have no links. Assumes nothing.
+-- Kinds whose chains have no links, or none that statements give. Assumes nothing.
 use Prim.Native.Nat.{ℕ, _≤_}
 use mathlib.Core.Path.{_≡_, refl, sym, ap, _∙_}
 use mathlib.Core.Bool.{Bool, true, false, _||_, true≢false}
@@ -10,11 +10,11 @@ use borrow.Author.Tests.{ne-eqb, eqb-true}
 use lib.ListN.{length, List·getD-eq-default}
 use Rattle.base.specs.Below.{every}
 use Rattle.base.proofs.Below.{every-at}
-use Rattle.base.proofs.Choice.{or-false}
+use Rattle.base.proofs.Choice.{passed, or-false}
 use Rattle.records.specs.Sets.{Set}
 use Rattle.encoding.specs.Slots.{Kind, choice, kinds, kindAt}
 use Rattle.encoding.specs.Steps.{Link, skip, ifThen, andWith, orWith, link, links}
-use Rattle.links.specs.Given.{given}
+use Rattle.links.specs.Given.{given, givenLink}
 
 -- a number is none of those listed, as a `match` leaves it
 abbrev pub Apart : ℕ → List ℕ → Type 0
@@ -83,3 +83,18 @@ module _ (S : Set) (cs : List ℕ) (a b : ℕ) where
     pub no-link : (n : ℕ) → Apart n ungiven → given n ≡ false → link S cs 0 (kindAt n) a b i ≡ skip
     unfolding over skips
     no-link n r e = skips-is (link S cs 0 (kindAt n) a b i) (at-kind (λ k. among k ungiven || given k) over each-over refl n (or-false (apart-among n ungiven r) e))
+
+-- a kind that no arm names
+pub given-else : (kind t i n : ℕ) → Apart kind (30 ∷ 29 ∷ 28 ∷ 27 ∷ 26 ∷ 25 ∷ 23 ∷ 22 ∷ 20 ∷ 18 ∷ 4 ∷ []) → givenLink kind t i n ≡ skip
+given-else kind t i n r =
+    passed _ _ (ne-eqb kind 4 (r .0 .0 .0 .0 .0 .0 .0 .0 .0 .0 .1))
+    ∙ passed _ _ (ne-eqb kind 18 (r .0 .0 .0 .0 .0 .0 .0 .0 .0 .1))
+    ∙ passed _ _ (ne-eqb kind 20 (r .0 .0 .0 .0 .0 .0 .0 .0 .1))
+    ∙ passed _ _ (ne-eqb kind 22 (r .0 .0 .0 .0 .0 .0 .0 .1))
+    ∙ passed _ _ (ne-eqb kind 23 (r .0 .0 .0 .0 .0 .0 .1))
+    ∙ passed _ _ (ne-eqb kind 25 (r .0 .0 .0 .0 .0 .1))
+    ∙ passed _ _ (ne-eqb kind 26 (r .0 .0 .0 .0 .1))
+    ∙ passed _ _ (ne-eqb kind 27 (r .0 .0 .0 .1))
+    ∙ passed _ _ (ne-eqb kind 28 (r .0 .0 .1))
+    ∙ passed _ _ (ne-eqb kind 29 (r .0 .1))
+    ∙ passed _ _ (ne-eqb kind 30 (r .1))

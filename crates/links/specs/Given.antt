@@ -1,6 +1,8 @@
 -- The chains over the statements of a thread: the link that a statement gives, by the kind's number and the statement's instruction. Assumes nothing.
-use Prim.Native.Nat.{ℕ}
-use mathlib.Core.Bool.{Bool, cond, _||_}
+use Prim.Native.Nat.{ℕ, _<_}
+use mathlib.Core.Path.{_≡_}
+use mathlib.Core.Bool.{Bool, true, cond, _||_}
+use mathlib.Core.List.{List}
 use lib.Dec.{eqb}
 use Rattle.records.specs.Instructions.{STORE, MEM, CAS, HALT, EXIT}
 use Rattle.records.specs.Sets.{Set}
@@ -8,6 +10,10 @@ use Rattle.step.specs.Machine.{needsEmpty}
 use Rattle.table.specs.Formulas.{bitSort, wordSort}
 use Rattle.encoding.specs.Slots.{Kind, Slot, slot, active, swaps, address, loaded, result, accu, yes, argument}
 use Rattle.encoding.specs.Steps.{Link, skip, ifThen, only, setsAccu}
+use Rattle.places.specs.Places.{placeFrom, placeOf}
+use Rattle.links.specs.Members.{inClass}
+use Rattle.links.specs.Placed.{placedLink, ifLink}
+use Rattle.links.specs.declared.given.Giver.{Giver}
 
 -- where the test holds: if the statement executes, or is a CAS that matches, then the effect
 abbrev pub givenIf : Bool → ℕ → Kind → (t i : ℕ) → Slot → Link
@@ -37,3 +43,17 @@ abbrev pub given : ℕ → Bool
 given kind =
     eqb kind 4 || eqb kind 25 || eqb kind 26 || eqb kind 27 || eqb kind 28 || eqb kind 29 || eqb kind 30
     || eqb kind 18 || eqb kind 20 || eqb kind 22 || eqb kind 23
+
+-- ---- the same by class
+
+-- where the effect lies: the statement's own word of a kind, bit 1, or the thread's accu
+abbrev pub effectPlace : Giver → List ℕ → (t i : ℕ) → ℕ
+effectPlace g slots t i = cond (g .own) (placeFrom slots (g .effect) t i 2) (cond (eqb (g .sort) 1) (placeFrom slots 37 0 0 1) (placeFrom slots 28 t 0 2))
+
+-- the statements of a class give the links of a chain; past the last class none does
+pub record Gives (kind : ℕ) (g : Giver) : Type 0 where
+  pub link : (t i : ℕ) → Link
+  pub inside : (t i n : ℕ) → givenLink kind t i n ≡ cond (inClass (g .class) n) (link t i) skip
+  pub places : (slots : List ℕ) (t i : ℕ) → g .class < 11 →
+      ifLink (g .sort) (placeFrom slots (g .test) t i 0) (effectPlace g slots t i) ≡ placedLink (placeOf slots) (link t i)
+  pub small : (g .test < 41) × (g .effect < 41) × (g .own ≡ true → g .sort ≡ 2)

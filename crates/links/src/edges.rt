@@ -8,11 +8,12 @@ ghost use Rattle.records.specs.Sets.{Set, statementAt};
 ghost use Rattle.encoding.specs.Slots.{slot, active, test, untest};
 ghost use Rattle.encoding.specs.Steps.{skip, ifThen, leads as leadsOf};
 ghost use Rattle.places.specs.Places.{placeOf};
-ghost use Rattle.links.specs.Nexts.{Nexts, namesTarget};
+ghost use Rattle.links.specs.Members.{Members, namesTarget};
 ghost use Rattle.links.specs.Placed.{placedLink};
 use crate::Link;
-use crate::nexts::IS_JUMP;
-use crate::nexts::next_of;
+use crate::members::IS_JUMP;
+use crate::members::count_of;
+use crate::members::member;
 use crate::parts::BIT;
 use crate::parts::BIT0;
 use crate::parts::IF;
@@ -93,35 +94,55 @@ pub fn follows(n: u8, slots: &[u32], t: u8, i: u16) -> Link
     bit_if(slots, true, t, i)
 }
 
+// The greater of two numbers.
+fn later(a: u16, b: u16) -> u16
+    ensures { λ r. ⌜ (a ≤ r) × (a ≤ b → r ≡ b) × (b < a → r ≡ a) ⌝ }
+{
+    if a < b {
+        return b;
+    }
+    a
+}
+
 // The first jump of thread t, from statement i on, that names j; at most `count`. The thread's statements stand from record `first` on.
-pub fn jump_to(set: &[u8], first: u32, nexts: &[u8], t: u8, j: u16, i: u16, count: u16) -> u16
-    ensures { λ r. ⌜ ((S : Set) → Nexts S (now (nexts .entry)) → ((x : ℕ) → x < count → S .statement t x ≡ statementAt (now (set .entry)) (first + x))
+pub fn jump_to(set: &[u8], first: u32, members: &[u8], t: u8, j: u16, i: u16, count: u16) -> u16
+    ensures { λ r. ⌜ ((S : Set) → t < 4 → count ≤ S .count t → Members S (now (members .entry))
+        → ((x : ℕ) → x < count → S .statement t x ≡ statementAt (now (set .entry)) (first + x))
         → (x : ℕ) → i ≤ x → x < r → namesTarget (S .statement t x) j ≡ false)
         × (i ≤ r) × (i ≤ count → r ≤ count) ⌝ }
 {
-    // No record of a set has such a number, and a sum with it may not fit.
+    // No record of a set has such a number, and a sum with it may not fit. With the others known, the compiler drops the tests of places in the loop.
     if 65535 < first {
         return i;
     }
-    let mut at = next_of(nexts, IS_JUMP, t, i, count);
-    while at < count {
+    if 4 <= t {
+        return i;
+    }
+    if members.len() != 1452 {
+        return i;
+    }
+    let many = count_of(members, IS_JUMP, t);
+    let mut p: u16 = 0;
+    while p < many {
+        let at = member(members, IS_JUMP, t, p);
         let s = records::statement_at(set, first + (at as u32));
-        if s.argument == j {
+        if (s.argument == j) & (i <= at) & (at < count) {
             return at;
         }
-        at = next_of(nexts, IS_JUMP, t, at + 1, count);
+        p += 1;
     }
-    at
+    later(i, count)
 }
 
 // The first statement of thread t, from statement i on, that is a jump to j or stands before it; at most `count`. Those passed over do not
 // lead to j. The thread's statements stand from record `first` on.
-pub fn leading(set: &[u8], first: u32, nexts: &[u8], t: u8, j: u16, i: u16, count: u16) -> u16
-    ensures { λ r. ⌜ ((S : Set) → Nexts S (now (nexts .entry)) → ((x : ℕ) → x < count → S .statement t x ≡ statementAt (now (set .entry)) (first + x))
+pub fn leading(set: &[u8], first: u32, members: &[u8], t: u8, j: u16, i: u16, count: u16) -> u16
+    ensures { λ r. ⌜ ((S : Set) → t < 4 → count ≤ S .count t → Members S (now (members .entry))
+        → ((x : ℕ) → x < count → S .statement t x ≡ statementAt (now (set .entry)) (first + x))
         → (x : ℕ) → i ≤ x → x < r → leadsOf S [] 0 t j x ≡ skip)
         × (i ≤ r) × (i ≤ count → r ≤ count) ⌝ }
 {
-    let hit = jump_to(set, first, nexts, t, j, i, count);
+    let hit = jump_to(set, first, members, t, j, i, count);
     if i < j {
         if j <= hit {
             return j - 1;

@@ -1,80 +1,210 @@
-// The links that statements give, by the kind of the chain and the statement's instruction.
+// The chains whose links the statements of a class give, by the kind of the chain.
 ghost use mathlib.Core.Path.{_≡_};
-ghost use mathlib.Core.Bool.{false};
+ghost use mathlib.Core.Bool.{true, false};
 ghost use mathlib.Core.List.{List};
 ghost use Prim.Native.Nat.{ℕ, _+_, _≤_, _<_};
 ghost use lib.ListN.{length};
-ghost use Rattle.records.specs.Sets.{Set, statementAt};
+ghost use Rattle.records.specs.Sets.{Set};
 ghost use Rattle.encoding.specs.Slots.{Term};
-ghost use Rattle.encoding.specs.Steps.{skip, chain as chainOf};
+ghost use Rattle.encoding.specs.Steps.{Link as ChainLink, chain as chainOf};
 ghost use Rattle.places.specs.Pieces.{WritesTree};
-ghost use Rattle.places.specs.Places.{placeOf, size};
-ghost use Rattle.links.specs.Given.{givenLink, givenBy};
-ghost use Rattle.links.specs.Nexts.{inClass, Nexts};
-ghost use Rattle.links.specs.Placed.{placedLink};
+ghost use Rattle.places.specs.Places.{placeOf, placeFrom, size};
+ghost use Rattle.links.specs.Given.{Gives, givenBy};
+ghost use Rattle.links.specs.Members.{Members, ofClass};
+ghost use Rattle.links.specs.Placed.{placedLink, ifLink};
 use crate::Link;
-use crate::nexts;
-use crate::parts::bit_if;
-use crate::parts::none;
-use crate::parts::swap_if;
-use crate::parts::word_if;
-use crate::statements::needs_empty;
-use crate::statements::sets_accu;
+use crate::members;
+use crate::parts::BIT;
+use crate::parts::BIT0;
+use crate::parts::BIT1;
+use crate::parts::IF;
+use crate::parts::WORD;
+use crate::parts::WORD0;
 use crate::written::Root;
 use crate::written::put_link;
 use places::kinds;
-use records::instructions::CAS;
-use records::instructions::EXIT;
-use records::instructions::HALT;
-use records::instructions::MEM;
-use records::instructions::STORE;
+use places::place;
 
-// The link that statement i of thread t, of instruction n, gives to the chain of a kind.
-pub fn given_link(slots: &[u32], kind: u8, t: u8, i: u16, n: u8) -> Link
-    ensures { λ r. ⌜ r ≡ placedLink (placeOf (now (slots .entry))) (givenLink kind t i n) ⌝ }
+// A class whose statements give the links of a chain: if the bit of kind `test` holds, then the statement's own word of kind `effect`;
+// where that is not its own, bit 1 or its thread's accu, by the sort.
+pub struct Giver {
+    pub class: u8,
+    pub test: u8,
+    pub sort: u8,
+    pub own: bool,
+    pub effect: u8,
+}
+
+// Statements of a class that, where they execute, set a bit.
+fn sets_bit(class: u8) -> Giver
+    ensures { λ r. ⌜ r ≡ record { class = class; test = 1; sort = 1; own = false; effect = 37 } ⌝ }
 {
-    match kind {
-        kinds::BARRED => bit_if(slots, needs_empty(n), t, i),
-        kinds::WRITE_TO => swap_if(slots, n == CAS, t, i, kinds::ADDRESS, i),
-        kinds::WRITE_VALUE => swap_if(slots, n == CAS, t, i, kinds::ACCU, 0),
-        kinds::EXITS => bit_if(slots, n == EXIT, t, i),
-        kinds::CODES => word_if(slots, n == EXIT, t, i, kinds::ARGUMENT, i),
-        kinds::VAL => word_if(slots, n == STORE, t, i, kinds::ACCU, 0),
-        kinds::ADR => word_if(slots, n == STORE, t, i, kinds::ADDRESS, i),
-        kinds::MEM => word_if(slots, n == MEM, t, i, kinds::LOADED, i),
-        kinds::ACCU => word_if(slots, sets_accu(n), t, i, kinds::RESULT, i),
-        kinds::FULL => bit_if(slots, n == STORE, t, i),
-        kinds::HALTED => bit_if(slots, n == HALT, t, i),
-        _ => none(),
+    Giver {
+        class,
+        test: kinds::ACTIVE,
+        sort: BIT,
+        own: false,
+        effect: kinds::YES,
     }
 }
 
-// A class of statements outside which none gives a link to the chain of a kind.
-fn class_of(kind: u8) -> u8
-    ensures { λ r. ⌜ ((t i n : ℕ) → inClass r n ≡ false → givenLink kind t i n ≡ skip) ⌝ }
+// Statements of a class that, where a bit holds, give their thread's accu.
+fn gives_accu(class: u8, test: u8) -> Giver
+    ensures { λ r. ⌜ r ≡ record { class = class; test = test; sort = 2; own = false; effect = 28 } ⌝ }
 {
-    match kind {
-        kinds::BARRED => nexts::NEEDS_EMPTY,
-        kinds::WRITE_TO => nexts::IS_CAS,
-        kinds::WRITE_VALUE => nexts::IS_CAS,
-        kinds::EXITS => nexts::IS_EXIT,
-        kinds::CODES => nexts::IS_EXIT,
-        kinds::VAL => nexts::IS_STORE,
-        kinds::ADR => nexts::IS_STORE,
-        kinds::MEM => nexts::IS_MEM,
-        kinds::ACCU => nexts::SETS_ACCU,
-        kinds::FULL => nexts::IS_STORE,
-        kinds::HALTED => nexts::IS_HALT,
-        _ => nexts::ANY,
+    Giver {
+        class,
+        test,
+        sort: WORD,
+        own: false,
+        effect: kinds::ACCU,
     }
 }
 
-// Writes the links that the `count` statements of thread t, whose records stand from `first` on, give to the chain of a kind over a tree.
+// Statements of a class that, where a bit holds, give a word of their own.
+fn gives_own(class: u8, test: u8, effect: u8) -> Giver
+    ensures { λ r. ⌜ r ≡ record { class = class; test = test; sort = 2; own = true; effect = effect } ⌝ }
+{
+    Giver {
+        class,
+        test,
+        sort: WORD,
+        own: true,
+        effect,
+    }
+}
+
+// The statements that give the links of the chain of a kind.
+fn giver_of(kind: u8) -> Giver
+    ensures { λ r. ⌜ Gives kind r ⌝ }
+{
+    match kind {
+        kinds::BARRED => sets_bit(members::NEEDS_EMPTY),
+        kinds::WRITE_TO => gives_own(members::IS_CAS, kinds::SWAPS, kinds::ADDRESS),
+        kinds::WRITE_VALUE => gives_accu(members::IS_CAS, kinds::SWAPS),
+        kinds::EXITS => sets_bit(members::IS_EXIT),
+        kinds::CODES => gives_own(members::IS_EXIT, kinds::ACTIVE, kinds::ARGUMENT),
+        kinds::VAL => gives_accu(members::IS_STORE, kinds::ACTIVE),
+        kinds::ADR => gives_own(members::IS_STORE, kinds::ACTIVE, kinds::ADDRESS),
+        kinds::MEM => gives_own(members::IS_MEM, kinds::ACTIVE, kinds::LOADED),
+        kinds::ACCU => gives_own(members::SETS_ACCU, kinds::ACTIVE, kinds::RESULT),
+        kinds::FULL => sets_bit(members::IS_STORE),
+        kinds::HALTED => sets_bit(members::IS_HALT),
+        _ => sets_bit(members::CLASSES),
+    }
+}
+
+// Writes the links of the statements of a class over a tree: if the bit of kind `test` holds, then what lies at `effect`.
+fn fixed_links(
+    members: &[u8],
+    slots: &[u32],
+    out: &mut [u8],
+    class: u8,
+    test: u8,
+    sort: u8,
+    effect: u64,
+    t: u8,
+    n: u32,
+    base: u64,
+) -> Root
+    ensures { λ r. ⌜ ((S : Set) (links : ℕ → ChainLink) (tree : Term) (start : List ℕ) (m : ℕ) → test < 41 → t < 4 → n ≤ 1900000000 → length (now (slots .entry)) ≡ size
+        → Members S (now (members .entry))
+        → (class < 11 → (i : ℕ) → ifLink sort (placeFrom (now (slots .entry)) test t i 0) effect ≡ placedLink (placeOf (now (slots .entry))) (links i))
+        → WritesTree (placeOf (now (slots .entry))) tree start m (now (out .entry)) n base
+        → WritesTree (placeOf (now (slots .entry))) (chainOf (ofClass S class t links) (S .count t) tree) start m (now (out .exit)) (r .next) (r .at))
+        × (r .next ≤ n + 32) ⌝ }
+{
+    let mut tree = Root { next: n, at: base };
+    // With these known, the compiler drops the tests of places in the loop.
+    if 10 < class {
+        return tree;
+    }
+    if 40 < test {
+        return tree;
+    }
+    if 4 <= t {
+        return tree;
+    }
+    if slots.len() != 5248 {
+        return tree;
+    }
+    if members.len() != 1452 {
+        return tree;
+    }
+    let many = members::count_of(members, class, t);
+    let mut j: u16 = 0;
+    while j < many {
+        let i = members::member(members, class, t, j);
+        let link = Link {
+            operation: IF,
+            sort,
+            a: place(slots, test, t, i, BIT0),
+            b: effect,
+        };
+        tree = put_link(out, tree.next, tree.at, link);
+        j += 1;
+    }
+    tree
+}
+
+// The same where the effect is the statement's own word of a kind.
+fn own_links(
+    members: &[u8],
+    slots: &[u32],
+    out: &mut [u8],
+    class: u8,
+    test: u8,
+    effect: u8,
+    t: u8,
+    n: u32,
+    base: u64,
+) -> Root
+    ensures { λ r. ⌜ ((S : Set) (links : ℕ → ChainLink) (tree : Term) (start : List ℕ) (m : ℕ) → test < 41 → effect < 41 → t < 4 → n ≤ 1900000000
+        → length (now (slots .entry)) ≡ size → Members S (now (members .entry))
+        → (class < 11 → (i : ℕ) → ifLink 2 (placeFrom (now (slots .entry)) test t i 0) (placeFrom (now (slots .entry)) effect t i 2)
+        ≡ placedLink (placeOf (now (slots .entry))) (links i))
+        → WritesTree (placeOf (now (slots .entry))) tree start m (now (out .entry)) n base
+        → WritesTree (placeOf (now (slots .entry))) (chainOf (ofClass S class t links) (S .count t) tree) start m (now (out .exit)) (r .next) (r .at))
+        × (r .next ≤ n + 32) ⌝ }
+{
+    let mut tree = Root { next: n, at: base };
+    if 10 < class {
+        return tree;
+    }
+    if 40 < test {
+        return tree;
+    }
+    if 40 < effect {
+        return tree;
+    }
+    if 4 <= t {
+        return tree;
+    }
+    if slots.len() != 5248 {
+        return tree;
+    }
+    if members.len() != 1452 {
+        return tree;
+    }
+    let many = members::count_of(members, class, t);
+    let mut j: u16 = 0;
+    while j < many {
+        let i = members::member(members, class, t, j);
+        let link = Link {
+            operation: IF,
+            sort: WORD,
+            a: place(slots, test, t, i, BIT0),
+            b: place(slots, effect, t, i, WORD0),
+        };
+        tree = put_link(out, tree.next, tree.at, link);
+        j += 1;
+    }
+    tree
+}
+
+// Writes the links that the statements of thread t give to the chain of a kind over a tree.
 pub fn given_chain(
-    set: &[u8],
-    first: u32,
-    count: u16,
-    nexts: &[u8],
+    members: &[u8],
     slots: &[u32],
     out: &mut [u8],
     kind: u8,
@@ -82,36 +212,33 @@ pub fn given_chain(
     n: u32,
     base: u64,
 ) -> Root
-    ensures { λ r. ⌜ ((S : Set) (tree : Term) (start : List ℕ) (m : ℕ) → first < 65536 → count ≤ 32 → t < 4 → n ≤ 1900000000 → length (now (slots .entry)) ≡ size
-        → ((x : ℕ) → x < count → S .statement t x ≡ statementAt (now (set .entry)) (first + x)) → Nexts S (now (nexts .entry))
+    ensures { λ r. ⌜ ((S : Set) (tree : Term) (start : List ℕ) (m : ℕ) → t < 4 → n ≤ 1900000000 → length (now (slots .entry)) ≡ size
+        → Members S (now (members .entry))
         → WritesTree (placeOf (now (slots .entry))) tree start m (now (out .entry)) n base
-        → WritesTree (placeOf (now (slots .entry))) (chainOf (givenBy S kind t) count tree) start m (now (out .exit)) (r .next) (r .at))
+        → WritesTree (placeOf (now (slots .entry))) (chainOf (givenBy S kind t) (S .count t) tree) start m (now (out .exit)) (r .next) (r .at))
         × (r .next ≤ n + 32) ⌝ }
 {
-    let mut tree = Root { next: n, at: base };
-    // With these known, sums fit, and the compiler drops the tests of places in the loop.
-    if 4 <= t {
-        return tree;
+    let giver = giver_of(kind);
+    let class = giver.class;
+    let test = giver.test;
+    if giver.own {
+        return own_links(members, slots, out, class, test, giver.effect, t, n, base);
     }
-    if 32 < count {
-        return tree;
+    if giver.sort == 1 {
+        let yes = place(slots, kinds::YES, 0, 0, BIT1);
+        return fixed_links(members, slots, out, class, test, BIT, yes, t, n, base);
     }
-    if 65535 < first {
-        return tree;
-    }
-    if 1900000000 < n {
-        return tree;
-    }
-    if slots.len() != 5248 {
-        return tree;
-    }
-    let class = class_of(kind);
-    let mut i = nexts::next_of(nexts, class, t, 0, count);
-    while i < count {
-        let statement = records::statement_at(set, first + (i as u32));
-        let link = given_link(slots, kind, t, i, statement.number);
-        tree = put_link(out, tree.next, tree.at, link);
-        i = nexts::next_of(nexts, class, t, i + 1, count);
-    }
-    tree
+    let accu = place(slots, kinds::ACCU, t, 0, WORD0);
+    fixed_links(
+        members,
+        slots,
+        out,
+        class,
+        test,
+        giver.sort,
+        accu,
+        t,
+        n,
+        base,
+    )
 }

@@ -1,8 +1,9 @@
 // The links of a table's chains, and what there is of each kind (crate encoding: `link`, `links`, `rows`, `columns`, `kept`).
 pub mod chains;
+pub mod checks;
 pub mod edges;
 mod given;
-pub mod nexts;
+pub mod members;
 mod parts;
 mod shapes;
 mod statements;

@@ -6,8 +6,10 @@ ghost use lib.ListN.{getD};
 ghost use Rattle.records.specs.Sets.{setBy};
 ghost use Rattle.step.specs.Machine.{contains};
 ghost use Rattle.places.specs.Places.{placeFrom, listed};
+ghost use Rattle.links.specs.Members.{Members};
 ghost use Rattle.links.specs.Placed.{noLink, ifLink, bitLink};
 use crate::Link;
+use crate::checks::has;
 use places::Points;
 use places::kinds;
 use places::place;
@@ -15,7 +17,7 @@ use records::Layout;
 
 pub const BIT: u8 = 1;
 
-const WORD: u8 = 2;
+pub const WORD: u8 = 2;
 
 pub const AND: u8 = 5;
 
@@ -26,9 +28,9 @@ pub const IF: u8 = 8;
 // Where bits 0 and 1 and the word 0 lie at the start.
 pub const BIT0: u64 = 0;
 
-const BIT1: u64 = 1;
+pub const BIT1: u64 = 1;
 
-const WORD0: u64 = 2;
+pub const WORD0: u64 = 2;
 
 // No link.
 pub fn none() -> Link
@@ -52,36 +54,6 @@ pub fn bit_if(slots: &[u32], counts: bool, t: u8, i: u16) -> Link
             sort: BIT,
             a: place(slots, kinds::ACTIVE, t, i, BIT0),
             b: place(slots, kinds::YES, 0, 0, BIT1),
-        };
-    }
-    none()
-}
-
-// Where statement i of thread t counts: if it executes then its thread's word of kind `effect` for `column`.
-pub fn word_if(slots: &[u32], counts: bool, t: u8, i: u16, effect: u8, column: u16) -> Link
-    ensures { λ r. ⌜ r ≡ cond counts (ifLink 2 (placeFrom (now (slots .entry)) 1 t i 0) (placeFrom (now (slots .entry)) effect t column 2)) noLink ⌝ }
-{
-    if counts {
-        return Link {
-            operation: IF,
-            sort: WORD,
-            a: place(slots, kinds::ACTIVE, t, i, BIT0),
-            b: place(slots, effect, t, column, WORD0),
-        };
-    }
-    none()
-}
-
-// The same of a CAS: if it executes and matches then its thread's word of kind `effect` for `column`.
-pub fn swap_if(slots: &[u32], counts: bool, t: u8, i: u16, effect: u8, column: u16) -> Link
-    ensures { λ r. ⌜ r ≡ cond counts (ifLink 2 (placeFrom (now (slots .entry)) 13 t i 0) (placeFrom (now (slots .entry)) effect t column 2)) noLink ⌝ }
-{
-    if counts {
-        return Link {
-            operation: IF,
-            sort: WORD,
-            a: place(slots, kinds::SWAPS, t, i, BIT0),
-            b: place(slots, effect, t, column, WORD0),
         };
     }
     none()
@@ -124,19 +96,21 @@ pub fn contained(
     set: &[u8],
     layout: Layout,
     points: Points,
+    members: &[u8],
     slots: &[u32],
     operation: u8,
     kind: u8,
     t: u16,
     p: u16,
 ) -> Link
-    ensures { λ r. ⌜ r ≡ cond (contains (setBy (now (set .entry)) layout) t (getD (listed points) p 0)) (bitLink operation (placeFrom (now (slots .entry)) kind t p 0)) noLink ⌝ }
+    ensures { λ r. ⌜ (Members (setBy (now (set .entry)) layout) (now (members .entry))
+        → r ≡ cond (contains (setBy (now (set .entry)) layout) t (getD (listed points) p 0)) (bitLink operation (placeFrom (now (slots .entry)) kind t p 0)) noLink) ⌝ }
 {
     if 4 <= t {
         return none();
     }
     let thread = t as u8;
-    if step::contains(set, layout, thread, places::checkpoint(points, p)) {
+    if has(set, layout, members, thread, places::checkpoint(points, p)) {
         return Link {
             operation: operation,
             sort: BIT,

@@ -6,7 +6,9 @@ ghost use Rattle.records.specs.Sets.{setBy};
 ghost use Rattle.encoding.specs.Slots.{kindAt};
 ghost use Rattle.encoding.specs.Steps.{shape, rows as rowsOf, columns as columnsOf, kept as keptOf};
 ghost use Rattle.places.specs.Places.{listed};
+ghost use Rattle.links.specs.Members.{Members};
 ghost use Rattle.links.specs.Shapes.{shapeNumber};
+use crate::checks::has;
 use crate::statements::count;
 use places::Points;
 use places::kinds;
@@ -105,11 +107,20 @@ pub fn columns(layout: Layout, points: Points, kind: u8, a: u8) -> u16
 }
 
 // Whether there is a value at row a and column b: a thread has marks at the checkpoints that it contains.
-pub fn kept(set: &[u8], layout: Layout, points: Points, kind: u8, a: u8, b: u16) -> bool
-    ensures { λ r. ⌜ r ≡ keptOf (setBy (now (set .entry)) layout) (listed points) 0 (shape (kindAt kind)) a b ⌝ }
+pub fn kept(
+    set: &[u8],
+    layout: Layout,
+    points: Points,
+    members: &[u8],
+    kind: u8,
+    a: u8,
+    b: u16,
+) -> bool
+    ensures { λ r. ⌜ (Members (setBy (now (set .entry)) layout) (now (members .entry))
+        → r ≡ keptOf (setBy (now (set .entry)) layout) (listed points) 0 (shape (kindAt kind)) a b) ⌝ }
 {
     if shape_of(kind) == PER_MARK {
-        return step::contains(set, layout, a, places::checkpoint(points, b));
+        return has(set, layout, members, a, places::checkpoint(points, b));
     }
     true
 }

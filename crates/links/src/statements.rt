@@ -1,20 +1,15 @@
 // Statements as the links of a table see them: how many a thread has, where they stand, and classes of instructions.
 ghost use mathlib.Core.Path.{_≡_};
-ghost use mathlib.Core.Bool.{cond, _&&_};
+ghost use mathlib.Core.Bool.{cond};
 ghost use Prim.Native.Nat.{_-_, _<_};
 ghost use lib.Dec.{eqb};
 ghost use lib.ListN.{getD};
-ghost use Rattle.records.specs.Instructions.{CHECK as check};
-ghost use Rattle.records.specs.Sets.{setBy};
 ghost use Rattle.step.specs.Machine.{needsEmpty};
-ghost use Rattle.encoding.specs.Steps.{setsAccu, isConditional, isPlain, rests as restsOf};
-ghost use Rattle.places.specs.Places.{listed};
-use places::Points;
+ghost use Rattle.encoding.specs.Steps.{loads as loadsOf, setsAccu, isConditional, isPlain, rests as restsOf};
 use records::Layout;
 use records::instructions::ADD;
 use records::instructions::ADDI;
 use records::instructions::CAS;
-use records::instructions::CHECK;
 use records::instructions::EXIT;
 use records::instructions::FENCE;
 use records::instructions::HALT;
@@ -80,6 +75,13 @@ pub fn needs_empty(n: u8) -> bool
     (n == STORE) | (n == FENCE) | (n == CAS) | (n == HALT)
 }
 
+// Words that load.
+pub fn loads(n: u8) -> bool
+    ensures { λ r. ⌜ r ≡ loadsOf n ⌝ }
+{
+    (n == LOAD) | (n == ADD) | (n == SUB) | (n == MUL) | (n == MEM)
+}
+
 // Words that change accu.
 pub fn sets_accu(n: u8) -> bool
     ensures { λ r. ⌜ r ≡ setsAccu n ⌝ }
@@ -114,16 +116,4 @@ pub fn rests(n: u8) -> bool
     ensures { λ r. ⌜ r ≡ restsOf n ⌝ }
 {
     (n == HALT) | (n == EXIT)
-}
-
-// Whether statement i of thread t is a CHECK of checkpoint p.
-pub fn raises(set: &[u8], layout: Layout, points: Points, t: u8, p: u16, i: u16) -> bool
-    ensures { λ r. ⌜ r ≡ (eqb (setBy (now (set .entry)) layout .statement t i .number) check
-        && eqb (setBy (now (set .entry)) layout .statement t i .argument) (getD (listed points) p 0)) ⌝ }
-{
-    let s = records::fetch(set, layout, t, i);
-    if s.number == CHECK {
-        return s.argument == places::checkpoint(points, p);
-    }
-    false
 }

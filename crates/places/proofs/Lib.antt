@@ -3,3 +3,4 @@ pub mod Stores
 pub mod Starts
 pub mod Pieces
 pub mod Entries
+pub mod Idle

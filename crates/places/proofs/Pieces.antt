@@ -69,6 +69,13 @@ program-below (sets s t ∷ P) places n h x =
 program-below (needs t ∷ P) places n h x = program-below P places (suc (next n t)) (λ y. let k = h y in let g = grows t n in omega arith) x
 program-below (aims t ∷ P) places n h x = program-below P places (suc (next n t)) (λ y. let k = h y in let g = grows t n in omega arith) x
 
+-- places lie below the next index after a piece too
+pub below-after : (P : List (Command Slot)) (out slots : List ℕ) (n : ℕ) (out1 slots1 : List ℕ) (n1 : ℕ) →
+    Writes P out slots n out1 slots1 n1 → ((s : Slot) → placeOf slots s < n) → (s : Slot) → placeOf slots1 s < n1
+below-after P out slots n out1 slots1 n1 w below s =
+    subst (λ (x : ℕ). x < n1) (ap (λ (f : Slot → ℕ). f s) (sym (w .places)))
+    (subst (λ (m : ℕ). placesAfter same (placeOf slots) n P s < m) (sym (w .next)) (program-below P (placeOf slots) n below s))
+
 -- the limits still hold after a piece
 pub limits-after : (layout : Layout) (points : Points) (P : List (Command Slot)) (out slots : List ℕ) (n : ℕ) (out1 slots1 : List ℕ) (n1 : ℕ) →
     Writes P out slots n out1 slots1 n1 → Limits layout points slots n → Limits layout points slots1 n1
@@ -77,6 +84,5 @@ limits-after layout points P out slots n out1 slots1 n1 w l = record {
   fewStatements = l .fewStatements;
   fewPoints = l .fewPoints;
   allPlaces = w .slotsStay ∙ l .allPlaces;
-  below = λ (s : Slot). subst (λ (x : ℕ). x < n1) (ap (λ (f : Slot → ℕ). f s) (sym (w .places)))
-      (subst (λ (m : ℕ). placesAfter same (placeOf slots) n P s < m) (sym (w .next)) (program-below P (placeOf slots) n (l .below) s));
+  below = below-after P out slots n out1 slots1 n1 w (l .below);
 }

@@ -44,6 +44,13 @@ fn kept(slots: &[u32], kind: u8, a: u8, b: u16) -> u32
     if a < 4 {
         if b < 32 {
             let i = 128 * (kind as usize) + (32 * (a as usize) + (b as usize));
+            // A caller whose array has this length and who names the kind needs no test here once compiled.
+            if slots.len() == 5248 {
+                if kind < 41 {
+                    return slots[i];
+                }
+                return 0;
+            }
             if i < slots.len() {
                 return slots[i];
             }
@@ -72,9 +79,9 @@ pub fn set_place(slots: &mut [u32], kind: u8, a: u8, b: u16, index: u64)
     if a < 4 {
         if b < 32 {
             let i = 128 * (kind as usize) + (32 * (a as usize) + (b as usize));
-            if i < slots.len() {
-                if index < 4294967295 {
-                    slots[i] = (index as u32) + 1;
+            if slots.len() == 5248 {
+                if kind < 41 {
+                    slots[i] = ((index % 4294967296 + 1) % 4294967296) as u32;
                 }
             }
         }

@@ -11,7 +11,7 @@ use borrow.Author.Tests.{leb-true, le-leb}
 use Rattle.base.proofs.Choice.{chosen, passed, and-true, and-left, and-right}
 use Rattle.table.specs.Repeats.{movedBy, repeated, repeatable, repeatedAt}
 use Rattle.table.specs.declared.Formula.{Formula}
-use Rattle.table.specs.Formulas.{formulaBytes, writtenAt, longAt, formulaAt}
+use Rattle.table.specs.Formulas.{long, formulaBytes, writtenAt, longAt, formulaAt}
 use Rattle.table.specs.Programs.{upto}
 use Rattle.table.proofs.Read.{written-before, read-record, read-long}
 use Rattle.table.proofs.Renamed.{renamed, Bounded, AllBounded}
@@ -64,6 +64,38 @@ moved-repeated first stride x = go (ltb 3 (x .operation))
       b = moved-nowhere first (x .b) i;
       c = moved-nowhere first (x .c) i;
     }
+
+-- the two bytes of a word
+word-low : (p q : ℕ) → p < 256 → p ≡ (p + 256 * q) % 256
+word-low p q h = omega arith
+
+word-high : (p q : ℕ) → p < 256 → q < 256 → q ≡ (p + 256 * q) / 256 % 256
+word-high p q h l =
+    let high : (p + 256 * q) / 256 ≡ q = omega arith in
+    sym (ap (λ (x : ℕ). x % 256) high ∙ omega arith)
+
+-- the bytes of a record that repeats record n, from the four numbers of that record
+pub repeated-bytes : (first stride : ℕ) (bytes : List ℕ) (n head by a b c : ℕ) →
+    ((rest : List ℕ) → long head rest ≡ getD bytes (16 * n) 0 ∷ getD bytes (16 * n + 1) 0 ∷ getD bytes (16 * n + 2) 0 ∷ getD bytes (16 * n + 3) 0 ∷ rest) →
+    by ≡ cond (ltb 3 (head % 256)) stride 0 → a ≡ movedBy first by (longAt bytes (16 * n + 4)) → b ≡ movedBy first by (longAt bytes (16 * n + 8)) →
+    c ≡ movedBy first by (longAt bytes (16 * n + 12)) → long head (long a (long b (long c []))) ≡ formulaBytes (repeated first stride (formulaAt bytes n))
+unfolding formulaBytes formulaAt
+repeated-bytes first stride bytes n head by a b c parts byIs aIs bIs cIs =
+    let x = formulaAt bytes n in
+    let part : (k : ℕ) → getD (long head []) k 0 ≡ getD (getD bytes (16 * n) 0 ∷ getD bytes (16 * n + 1) 0 ∷ getD bytes (16 * n + 2) 0 ∷ getD bytes (16 * n + 3) 0 ∷ []) k 0 = λ k. ap (λ (l : List ℕ). getD l k 0) (parts []) in
+    let distance : by ≡ cond (ltb 3 (x .operation)) stride 0 = byIs ∙ ap (λ (o : ℕ). cond (ltb 3 o) stride 0) (part 0) in
+    let third : head / 65536 % 256 ≡ getD bytes (16 * n + 2) 0 = part 2 in
+    let fourth : head / 16777216 % 256 ≡ getD bytes (16 * n + 3) 0 = part 3 in
+    let next : getD bytes (16 * n + 2 + 1) 0 ≡ getD bytes (16 * n + 3) 0 = ap (λ (k : ℕ). getD bytes k 0) (omega arith) in
+    let p = getD bytes (16 * n + 2) 0 in
+    let q = getD bytes (16 * n + 3) 0 in
+    let low : p ≡ x .constant % 256 = word-low p q (omega arith) ∙ ap (λ (y : ℕ). (p + 256 * y) % 256) (sym next) in
+    let high : q ≡ x .constant / 256 % 256 = word-high p q (omega arith) (omega arith) ∙ ap (λ (y : ℕ). (p + 256 * y) / 256 % 256) (sym next) in
+    parts (long a (long b (long c [])))
+    ∙ ((λ i. x .operation ∷ x .sort ∷ low i ∷ high i
+    ∷ long ((aIs ∙ ap (λ (d : ℕ). movedBy first d (x .a)) distance) i)
+    (long ((bIs ∙ ap (λ (d : ℕ). movedBy first d (x .b)) distance) i) (long ((cIs ∙ ap (λ (d : ℕ). movedBy first d (x .c)) distance) i) [])))
+    ∙ ap formulaBytes (moved-repeated first stride x))
 
 -- ---- records that are read
 

@@ -1,8 +1,9 @@
 // Formula records: one record's 16 bytes, written at its place in a table.
 ghost use mathlib.Core.Path.{_≡_};
+ghost use mathlib.Core.List.{[]};
 ghost use Prim.Native.Nat.{_*_};
 ghost use Rattle.base.specs.Bytes.{placed};
-ghost use Rattle.table.specs.Formulas.{formulaBytes};
+ghost use Rattle.table.specs.Formulas.{long as longBytes, formulaBytes};
 
 pub mod repeats;
 
@@ -17,19 +18,15 @@ pub struct Formula {
     pub c: u64,
 }
 
-// Writes record n of a table, if it fits there.
-pub fn put(out: &mut [u8], n: u32, formula: Formula)
-    ensures { λ _. ⌜ now (out .exit) ≡ placed (now (out .entry)) (16 * n) (formulaBytes formula) ⌝ }
+// Writes record n as four numbers, if it fits there: operation, sort and constant as one, and the operands.
+fn put_longs(out: &mut [u8], n: u32, head: u32, a: u64, b: u64, c: u64)
+    ensures { λ _. ⌜ now (out .exit) ≡ placed (now (out .entry)) (16 * n) (longBytes head (longBytes a (longBytes b (longBytes c [])))) ⌝ }
 {
-    let k = formula.constant;
-    let a = formula.a;
-    let b = formula.b;
-    let c = formula.c;
     let bytes: [u8; 16] = [
-        formula.operation,
-        formula.sort,
-        (k % 256) as u8,
-        (k / 256 % 256) as u8,
+        (head % 256) as u8,
+        (head / 256 % 256) as u8,
+        (head / 65536 % 256) as u8,
+        (head / 16777216 % 256) as u8,
         (a % 256) as u8,
         (a / 256 % 256) as u8,
         (a / 65536 % 256) as u8,
@@ -44,8 +41,17 @@ pub fn put(out: &mut [u8], n: u32, formula: Formula)
         (c / 16777216 % 256) as u8,
     ];
     let at = 16 * (n as usize);
-    // Asked here too: with both ends known the test is one comparison.
     if at + 16 <= out.len() {
         base::place(out, at, &bytes);
     }
+}
+
+// Writes record n of a table, if it fits there.
+pub fn put(out: &mut [u8], n: u32, formula: Formula)
+    ensures { λ _. ⌜ now (out .exit) ≡ placed (now (out .entry)) (16 * n) (formulaBytes formula) ⌝ }
+{
+    let head = (formula.operation as u32)
+        + 256 * (formula.sort as u32)
+        + 65536 * (formula.constant as u32);
+    put_longs(out, n, head, formula.a, formula.b, formula.c);
 }

@@ -1,23 +1,18 @@
 // Records that repeat earlier ones of the same table, with their operands moved on.
 ghost use mathlib.Core.Path.{_≡_};
 ghost use mathlib.Core.Bool.{cond};
-ghost use Prim.Native.Nat.{_+_, _*_, _≤_, _<_};
+ghost use mathlib.Core.List.{List, _∷_};
+ghost use Prim.Native.Nat.{ℕ, _+_, _*_, _≤_, _<_};
 ghost use lib.Dec.{ltb};
-ghost use lib.ListN.{length};
-ghost use Rattle.table.specs.Formulas.{longAt, formulaAt};
+ghost use lib.ListN.{length, getD};
+ghost use Rattle.base.specs.Bytes.{placed};
+ghost use Rattle.table.specs.Formulas.{long as longBytes, longAt, formulaAt, formulaBytes};
 ghost use Rattle.table.specs.Repeats.{movedBy, repeated, repeatable, repeatedAt};
-use crate::Formula;
-
-// The number of two bytes, low byte first.
-fn word(a: u8, b: u8) -> u16
-    ensures { λ r. ⌜ r ≡ a + 256 * b ⌝ }
-{
-    (a as u16) + 256 * (b as u16)
-}
+use crate::put_longs;
 
 // The number of four bytes, low byte first.
 fn long(a: u8, b: u8, c: u8, d: u8) -> u32
-    ensures { λ r. ⌜ r ≡ a + 256 * b + 65536 * c + 16777216 * d ⌝ }
+    ensures { λ r. ⌜ (r ≡ a + 256 * b + 65536 * c + 16777216 * d) × ((rest : List ℕ) → longBytes r rest ≡ a ∷ b ∷ c ∷ d ∷ rest) ⌝ }
 {
     (a as u32) + 256 * (b as u32) + 65536 * (c as u32) + 16777216 * (d as u32)
 }
@@ -25,7 +20,8 @@ fn long(a: u8, b: u8, c: u8, d: u8) -> u32
 // The index whose four bytes stand from index i on.
 fn long_at(bytes: &[u8], i: usize) -> u32
     requires { ⌜ i + 3 < length (now bytes) ⌝ }
-    ensures { λ r. ⌜ r ≡ longAt (now (bytes .entry)) i ⌝ }
+    ensures { λ r. ⌜ (r ≡ longAt (now (bytes .entry)) i)
+        × ((rest : List ℕ) → longBytes r rest ≡ getD (now (bytes .entry)) i 0 ∷ getD (now (bytes .entry)) (i + 1) 0 ∷ getD (now (bytes .entry)) (i + 2) 0 ∷ getD (now (bytes .entry)) (i + 3) 0 ∷ rest) ⌝ }
 {
     long(bytes[i], bytes[i + 1], bytes[i + 2], bytes[i + 3])
 }
@@ -50,22 +46,18 @@ fn distance(operation: u8, stride: u32) -> u32
     0
 }
 
-// Record n with its operands moved: by 0 where it has none, so that no branch has to be guessed.
-fn moved_record(bytes: &[u8], n: u32, first: u32, stride: u32) -> Formula
-    requires { ⌜ 16 * n + 16 ≤ length (now bytes) ⌝ }
-    ensures { λ r. ⌜ r ≡ repeated first stride (formulaAt (now (bytes .entry)) n) ⌝ }
+// Writes record n, which repeats record `from` with its operands moved: by 0 where it has none, so that no branch has to be guessed.
+fn repeat_record(out: &mut [u8], from: u32, n: u32, first: u32, stride: u32)
+    requires { ⌜ 16 * from + 16 ≤ length (now out) ⌝ }
+    ensures { λ _. ⌜ now (out .exit) ≡ placed (now (out .entry)) (16 * n) (formulaBytes (repeated first stride (formulaAt (now (out .entry)) from))) ⌝ }
 {
-    let i = 16 * (n as usize);
-    let operation = bytes[i];
-    let by = distance(operation, stride);
-    Formula {
-        operation: operation,
-        sort: bytes[i + 1],
-        constant: word(bytes[i + 2], bytes[i + 3]),
-        a: moved(first, by, long_at(bytes, i + 4)),
-        b: moved(first, by, long_at(bytes, i + 8)),
-        c: moved(first, by, long_at(bytes, i + 12)),
-    }
+    let i = 16 * (from as usize);
+    let head = long_at(out, i);
+    let by = distance((head % 256) as u8, stride);
+    let a = moved(first, by, long_at(out, i + 4));
+    let b = moved(first, by, long_at(out, i + 8));
+    let c = moved(first, by, long_at(out, i + 12));
+    put_longs(out, n, head, a, b, c);
 }
 
 // Whether the records to repeat are all written earlier, and there is room.
@@ -85,8 +77,7 @@ pub fn repeat(out: &mut [u8], at: u32, count: u32, first: u32, stride: u32)
     }
     let mut j: u32 = 0;
     while j < count {
-        let formula = moved_record(out, at - stride + j, first, stride);
-        crate::put(out, at + j, formula);
+        repeat_record(out, at - stride + j, at + j, first, stride);
         j += 1;
     }
 }

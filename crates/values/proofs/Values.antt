@@ -1,5 +1,5 @@
 -- Kinds that have one value for each statement: their trees, their number, and rows of them written. Assumes nothing.
-use Prim.Native.Nat.{ℕ, _+_, _<_}
+use Prim.Native.Nat.{ℕ, zero, suc, _+_, _<_}
 use mathlib.Core.Path.{_≡_, refl, ap, sym, _∙_, subst}
 use mathlib.Core.Bool.{Bool, true, false, not, _&&_, _||_, true≢false}
 use mathlib.Core.List.{List, [], _∷_}
@@ -8,15 +8,16 @@ use lib.ListN.{getD}
 use borrow.Author.Tests.{eqb-true, ne-eqb, lt-ltb}
 use Rattle.base.specs.Below.{every}
 use Rattle.base.proofs.Below.{every-at}
-use Rattle.base.proofs.Choice.{and-left, and-right, or-false, chosen}
+use Rattle.base.proofs.Choice.{and-left, and-right, and-false, or-false, chosen, passed, cond-both}
 use Rattle.records.specs.declared.Layout.{Layout}
 use Rattle.records.specs.Sets.{Set, setBy}
-use Rattle.table.specs.Programs.{Command, upto, placesAfter}
-use Rattle.encoding.specs.Slots.{Slot, same, Term, kinds, kindAt}
+use Rattle.table.specs.Programs.{Command, upto, nextAfter, placesAfter}
+use Rattle.table.proofs.Sequences.{places-++}
+use Rattle.encoding.specs.Slots.{Kind, kindNumber, Slot, slot, same, Term, kinds, kindAt}
 use Rattle.encoding.specs.Steps.{Shape, perChoice, perThread, perStatement, perCheckpoint, perMark, beforeThread, beforeChoice, single, shape, chain, link, links, base, columns, kept, entry, line}
 use Rattle.places.specs.Places.{placeOf}
 use Rattle.places.specs.Pieces.{Writes, WritesTree}
-use Rattle.places.proofs.Pieces.{program-below, writes-row, writes-more}
+use Rattle.places.proofs.Pieces.{below-after, writes-row, writes-more}
 use Rattle.places.proofs.Entries.{treeOf, line-at}
 use Rattle.bases.specs.Fews.{ofStatement}
 use Rattle.bases.proofs.Given.{Apart}
@@ -79,19 +80,34 @@ module _ (S : Set) (cs : List ℕ) (a k : ℕ) where
   each-columns single e = absurd (true≢false (sym e))
 
   -- as many values as the thread has statements
-  statement-columns : (kind : ℕ) → kind < 41 → ofStatement kind ≡ true → S .count a ≡ columns S cs k (shape (kindAt kind)) a
+  pub statement-columns : (kind : ℕ) → kind < 41 → ofStatement kind ≡ true → S .count a ≡ columns S cs k (shape (kindAt kind)) a
   statement-columns kind h of =
       each-columns (shape (kindAt kind))
       (sym (ap (λ (t : Bool). not t || eachStatement (shape (kindAt kind))) of) ∙ every-at (λ n. not (ofStatement n) || eachStatement (shape (kindAt n))) 41 kind each-tabled h)
 
--- ---- rows
+-- ---- values of other kinds
 
--- the places lie below the next index after a piece too
-below-after : (P : List (Command Slot)) (out slots : List ℕ) (n : ℕ) (out1 slots1 : List ℕ) (n1 : ℕ) →
-    Writes P out slots n out1 slots1 n1 → ((s : Slot) → placeOf slots s < n) → (s : Slot) → placeOf slots1 s < n1
-below-after P out slots n out1 slots1 n1 w below s =
-    subst (λ (x : ℕ). x < n1) (ap (λ (f : Slot → ℕ). f s) (sym (w .places)))
-    (subst (λ (m : ℕ). placesAfter same (placeOf slots) n P s < m) (sym (w .next)) (program-below P (placeOf slots) n below s))
+-- those of any kind but one lie where they lay
+abbrev pub Others : (kind : ℕ) (slots slotsAfter : List ℕ) → Type 0
+Others kind slots slotsAfter =
+    (other : Kind) (a b : ℕ) → eqb (kindNumber other) (kindNumber (kindAt kind)) ≡ false → placeOf slots (slot other a b) ≡ placeOf slotsAfter (slot other a b)
+
+module _ (S : Set) (cs : List ℕ) (k : ℕ) (kind : Kind) (t : ℕ) (other : Kind) (a b : ℕ) (apart : eqb (kindNumber other) (kindNumber kind) ≡ false) where
+  pub entry-apart : (i : ℕ) (places : Slot → ℕ) (n : ℕ) → placesAfter same places n (entry S cs k kind t i) (slot other a b) ≡ places (slot other a b)
+  unfolding placesAfter
+  entry-apart i places n =
+      cond-both (λ (P : List (Command Slot)). placesAfter same places n P (slot other a b) ≡ places (slot other a b)) (kept S cs k (shape kind) t i)
+      (passed _ _ (and-false (eqb a t && eqb b i) apart)) refl
+
+  row-apart : (i : ℕ) (places : Slot → ℕ) (n : ℕ) → placesAfter same places n (upto (entry S cs k kind t) i) (slot other a b) ≡ places (slot other a b)
+  unfolding placesAfter upto
+  row-apart zero places n = refl
+  row-apart (suc i) places n =
+      let f = entry S cs k kind t in
+      ap (λ (g : Slot → ℕ). g (slot other a b)) (places-++ same places n (upto f i) (f i))
+      ∙ (entry-apart i (placesAfter same places n (upto f i)) (nextAfter same n (upto f i)) ∙ row-apart i places n)
+
+-- ---- rows
 
 -- the values of the first i statements are written
 abbrev pub Row : (kind : ℕ) (set : List ℕ) (first count t i : ℕ) (out slots : List ℕ) (n : ℕ) (outAfter slotsAfter : List ℕ) (after : ℕ) → Type 0
@@ -105,13 +121,15 @@ module _ (kind : ℕ) (set : List ℕ) (first count t : ℕ) (out slots : List �
 
   pub row-more : (i : ℕ) (out1 slots1 : List ℕ) (n1 : ℕ) (out2 slots2 : List ℕ) (n2 : ℕ) →
       Row kind set first count t i out slots n out1 slots1 n1 →
-      ((S : Set) (cs : List ℕ) (k : ℕ) → Stands S set first count t → ((s : Slot) → placeOf slots1 s < n1) →
+      ((S : Set) (cs : List ℕ) (k : ℕ) → Stands S set first count t → ((s : Slot) → placeOf slots1 s < n1) → Others kind slots slots1 →
       Writes (entry S cs k (kindAt kind) t i) out1 slots1 n1 out2 slots2 n2) →
       Row kind set first count t (i + 1) out slots n out2 slots2 n2
   row-more i out1 slots1 n1 out2 slots2 n2 row one S cs k stands below =
       let f = entry S cs k (kindAt kind) t in
       let w = row S cs k stands below in
-      writes-more f i out slots n out1 slots1 n1 out2 slots2 n2 w (one S cs k stands (below-after (upto f i) out slots n out1 slots1 n1 w below))
+      writes-more f i out slots n out1 slots1 n1 out2 slots2 n2 w
+      (one S cs k stands (below-after (upto f i) out slots n out1 slots1 n1 w below)
+      (λ other a b apart. sym (ap (λ (g : Slot → ℕ). g (slot other a b)) (w .places) ∙ row-apart S cs k (kindAt kind) t other a b apart i (placeOf slots) n)))
 
   -- those of all statements are the line
   pub row-line : kind < 41 → ofStatement kind ≡ true → (i : ℕ) → i ≡ count → (out1 slots1 : List ℕ) (n1 : ℕ) →
@@ -123,7 +141,7 @@ module _ (kind : ℕ) (set : List ℕ) (first count t : ℕ) (out slots : List �
 -- ---- a thread of a set
 
 -- a thread's statements by its start and count in a layout
-stands-by : (set : List ℕ) (layout : Layout) (t : ℕ) → Stands (setBy set layout) set (getD (layout .starts) t 0) (getD (layout .counts) t 0) t
+pub stands-by : (set : List ℕ) (layout : Layout) (t : ℕ) → Stands (setBy set layout) set (getD (layout .starts) t 0) (getD (layout .counts) t 0) t
 stands-by set layout t = record { countIs = refl; statementIs = λ i h. sym (chosen _ _ (lt-ltb i (getD (layout .counts) t 0) h)) }
 
 -- the line of a kind by number, from what its loop ensures

@@ -7,6 +7,8 @@ use Rattle.encoding.specs.Slots.{Kind, Slot}
 use Rattle.encoding.specs.Steps.{line as lineOf}
 use Rattle.places.specs.Places.{placeOf}
 use Rattle.places.specs.Pieces.{Writes}
+use Rattle.places.specs.Idle.{Idle}
+use Rattle.links.specs.Members.{Members}
 
 -- thread t has `count` statements, and they are the records from `first` on
 pub record Stands (S : Set) (set : List ℕ) (first count t : ℕ) : Type 0 where
@@ -17,4 +19,10 @@ pub record Stands (S : Set) (set : List ℕ) (first count t : ℕ) : Type 0 wher
 abbrev pub Line : Kind → (set : List ℕ) (first count t : ℕ) (out slots : List ℕ) (n : ℕ) (outAfter slotsAfter : List ℕ) (after : ℕ) → Type 0
 Line kind set first count t out slots n outAfter slotsAfter after =
     (S : Set) (cs : List ℕ) (k : ℕ) → Stands S set first count t → ((s : Slot) → placeOf slots s < n) →
+    Writes (lineOf S cs k kind t) out slots n outAfter slotsAfter after
+
+-- the same in any set whose members these bytes list, where values that a statement does not have lie where their constant lies
+abbrev pub Listed : Kind → (set members : List ℕ) (first t : ℕ) (out slots : List ℕ) (n : ℕ) (outAfter slotsAfter : List ℕ) (after : ℕ) → Type 0
+Listed kind set members first t out slots n outAfter slotsAfter after =
+    (S : Set) (cs : List ℕ) (k count : ℕ) → Stands S set first count t → Members S members → Idle S (placeOf slots) → ((s : Slot) → placeOf slots s < n) →
     Writes (lineOf S cs k kind t) out slots n outAfter slotsAfter after

@@ -10,9 +10,12 @@ ghost use Rattle.encoding.specs.Slots.{Slot, kindAt, active, address, loaded, s
 ghost use Rattle.encoding.specs.Steps.{base as baseOf, entry as entryOf, line as lineOf};
 ghost use Rattle.places.specs.Places.{placeOf, size};
 ghost use Rattle.places.specs.Pieces.{Writes};
+ghost use Rattle.places.specs.Idle.{Idle};
 ghost use Rattle.bases.specs.Fews.{Puts, ofStatement};
-ghost use Rattle.values.specs.Lines.{Line};
+ghost use Rattle.links.specs.Members.{Members};
+ghost use Rattle.values.specs.Lines.{Line, Listed};
 use bases::Written;
+use links::members;
 use places::kinds;
 use records::Layout;
 
@@ -66,61 +69,69 @@ fn addresses(
     requires { ⌜ (count ≤ 32) × (t < 4) × (n ≤ 1700000000) × (length (now slots) ≡ size) ⌝ }
     ensures { λ r. ⌜ (Line address (now (set .entry)) first count t (now (out .entry)) (now (slots .entry)) n (now (out .exit)) (now (slots .exit)) r) × (r ≤ n + 1152) ⌝ }
 {
+    let load = bases::load_of(slots, t);
     let mut next = n;
     let mut i: u16 = 0;
     while i < count {
         let statement = records::statement_at(set, (first as u32) + (i as u32));
-        let tree = bases::put_address(statement, slots, out, t, i, next);
+        let tree = bases::put_address(statement, slots, out, load, t, i, next);
         next = settle(slots, kinds::ADDRESS, t, i, next, tree);
         i += 1;
     }
     next
 }
 
-// The word that each statement loads.
+// The word that each statement loads; those that load nothing have their word already.
 fn loads(
     set: &[u8],
+    members: &[u8],
     first: u16,
-    count: u16,
     slots: &mut [u32],
     out: &mut [u8],
     t: u8,
     n: u32,
 ) -> u32
-    requires { ⌜ (count ≤ 32) × (t < 4) × (n ≤ 1700000000) × (length (now slots) ≡ size) ⌝ }
-    ensures { λ r. ⌜ (Line loaded (now (set .entry)) first count t (now (out .entry)) (now (slots .entry)) n (now (out .exit)) (now (slots .exit)) r) × (r ≤ n + 1152) ⌝ }
+    requires { ⌜ (t < 4) × (n ≤ 1700000000) × (length (now slots) ≡ size) ⌝ }
+    ensures { λ r. ⌜ (Listed loaded (now (set .entry)) (now (members .entry)) first t (now (out .entry)) (now (slots .entry)) n (now (out .exit)) (now (slots .exit)) r) × (r ≤ n + 1152) ⌝ }
 {
+    let load = bases::load_of(slots, t);
+    let nothing = places::place(slots, kinds::NOUGHT, 0, 0, 2);
     let mut next = n;
-    let mut i: u16 = 0;
-    while i < count {
+    let loading = members::count_of(members, members::LOADS, t);
+    let mut j: u16 = 0;
+    while j < loading {
+        let i = members::member(members, members::LOADS, t, j);
         let statement = records::statement_at(set, (first as u32) + (i as u32));
-        let tree = bases::put_loaded(statement, slots, out, t, i, next);
+        let tree = bases::put_loaded(statement, slots, out, load, nothing, t, i, next);
         next = settle(slots, kinds::LOADED, t, i, next, tree);
-        i += 1;
+        j += 1;
     }
     next
 }
 
-// Whether each statement is a CAS that executes and matches.
+// Whether each statement is a CAS that executes and matches; those that are no CAS have their bit already.
 fn swaps(
     set: &[u8],
+    members: &[u8],
     first: u16,
-    count: u16,
     slots: &mut [u32],
     out: &mut [u8],
     t: u8,
     n: u32,
 ) -> u32
-    requires { ⌜ (count ≤ 32) × (t < 4) × (n ≤ 1700000000) × (length (now slots) ≡ size) ⌝ }
-    ensures { λ r. ⌜ (Line swaps (now (set .entry)) first count t (now (out .entry)) (now (slots .entry)) n (now (out .exit)) (now (slots .exit)) r) × (r ≤ n + 1152) ⌝ }
+    requires { ⌜ (t < 4) × (n ≤ 1700000000) × (length (now slots) ≡ size) ⌝ }
+    ensures { λ r. ⌜ (Listed swaps (now (set .entry)) (now (members .entry)) first t (now (out .entry)) (now (slots .entry)) n (now (out .exit)) (now (slots .exit)) r) × (r ≤ n + 1152) ⌝ }
 {
+    let nothing = places::place(slots, kinds::NO, 0, 0, 0);
     let mut next = n;
-    let mut i: u16 = 0;
-    while i < count {
+    let swapping = members::count_of(members, members::IS_CAS, t);
+    let mut j: u16 = 0;
+    while j < swapping {
+        let i = members::member(members, members::IS_CAS, t, j);
         let statement = records::statement_at(set, (first as u32) + (i as u32));
-        let tree = bases::put_swaps(statement, slots, out, t, i, next);
+        let tree = bases::put_swaps(statement, slots, out, nothing, t, i, next);
         next = settle(slots, kinds::SWAPS, t, i, next, tree);
-        i += 1;
+        j += 1;
     }
     next
 }
@@ -149,50 +160,56 @@ fn results(
     next
 }
 
-// The test of each statement.
+// The test of each statement; those that are no conditional jump have theirs already.
 fn tests(
     set: &[u8],
+    members: &[u8],
     first: u16,
-    count: u16,
     slots: &mut [u32],
     out: &mut [u8],
     t: u8,
     n: u32,
 ) -> u32
-    requires { ⌜ (count ≤ 32) × (t < 4) × (n ≤ 1700000000) × (length (now slots) ≡ size) ⌝ }
-    ensures { λ r. ⌜ (Line test (now (set .entry)) first count t (now (out .entry)) (now (slots .entry)) n (now (out .exit)) (now (slots .exit)) r) × (r ≤ n + 1152) ⌝ }
+    requires { ⌜ (t < 4) × (n ≤ 1700000000) × (length (now slots) ≡ size) ⌝ }
+    ensures { λ r. ⌜ (Listed test (now (set .entry)) (now (members .entry)) first t (now (out .entry)) (now (slots .entry)) n (now (out .exit)) (now (slots .exit)) r) × (r ≤ n + 1152) ⌝ }
 {
+    let nothing = places::place(slots, kinds::NO, 0, 0, 0);
     let mut next = n;
-    let mut i: u16 = 0;
-    while i < count {
+    let tested = members::count_of(members, members::IS_CONDITIONAL, t);
+    let mut j: u16 = 0;
+    while j < tested {
+        let i = members::member(members, members::IS_CONDITIONAL, t, j);
         let statement = records::statement_at(set, (first as u32) + (i as u32));
-        let tree = bases::put_test(statement, slots, out, t, i, next);
+        let tree = bases::put_test(statement, slots, out, nothing, t, i, next);
         next = settle(slots, kinds::TEST, t, i, next, tree);
-        i += 1;
+        j += 1;
     }
     next
 }
 
-// Whether the test of each statement does not hold.
+// Whether the test of each statement does not hold; those that are no conditional jump have this bit already.
 fn untests(
     set: &[u8],
+    members: &[u8],
     first: u16,
-    count: u16,
     slots: &mut [u32],
     out: &mut [u8],
     t: u8,
     n: u32,
 ) -> u32
-    requires { ⌜ (count ≤ 32) × (t < 4) × (n ≤ 1700000000) × (length (now slots) ≡ size) ⌝ }
-    ensures { λ r. ⌜ (Line untest (now (set .entry)) first count t (now (out .entry)) (now (slots .entry)) n (now (out .exit)) (now (slots .exit)) r) × (r ≤ n + 1152) ⌝ }
+    requires { ⌜ (t < 4) × (n ≤ 1700000000) × (length (now slots) ≡ size) ⌝ }
+    ensures { λ r. ⌜ (Listed untest (now (set .entry)) (now (members .entry)) first t (now (out .entry)) (now (slots .entry)) n (now (out .exit)) (now (slots .exit)) r) × (r ≤ n + 1152) ⌝ }
 {
+    let nothing = places::place(slots, kinds::NO, 0, 0, 0);
     let mut next = n;
-    let mut i: u16 = 0;
-    while i < count {
+    let untested = members::count_of(members, members::IS_CONDITIONAL, t);
+    let mut j: u16 = 0;
+    while j < untested {
+        let i = members::member(members, members::IS_CONDITIONAL, t, j);
         let statement = records::statement_at(set, (first as u32) + (i as u32));
-        let tree = bases::put_untest(statement, slots, out, t, i, next);
+        let tree = bases::put_untest(statement, slots, out, nothing, t, i, next);
         next = settle(slots, kinds::UNTEST, t, i, next, tree);
-        i += 1;
+        j += 1;
     }
     next
 }
@@ -226,6 +243,7 @@ fn arguments(
 pub fn statement_line(
     set: &[u8],
     layout: Layout,
+    members: &[u8],
     slots: &mut [u32],
     out: &mut [u8],
     kind: u8,
@@ -233,7 +251,8 @@ pub fn statement_line(
     n: u32,
 ) -> u32
     ensures { λ r. ⌜ ((cs : List ℕ) (k : ℕ) → ofStatement kind ≡ true → t < 4 → getD (layout .counts) t 0 ≤ 32 → n ≤ 1700000000
-        → length (now (slots .entry)) ≡ size → ((s : Slot) → placeOf (now (slots .entry)) s < n)
+        → length (now (slots .entry)) ≡ size → Members (setBy (now (set .entry)) layout) (now (members .entry))
+        → Idle (setBy (now (set .entry)) layout) (placeOf (now (slots .entry))) → ((s : Slot) → placeOf (now (slots .entry)) s < n)
         → Writes (lineOf (setBy (now (set .entry)) layout) cs k (kindAt kind) t) (now (out .entry)) (now (slots .entry)) n (now (out .exit)) (now (slots .exit)) r)
         × (n ≤ 1700000000 → r ≤ n + 1152) ⌝ }
 {
@@ -257,11 +276,11 @@ pub fn statement_line(
     match kind {
         kinds::ACTIVE => actives(set, first, count, slots, out, t, n),
         kinds::ADDRESS => addresses(set, first, count, slots, out, t, n),
-        kinds::LOADED => loads(set, first, count, slots, out, t, n),
-        kinds::SWAPS => swaps(set, first, count, slots, out, t, n),
+        kinds::LOADED => loads(set, members, first, slots, out, t, n),
+        kinds::SWAPS => swaps(set, members, first, slots, out, t, n),
         kinds::RESULT => results(set, first, count, slots, out, t, n),
-        kinds::TEST => tests(set, first, count, slots, out, t, n),
-        kinds::UNTEST => untests(set, first, count, slots, out, t, n),
+        kinds::TEST => tests(set, members, first, slots, out, t, n),
+        kinds::UNTEST => untests(set, members, first, slots, out, t, n),
         kinds::ARGUMENT => arguments(set, first, count, slots, out, t, n),
         _ => n,
     }

@@ -7,8 +7,7 @@ use reference::records::{map_bytes, set_bytes};
 use reference::{accept_set, Cell};
 use shell::{set_text, Ended, Folder, EXAMPLE, SHORTEST};
 use std::fs;
-use std::os::unix::fs::PermissionsExt;
-use std::process::{Child, Stdio};
+use std::process::Stdio;
 use std::thread::sleep;
 use std::time::Duration;
 use testing::{maps, sets, Random};
@@ -223,8 +222,8 @@ fn with_solver(folder: &Folder, script: &str, line: &str) -> Ended {
 fn solver_command(folder: &Folder, script: &str, line: &str) -> std::process::Command {
     let program = folder.path("z3");
     let version = "[ \"$1\" = --version ] && { echo 'Z3 version 0.0 - 64 bit'; exit; }";
-    fs::write(&program, format!("#!/bin/bash\n{version}\n{script}\n")).expect("written");
-    fs::set_permissions(&program, fs::Permissions::from_mode(0o755)).expect("set");
+    let script = format!("#!/bin/bash\n{version}\n{script}\n");
+    shell::write_program(&program, script.as_bytes());
     let mut command = folder.command();
     command.args(line.split_whitespace());
     command.env(
@@ -332,17 +331,16 @@ fn the_solver_dies_with_the_command() {
         let script = "echo $$ > pid.new; mv pid.new pid; exec sleep 60";
         let mut command = solver_command(&folder, script, "find set.txt 3 -o trace");
         command.stdin(Stdio::null()).stdout(Stdio::null());
-        let mut child: Child = command.spawn().expect("it starts");
+        let mut child = shell::start(&mut command);
         let waited = (0..100).find(|_| {
             sleep(Duration::from_millis(50));
             folder.path("pid").exists()
         });
         assert!(waited.is_some(), "the solver starts");
         let solver = String::from_utf8(folder.get("pid")).expect("digits");
-        let kill = std::process::Command::new("kill")
-            .args([signal, &child.id().to_string()])
-            .status();
-        assert!(kill.expect("it runs").success());
+        let mut kill = std::process::Command::new("kill");
+        kill.args([signal, &child.id().to_string()]);
+        assert_eq!(shell::ended(kill, b"").status, 0);
         child.wait().expect("it ends");
         let gone = (0..100).any(|_| {
             sleep(Duration::from_millis(50));

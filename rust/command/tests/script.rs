@@ -3,9 +3,9 @@
 
 mod shell;
 
-use shell::{ended, Ended, Folder};
+use shell::{ended, write_program, Ended, Folder};
 use std::fs;
-use std::os::unix::fs::{symlink, PermissionsExt};
+use std::os::unix::fs::symlink;
 use std::path::Path;
 use std::process::Command;
 
@@ -48,7 +48,8 @@ fn tree(name: &str) -> Folder {
         folder.put(file, b"");
     }
     let script = Path::new(env!("CARGO_MANIFEST_DIR")).join("../../bin/deepchalk");
-    fs::copy(script, folder.path("bin/deepchalk")).expect("copied");
+    let script = fs::read(script).expect("it is there");
+    write_program(&folder.path("bin/deepchalk"), &script);
     tool(&folder, "rt", RT);
     tool(&folder, "cargo", CARGO);
     folder
@@ -56,8 +57,7 @@ fn tree(name: &str) -> Folder {
 
 fn tool(folder: &Folder, name: &str, script: &str) {
     let path = folder.path("tools").join(name);
-    fs::write(&path, format!("#!/bin/bash\n{script}\n")).expect("written");
-    fs::set_permissions(&path, fs::Permissions::from_mode(0o755)).expect("set");
+    write_program(&path, format!("#!/bin/bash\n{script}\n").as_bytes());
 }
 
 /// Through a symbolic link, from another folder.

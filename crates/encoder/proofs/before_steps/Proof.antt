@@ -2,6 +2,7 @@
 use denote.Ref.{now}
 use native.Mathlib.Omega.{arith}
 use mathlib.Core.List.{_++_}
+use Rattle.places.proofs.Idle.{idle-block, idle-written}
 use borrow.Author.Needs.{needs}
 use Rattle.places.specs.Places.{listed}
 use Rattle.encoding.specs.Steps.{block}
@@ -25,6 +26,7 @@ block-requires-2 c κs =
       omega arith,
       omega arith,
       c .before .before .before .before .before .before .before .before .before .before .before .before .before .before .pre .2,
+      idle-written (setBy (now (a .set)) (a .layout)) (block (setBy (now (a .set)) (a .layout)) (listed (a .points)) 0 unit) (idle-block (setBy (now (a .set)) (a .layout)) (listed (a .points)) 0 unit) _ _ _ _ _ _ (c .before .before .before .before .before .before .block .ensures .0) (c .before .before .before .before .before .before .before .before .before .before .before .before .before .before .pre .3),
     )
 
 demands-requires : tie.Need-demands-requires

@@ -1,69 +1,64 @@
 -- `encoder::chain` meets its contract. Assumes nothing.
-use borrow.Author.Needs.{needs}
-use lib.ListN.{length}
 use denote.Ref.{now}
 use native.Mathlib.Omega.{arith}
+use lib.ListN.{length}
 use mathlib.Core.List.{List}
-use mathlib.Core.Path.{_≡_, refl, sym, _∙_, subst}
-use Prim.Native.Nat.{ℕ, _+_, _-_, _≤_}
-use Rattle.places.specs.Places.{placeOf, listed}
-use Rattle.encoding.specs.Steps.{chain, link, links}
-use Rattle.encoding.specs.Slots.{Term, kindAt}
+use mathlib.Core.Path.{_≡_, refl, ap, sym, _∙_, subst}
+use Prim.Native.Nat.{ℕ, _+_, _-_, _≤_, _<_}
 use Rattle.records.specs.Sets.{setBy}
-use Rattle.base.proofs.Choice.{refuted}
-use Rattle.links.specs.Given.{given}
-use Rattle.links.proofs.Trees.{chain-none, chain-more, chain-to}
+use Rattle.encoding.specs.Slots.{Term, kinds, kindAt}
+use Rattle.encoding.specs.Steps.{chain as chainOf, link, links}
+use Rattle.places.specs.Places.{placeOf, listed}
 use Rattle.places.specs.Pieces.{WritesTree}
+use Rattle.links.proofs.Trees.{chain-none, chain-more}
+use borrow.Author.Needs.{needs}
 use Rattle.encoder.proofs.chain.Statement.{statement}
 use Rattle.encoder.proofs.chain.Tie as tie
 
 abbrev Inv-loop : tie.InvT-loop
-Inv-loop set layout points nexts slots out₀ kind a b n base count tree₀ class thread i₀ out tree i =
+Inv-loop set layout points members slots out₀ kind a b n base count tree₀ i₀ out tree i =
     (i ≤ count) × (count ≤ 32) × (tree .next ≤ n + i) × (length out ≡ length out₀)
-    × ((base-tree : Term) (start : List ℕ) (m : ℕ) → WritesTree (placeOf slots) base-tree start m out₀ n base
-    → WritesTree (placeOf slots) (chain (link (setBy set layout) (listed points) 0 (kindAt kind) a b) i base-tree) start m out (tree .next) (tree .at))
+    × ((t : Term) (start : List ℕ) (m : ℕ) → WritesTree (placeOf slots) t start m out₀ n base
+    → WritesTree (placeOf slots) (chainOf (link (setBy set layout) (listed points) 0 (kindAt kind) a b) i t) start m out (tree .next) (tree .at))
 
 abbrev μ-loop : tie.MeasureT-loop
-μ-loop set layout points nexts slots out₀ kind a b n base count tree₀ class thread i₀ out tree i = count - i
+μ-loop set layout points members slots out₀ kind a b n base count tree₀ i₀ out tree i = count - i
+
+raised-chain-requires : tie.Need-raised-chain-requires Inv-loop μ-loop
+raised-chain-requires c κs = search needs
+
+same-length : tie.Need-same-length Inv-loop μ-loop
+same-length c = search needs
+
+returns : tie.Need-returns Inv-loop μ-loop
+unfolding kinds
+returns c =
+    let a = c .before .before .before .before .before .before .before .before .before .args in
+    let q = c .before .before .before .before .before .before .before .before .before .pre in
+    let S = setBy (now (a .set)) (a .layout) in
+    let cs = listed (a .points) in
+    let r = c .before .before .raised-chain in (
+      λ (tree : Term) (start : List ℕ) (m : ℕ) w.
+          subst (λ (k : ℕ). WritesTree (placeOf (now (a .slots))) (chainOf (link S cs 0 (kindAt k) (a .a) (a .b)) (links S cs 0 (kindAt k) (a .a) (a .b)) tree) start m (r .last .1 .1 .1 .1 .1 .0) (r .result .next) (r .result .at))
+          (sym (c .before .before .before .before .if1 .taken)) (r .ensures .0 tree start m (q .5) (q .0) (q .6) (q .2) w),
+      r .ensures .1,
+    )
 
 links-requires : tie.Need-links-requires Inv-loop μ-loop
 links-requires c κs = search needs
 
-returns : tie.Need-returns Inv-loop μ-loop
-returns c =
-    let a = c .before .before .before .before .before .before .args in
-    let e = c .before .links .ensures (now (a .set)) in
-    let links = link (setBy (now (a .set)) (a .layout)) (listed (a .points)) 0 (kindAt (a .kind)) (a .a) (a .b) in (
-      λ (t : Term) (start : List ℕ) (m : ℕ) (w : WritesTree (placeOf (now (a .slots))) t start m (now (a .out)) (a .n) (a .base)).
-          subst (λ (j : ℕ). WritesTree (placeOf (now (a .slots))) (chain links j t) start m (now (a .out)) (a .n) (a .base)) (sym (c .if1 .taken) ∙ e)
-          (chain-none (placeOf (now (a .slots))) links t start m (now (a .out)) (a .n) (a .base) w),
-      omega arith,
-    )
-
-givers-requires : tie.Need-givers-requires Inv-loop μ-loop
-givers-requires c κs = search needs
-
-next-of-requires : tie.Need-next-of-requires Inv-loop μ-loop
-next-of-requires c κs = search needs
-
 loop-holds : tie.Need-loop-holds Inv-loop μ-loop
 loop-holds c =
-    let a = c .before .before .before .before .before .before .before .before .args in
+    let a = c .before .before .before .before .before .before .args in
+    let q = c .before .before .before .before .before .before .pre in
     let S = setBy (now (a .set)) (a .layout) in
-    let cs = listed (a .points) in
-    let e = c .before .before .before .links .ensures (now (a .set)) in
-    let l = c .before .before .before .before .before .before .before .before .pre .1 in
-    let f = c .next-of .ensures in
-    let within = f .2 (omega arith) in
-    let links = link S cs 0 (kindAt (a .kind)) (a .a) (a .b) in (
+    let few = q .1 in
+    let e = c .links .ensures (now (a .set)) in (
       omega arith,
       omega arith,
       omega arith,
       refl,
-      λ (t : Term) (start : List ℕ) (m : ℕ) (w : WritesTree (placeOf (now (a .slots))) t start m (now (a .out)) (a .n) (a .base)).
-          chain-to (placeOf (now (a .slots))) links t start m (now (a .out)) (a .n) (a .base) 0 (c .next-of .result) (f .1)
-          (λ (x : ℕ) p q. c .before .givers .ensures S cs (a .b) x (f .0 S (c .before .before .before .before .before .before .before .before .pre .2) x p q))
-          (chain-none (placeOf (now (a .slots))) links t start m (now (a .out)) (a .n) (a .base) w),
+      λ (t : Term) (start : List ℕ) (m : ℕ) w. chain-none (placeOf (now (a .slots))) (link S (listed (a .points)) 0 (kindAt (a .kind)) (a .a) (a .b)) t start m (now (a .out)) (a .n) (a .base) w,
     )
 
 link-requires : tie.Need-link-requires Inv-loop μ-loop
@@ -72,53 +67,45 @@ link-requires c κs = search needs
 put-link-requires : tie.Need-put-link-requires Inv-loop μ-loop
 put-link-requires c κs = search needs
 
-add-next-of : tie.Need-add-next-of Inv-loop μ-loop
-add-next-of c = search needs
-
-next-of-requires-2 : tie.Need-next-of-requires-2 Inv-loop μ-loop
-next-of-requires-2 c κs = search needs
+add-i : tie.Need-add-i Inv-loop μ-loop
+add-i c = search needs
 
 loop-less : tie.Need-loop-less Inv-loop μ-loop
-loop-less c = let f = c .next-of2 .ensures .1 in omega arith
+loop-less c = search needs
 
 loop-again : tie.Need-loop-again Inv-loop μ-loop
 loop-again c =
-    let a = c .before .before .before .before .before .before .before .before .before .before .before .before .before .before .before .before .args in
-    let S = setBy (now (a .set)) (a .layout) in
-    let cs = listed (a .points) in
-    let l = c .before .before .before .before .before .before .before .loop in
-    let p = c .before .before .before .put-link in
-    let f = c .next-of2 .ensures in
-    let within = f .2 (omega arith) in
-    let later = f .1 in
-    let q = c .before .before .before .before .before .before .before .before .before .before .before .before .before .before .before .before .pre in
-    let few : l .tree .next ≤ 2000000000 = let most = q .0 in omega arith in
-    let counted = c .before .before .before .before .before .before .before .before .before .before .before .links .ensures (now (a .set)) in
-    let own = refuted (given (a .kind)) (λ e. c .before .before .before .before .before .before .before .before .before .before .if1 .left (counted ∙ q .4 e)) in
-    let links = link S cs 0 (kindAt (a .kind)) (a .a) (a .b) in (
+    let a = c .before .before .before .before .before .before .before .before .before .before .before .before .before .args in
+    let q = c .before .before .before .before .before .before .before .before .before .before .before .before .before .pre in
+    let l = c .before .before .before .before .before .before .loop in
+    let p = c .before .before .put-link in
+    let one = p .ensures .1 in
+    let small = q .0 in
+    let room : l .tree .next ≤ 2000000000 = omega arith in
+    let links = link (setBy (now (a .set)) (a .layout)) (listed (a .points)) 0 (kindAt (a .kind)) (a .a) (a .b) in (
       omega arith,
       l .inv .1,
       omega arith,
       p .kept .0 ∙ l .inv .3,
-      λ (t : Term) (start : List ℕ) (m : ℕ) (w : WritesTree (placeOf (now (a .slots))) t start m (now (a .out)) (a .n) (a .base)).
-          chain-to (placeOf (now (a .slots))) links t start m _ _ _ (l .i + 1) (c .next-of2 .result) later
-          (λ (x : ℕ) h k. c .before .before .before .before .before .before .before .before .before .givers .ensures S cs (a .b) x (f .0 S (q .2) x h k))
-          (chain-more (placeOf (now (a .slots))) links t start m _ _ _ (l .i)
-          (p .ensures .0 (placeOf (now (a .slots))) (links (l .i)) (chain links (l .i) t) start m few (c .before .before .before .before .before .link .ensures (q .3) own) (l .inv .4 t start m w))),
+      λ (t : Term) (start : List ℕ) (m : ℕ) w.
+          chain-more (placeOf (now (a .slots))) links t start m _ _ _ (l .i)
+          (p .ensures .0 (placeOf (now (a .slots))) (links (l .i)) (chainOf links (l .i) t) start m room (c .before .before .before .before .link .ensures (c .before .before .before .before .before .before .before .before .if1 .left) (q .3) (q .4) (q .2)) (l .inv .4 t start m w)),
     )
 
-same-length : tie.Need-same-length Inv-loop μ-loop
-same-length c = search needs
+same-length-2 : tie.Need-same-length-2 Inv-loop μ-loop
+same-length-2 c = search needs
 
 returns-2 : tie.Need-returns-2 Inv-loop μ-loop
 returns-2 c =
-    let a = c .before .before .before .before .before .before .before .before .before .before .args in
+    let a = c .before .before .before .before .before .before .before .before .args in
     let l = c .before .loop in
-    let e = c .before .before .before .before .before .links .ensures (now (a .set)) in
-    let i-is : l .i ≡ c .before .before .before .before .before .links .result = omega arith in (
-      λ (t : Term) (start : List ℕ) (m : ℕ) (w : WritesTree (placeOf (now (a .slots))) t start m (now (a .out)) (a .n) (a .base)).
-          subst (λ (j : ℕ). WritesTree (placeOf (now (a .slots))) (chain (link (setBy (now (a .set)) (a .layout)) (listed (a .points)) 0 (kindAt (a .kind)) (a .a) (a .b)) j t) start m (l .out) (l .tree .next) (l .tree .at))
-          (i-is ∙ e) (l .inv .4 t start m w),
+    let e = c .before .before .links .ensures (now (a .set)) in
+    let i-is : l .i ≡ c .before .before .links .result = omega arith in
+    let links = link (setBy (now (a .set)) (a .layout)) (listed (a .points)) 0 (kindAt (a .kind)) (a .a) (a .b) in
+    let few = l .inv .1 in
+    let last = l .inv .2 in (
+      λ (t : Term) (start : List ℕ) (m : ℕ) w.
+          subst (λ (k : ℕ). WritesTree (placeOf (now (a .slots))) (chainOf links k t) start m (l .out) (l .tree .next) (l .tree .at)) (i-is ∙ e) (l .inv .4 t start m w),
       omega arith,
     )
 
@@ -128,16 +115,15 @@ chain-spec =
     (tie.spec
     Inv-loop
     μ-loop
-    links-requires
+    raised-chain-requires
+    same-length
     returns
-    givers-requires
-    next-of-requires
+    links-requires
     loop-holds
     link-requires
     put-link-requires
-    add-next-of
-    next-of-requires-2
+    add-i
     loop-less
     loop-again
-    same-length
+    same-length-2
     returns-2)

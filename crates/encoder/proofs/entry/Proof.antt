@@ -36,7 +36,7 @@ chain-requires c κs =
     let l = q .0 in
     let p = q .1 in
     let most = c .before .before .before .before .before .put-base .ensures .1 in
-    (omega arith, links-most (setBy (now (a .set)) (a .layout)) (listed (a .points)) (l .fourThreads) (l .fewStatements) (l .fewPoints) (kindAt (a .kind)) (a .a) (a .b), q .5, q .7, q .8)
+    (omega arith, links-most (setBy (now (a .set)) (a .layout)) (listed (a .points)) (l .fourThreads) (l .fewStatements) (l .fewPoints) (kindAt (a .kind)) (a .a) (a .b), q .5, q .7, q .8, q .3, l .allPlaces)
 
 set-place-requires : tie.Need-set-place-requires
 set-place-requires c κs = search needs
@@ -69,15 +69,16 @@ returns c =
     omega arith in
     let p = c .before .before .set-place .ensures in (
       entry-kept S cs (a .step) (kindAt (a .kind)) (a .a) (a .b) (now (a .out)) (now (a .slots)) (a .n) _ _ (r .result .next) (r .result .at)
-          (sym (c .before .before .before .before .before .before .before .before .before .before .before .before .before .before .before .before .kept .ensures) ∙ c .before .before .before .before .before .before .before .before .before .before .before .before .before .before .before .if1 .taken) w (p .1 (l .allPlaces) (q .2) (q .3) (q .4) small) (p .0),
+          (sym (c .before .before .before .before .before .before .before .before .before .before .before .before .before .before .before .before .kept .ensures (q .5)) ∙ c .before .before .before .before .before .before .before .before .before .before .before .before .before .before .before .if1 .taken) w (p .1 (l .allPlaces) (q .2) (q .3) (q .4) small) (p .0),
       omega arith,
     )
 
 returns-2 : tie.Need-returns-2
 returns-2 c =
-    let a = c .before .before .before .before .before .before .args in (
+    let a = c .before .before .before .before .before .before .args in
+    let q = c .before .before .before .before .before .before .pre in (
       entry-none (setBy (now (a .set)) (a .layout)) (listed (a .points)) (a .step) (kindAt (a .kind)) (a .a) (a .b) (now (a .out)) (now (a .slots)) (a .n)
-          (sym (c .before .kept .ensures) ∙ c .if1 .left),
+          (sym (c .before .kept .ensures (q .5)) ∙ c .if1 .left),
       omega arith,
     )
 

@@ -21,13 +21,13 @@ use Rattle.encoder.proofs.flag_block.Lts as lts
 use Rattle.flags.proofs.flags.Reads as flags-reads
 
 abbrev Inv-loop : tie.InvT-loop
-Inv-loop set layout nexts slots₀ out₀ step n threads next₀ t₀ slots out next t =
+Inv-loop set layout members slots₀ out₀ step n threads next₀ t₀ slots out next t =
     (t ≤ threads) × (threads ≤ 4) × (next ≤ n + 1152 * t) × (length out ≡ length out₀) × (length slots ≡ length slots₀)
     × ((points : Points) → Limits layout points slots₀ n → Limits layout points slots next)
     × ((cs : List ℕ) → Writes (upto (line (setBy set layout) cs step flag) t) out₀ slots₀ n out slots next)
 
 abbrev μ-loop : tie.MeasureT-loop
-μ-loop set layout nexts slots₀ out₀ step n threads next₀ t₀ slots out next t = threads - t
+μ-loop set layout members slots₀ out₀ step n threads next₀ t₀ slots out next t = threads - t
 
 loop-holds : tie.Need-loop-holds Inv-loop μ-loop
 loop-holds c =

@@ -20,13 +20,13 @@ use Rattle.encoder.proofs.line.Reads as reads
 use Rattle.encoder.proofs.line.Lts as lts
 
 abbrev Inv-loop : tie.InvT-loop
-Inv-loop set layout points nexts slots₀ out₀ step kind a n count next₀ b₀ slots out next b =
+Inv-loop set layout points members slots₀ out₀ step kind a n count next₀ b₀ slots out next b =
     (b ≤ count) × (count ≤ 32) × (next ≤ n + 36 * b) × (length out ≡ length out₀) × (length slots ≡ length slots₀)
     × (Limits layout points slots next)
     × (Writes (upto (entry (setBy set layout) (listed points) step (kindAt kind) a) b) out₀ slots₀ n out slots next)
 
 abbrev μ-loop : tie.MeasureT-loop
-μ-loop set layout points nexts slots₀ out₀ step kind a n count next₀ b₀ slots out next b = count - b
+μ-loop set layout points members slots₀ out₀ step kind a n count next₀ b₀ slots out next b = count - b
 
 columns-requires : tie.Need-columns-requires Inv-loop μ-loop
 columns-requires c κs = search needs
@@ -45,7 +45,7 @@ entry-requires : tie.Need-entry-requires Inv-loop μ-loop
 entry-requires c κs =
     let l = c .before .before .before .loop in
     let q = c .before .before .before .before .before .before .before .before .before .pre in
-    (l .inv .5, omega arith, omega arith, omega arith, omega arith, q .4, q .5, q .6, λ e. clash e (q .7))
+    (l .inv .5, omega arith, omega arith, omega arith, omega arith, q .4, q .5, q .6, q .7)
 
 add-b : tie.Need-add-b Inv-loop μ-loop
 add-b c = search needs

@@ -2,6 +2,7 @@
 use denote.Ref.{now}
 use native.Mathlib.Omega.{arith}
 use mathlib.Core.List.{[], _∷_}
+use Rattle.places.proofs.Idle.{idle-none, idle-needs, idle-blocks, idle-written}
 use borrow.Author.Needs.{needs}
 use Rattle.places.specs.Places.{listed}
 use Rattle.encoding.specs.Steps.{blocks, ruled, step}
@@ -12,7 +13,7 @@ use Rattle.encoder.proofs.one_step.Statement.{statement}
 use Rattle.encoder.proofs.one_step.Tie as tie
 
 blocks-requires : tie.Need-blocks-requires
-blocks-requires c κs = (c .before .before .before .before .before .before .pre .0, omega arith, omega arith, c .before .before .before .before .before .before .pre .2)
+blocks-requires c κs = (c .before .before .before .before .before .before .pre .0, omega arith, omega arith, c .before .before .before .before .before .before .pre .2, c .before .before .before .before .before .before .pre .3)
 
 rule-requires : tie.Need-rule-requires
 rule-requires c κs = (omega arith, c .before .before .before .before .before .before .before .before .before .before .before .before .before .pre .0 .fourThreads)
@@ -27,6 +28,8 @@ blocks-requires-2 c κs =
       omega arith,
       omega arith,
       c .before .before .before .before .before .before .before .before .before .before .before .before .before .before .before .before .before .before .pre .2,
+      idle-written S (demanded (ruled S cs (a .step)) ∷ []) (idle-needs S (ruled S cs (a .step)) [] (idle-none S)) _ _ _ _ _ _ (c .before .before .before .before .rule .ensures .0 (now (a .set)) cs (a .step))
+          (idle-written S (blocks S cs (a .step) 0 11) (idle-blocks S cs (a .step) 0 11) _ _ _ _ _ _ (c .before .before .before .before .before .before .before .before .before .before .before .blocks2 .ensures .0) (c .before .before .before .before .before .before .before .before .before .before .before .before .before .before .before .before .before .before .pre .3)),
     )
 
 same-length : tie.Need-same-length

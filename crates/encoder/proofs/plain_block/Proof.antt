@@ -21,13 +21,13 @@ use Rattle.encoder.proofs.line.Reads as line-reads
 use Rattle.links.proofs.rows.Reads as rows-reads
 
 abbrev Inv-loop : tie.InvT-loop
-Inv-loop set layout points nexts slots₀ out₀ step kind n count next₀ a₀ slots out next a =
+Inv-loop set layout points members slots₀ out₀ step kind n count next₀ a₀ slots out next a =
     (a ≤ count) × (count ≤ 4) × (next ≤ n + 1152 * a) × (length out ≡ length out₀) × (length slots ≡ length slots₀)
     × (Limits layout points slots next)
     × (Writes (upto (line (setBy set layout) (listed points) step (kindAt kind)) a) out₀ slots₀ n out slots next)
 
 abbrev μ-loop : tie.MeasureT-loop
-μ-loop set layout points nexts slots₀ out₀ step kind n count next₀ a₀ slots out next a = count - a
+μ-loop set layout points members slots₀ out₀ step kind n count next₀ a₀ slots out next a = count - a
 
 rows-requires : tie.Need-rows-requires Inv-loop μ-loop
 rows-requires c κs = search needs

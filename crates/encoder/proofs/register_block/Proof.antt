@@ -1,57 +1,51 @@
 -- `encoder::register_block` meets its contract. Assumes nothing.
-use borrow.Author.Needs.{needs}
-use lib.ListN.{length}
 use denote.Ref.{now}
 use native.Mathlib.Omega.{arith}
+use lib.ListN.{length}
 use mathlib.Core.List.{List}
-use mathlib.Core.Path.{_≡_, refl, sym, _∙_, subst}
+use mathlib.Core.Path.{_≡_, refl, sym, _∙_}
 use Prim.Native.Nat.{ℕ, _+_, _-_, _*_, _≤_, _<_}
-use Rattle.places.specs.Places.{listed}
-use Rattle.places.specs.declared.Points.{Points}
-use Rattle.encoding.specs.Steps.{entry, line}
-use Rattle.encoding.specs.Slots.{kindAt}
+use Rattle.records.specs.Sets.{Set}
 use Rattle.table.specs.Programs.{upto}
-use Rattle.records.specs.Sets.{setBy}
-use Rattle.places.proofs.Pieces.{writes-row, writes-more, limits-after}
-use Rattle.places.specs.Pieces.{Writes, Limits}
+use Rattle.encoding.specs.Slots.{Slot, kindAt}
+use Rattle.encoding.specs.Steps.{entry, line}
+use Rattle.places.specs.Places.{placeOf, size}
+use Rattle.places.specs.Pieces.{Writes}
+use Rattle.places.proofs.Pieces.{writes-row, writes-more, below-after}
+use Rattle.links.specs.Members.{Members}
+use Rattle.encoder.specs.Entries.{ByThread}
 use Rattle.encoder.proofs.Loops.{line-one, registers}
+use borrow.Author.Needs.{needs}
 use Rattle.encoder.proofs.register_block.Statement.{statement}
 use Rattle.encoder.proofs.register_block.Tie as tie
-use Rattle.encoder.proofs.register_block.Reads as reads
-use Rattle.encoder.proofs.register_block.Lts as lts
-use Rattle.encoder.proofs.given_entry.Reads as given-entry-reads
-use Rattle.links.proofs.count.Reads as count-reads
-use Rattle.links.proofs.first.Reads as first-reads
 
 abbrev Inv-loop : tie.InvT-loop
-Inv-loop set layout points nexts slots₀ out₀ step kind n threads next₀ t₀ slots out next t =
-    (t ≤ threads) × (threads ≤ 4) × (next ≤ n + 36 * t) × (length out ≡ length out₀) × (length slots ≡ length slots₀)
-    × (Limits layout points slots next)
-    × (Writes (upto (line (setBy set layout) (listed points) step (kindAt kind)) t) out₀ slots₀ n out slots next)
+Inv-loop members slots₀ out₀ threads step kind n next₀ t₀ slots out next t =
+    (t ≤ threads) × (next ≤ n + 36 * t) × (length out ≡ length out₀) × (length slots ≡ length slots₀)
+    × ((S : Set) (cs : List ℕ) → S .threads ≡ threads → ByThread S cs kind → Members S members → length slots₀ ≡ size → ((s : Slot) → placeOf slots₀ s < n)
+    → (Writes (upto (line S cs step (kindAt kind)) t) out₀ slots₀ n out slots next) × ((s : Slot) → placeOf slots s < next))
 
 abbrev μ-loop : tie.MeasureT-loop
-μ-loop set layout points nexts slots₀ out₀ step kind n threads next₀ t₀ slots out next t = threads - t
+μ-loop members slots₀ out₀ threads step kind n next₀ t₀ slots out next t = threads - t
 
 loop-holds : tie.Need-loop-holds Inv-loop μ-loop
 loop-holds c =
-    let a = c .before .before .before .before .args in
-    let l = c .before .before .before .before .pre .0 in
-    let S = setBy (now (a .set)) (a .layout) in
-    let most = l .fourThreads in
-    (omega arith, l .fourThreads, omega arith, refl, refl, l, writes-row (line S (listed (a .points)) (a .step) (kindAt (a .kind))) (now (a .out)) (now (a .slots)) (a .n))
-
-first-requires : tie.Need-first-requires Inv-loop μ-loop
-first-requires c κs = search needs
-
-count-requires : tie.Need-count-requires Inv-loop μ-loop
-count-requires c κs = search needs
+    let a = c .before .before .before .args in (
+      omega arith,
+      omega arith,
+      refl,
+      refl,
+      λ (S : Set) (cs : List ℕ) threads by members all below. (writes-row (line S cs (a .step) (kindAt (a .kind))) (now (a .out)) (now (a .slots)) (a .n), below),
+    )
 
 given-entry-requires : tie.Need-given-entry-requires Inv-loop μ-loop
 given-entry-requires c κs =
-    let l = c .before .before .before .before .before .loop in
-    let q = c .before .before .before .before .before .before .before .before .before .before .pre in
-    let first = c .before .before .before .first .ensures in
-    (l .inv .5, omega arith, omega arith, omega arith, q .3, q .4 .own (l .t), omega arith, first .0, first .1, c .before .before .count .ensures)
+    let q = c .before .before .before .before .before .before .before .pre in
+    let l = c .before .before .before .loop in
+    let room = q .0 in
+    let four = q .1 in
+    let so-far = l .inv .1 in
+    (omega arith, omega arith, omega arith, omega arith)
 
 add-t : tie.Need-add-t Inv-loop μ-loop
 add-t c = search needs
@@ -61,20 +55,20 @@ loop-less c = search needs
 
 loop-again : tie.Need-loop-again Inv-loop μ-loop
 loop-again c =
-    let a = c .before .before .before .before .before .before .before .before .before .before .before .before .before .before .before .args in
-    let q = c .before .before .before .before .before .before .before .before .before .before .before .before .before .before .before .pre in
-    let l = c .before .before .before .before .before .before .before .before .before .before .loop in
+    let a = c .before .before .before .before .before .before .before .before .before .before .before .before .args in
+    let l = c .before .before .before .before .before .before .before .before .loop in
     let r = c .before .before .before .before .given-entry in
-    let S = setBy (now (a .set)) (a .layout) in
-    let f = line S (listed (a .points)) (a .step) (kindAt (a .kind)) in
-    let w = line-one S (listed (a .points)) (a .step) (a .kind) _ _ _ _ _ _ (q .4 .each) (l .t) (r .ensures .0) in (
+    let more = r .ensures .1 in
+    let so-far = l .inv .1 in (
       omega arith,
-      l .inv .1,
       omega arith,
       search needs,
       search needs,
-      limits-after (a .layout) (a .points) (f (l .t)) _ _ _ _ _ _ w (l .inv .5),
-      writes-more f (l .t) (now (a .out)) (now (a .slots)) (a .n) _ _ _ _ _ _ (l .inv .6) w,
+      λ (S : Set) (cs : List ℕ) threads by members all below.
+          let f = line S cs (a .step) (kindAt (a .kind)) in
+          let done = l .inv .4 S cs threads by members all below in
+          let w = line-one S cs (a .step) (a .kind) _ _ _ _ _ _ (by .each) (l .t) (r .ensures .0 S cs threads (by .own (l .t)) members (l .inv .3 ∙ all) (done .1)) in
+          (writes-more f (l .t) (now (a .out)) (now (a .slots)) (a .n) _ _ _ _ _ _ (done .0) w, below-after (f (l .t)) _ _ _ _ _ _ w (done .1)),
     )
 
 same-length : tie.Need-same-length Inv-loop μ-loop
@@ -85,12 +79,16 @@ same-length-2 c = search needs
 
 returns : tie.Need-returns Inv-loop μ-loop
 returns c =
-    let a = c .before .before .before .before .before .before .args in
-    let q = c .before .before .before .before .before .before .pre in
+    let a = c .before .before .before .before .before .args in
+    let q = c .before .before .before .before .before .pre in
     let l = c .before .loop in
-    let S = setBy (now (a .set)) (a .layout) in
-    let t-is : l .t ≡ a .layout .threads = omega arith in
-    (registers S (listed (a .points)) (a .step) (a .kind) _ _ _ _ _ _ (q .4 .each) (l .t) t-is (l .inv .6), omega arith)
+    let four = q .1 in
+    let so-far = l .inv .1 in
+    let t-is : l .t ≡ a .threads = omega arith in (
+      λ (S : Set) (cs : List ℕ) threads by members all below.
+          registers S cs (a .step) (a .kind) _ _ _ _ _ _ (by .each) (l .t) (t-is ∙ sym threads) (l .inv .4 S cs threads by members all below .0),
+      omega arith,
+    )
 
 pub register-block-spec : {M : Type 1} → statement M
 register-block-spec =
@@ -99,8 +97,6 @@ register-block-spec =
     Inv-loop
     μ-loop
     loop-holds
-    first-requires
-    count-requires
     given-entry-requires
     add-t
     loop-less

@@ -6,7 +6,9 @@ use native.Mathlib.Omega.{arith}
 use mathlib.Core.List.{List}
 use mathlib.Core.Path.{_≡_, refl, sym, _∙_, subst}
 use Prim.Native.Nat.{ℕ, _+_, _-_, _*_, _≤_, _<_}
-use Rattle.places.specs.Places.{listed}
+use Rattle.places.specs.Places.{placeOf, listed}
+use Rattle.places.specs.Idle.{Idle}
+use Rattle.places.proofs.Idle.{idle-line, idle-written}
 use Rattle.places.specs.declared.Points.{Points}
 use Rattle.encoding.specs.Steps.{entry, line}
 use Rattle.encoding.specs.Slots.{kindAt}
@@ -22,20 +24,21 @@ use Rattle.encoder.proofs.statement_block.Lts as lts
 use Rattle.values.proofs.statement_line.Reads as statement-line-reads
 
 abbrev Inv-loop : tie.InvT-loop
-Inv-loop set layout nexts slots₀ out₀ step kind n threads next₀ t₀ slots out next t =
+Inv-loop set layout members slots₀ out₀ step kind n threads next₀ t₀ slots out next t =
     (t ≤ threads) × (threads ≤ 4) × (next ≤ n + 1152 * t) × (length out ≡ length out₀) × (length slots ≡ length slots₀)
     × ((points : Points) → Limits layout points slots₀ n → Limits layout points slots next)
     × ((cs : List ℕ) → Writes (upto (line (setBy set layout) cs step (kindAt kind)) t) out₀ slots₀ n out slots next)
+    × (Idle (setBy set layout) (placeOf slots))
 
 abbrev μ-loop : tie.MeasureT-loop
-μ-loop set layout nexts slots₀ out₀ step kind n threads next₀ t₀ slots out next t = threads - t
+μ-loop set layout members slots₀ out₀ step kind n threads next₀ t₀ slots out next t = threads - t
 
 loop-holds : tie.Need-loop-holds Inv-loop μ-loop
 loop-holds c =
     let a = c .before .before .before .before .args in
     let l = c .before .before .before .before .pre .0 in
     let most = l .fourThreads in
-    (omega arith, l .fourThreads, omega arith, refl, refl, λ points h. h, λ cs. writes-row (line (setBy (now (a .set)) (a .layout)) cs (a .step) (kindAt (a .kind))) (now (a .out)) (now (a .slots)) (a .n))
+    (omega arith, l .fourThreads, omega arith, refl, refl, λ points h. h, λ cs. writes-row (line (setBy (now (a .set)) (a .layout)) cs (a .step) (kindAt (a .kind))) (now (a .out)) (now (a .slots)) (a .n), c .before .before .before .before .pre .5)
 
 statement-line-requires : tie.Need-statement-line-requires Inv-loop μ-loop
 statement-line-requires c κs = search needs
@@ -62,9 +65,11 @@ loop-again c =
       search needs,
       search needs,
       λ (points : Points) (h : Limits (a .layout) points (now (a .slots)) (a .n)).
-          limits-after (a .layout) points (line S (listed points) (a .step) (kindAt (a .kind)) (l .t)) _ _ _ _ _ _ (r .ensures .0 (listed points) (a .step) (q .4) (omega arith) (here .fewStatements (l .t)) few (here .allPlaces) (here .below)) (l .inv .5 points h),
+          limits-after (a .layout) points (line S (listed points) (a .step) (kindAt (a .kind)) (l .t)) _ _ _ _ _ _ (r .ensures .0 (listed points) (a .step) (q .4) (omega arith) (here .fewStatements (l .t)) few (here .allPlaces) (q .3) (l .inv .7) (here .below)) (l .inv .5 points h),
       λ (cs : List ℕ).
-          writes-more (line S cs (a .step) (kindAt (a .kind))) (l .t) (now (a .out)) (now (a .slots)) (a .n) _ _ _ _ _ _ (l .inv .6 cs) (r .ensures .0 cs (a .step) (q .4) (omega arith) (here .fewStatements (l .t)) few (here .allPlaces) (here .below)),
+          writes-more (line S cs (a .step) (kindAt (a .kind))) (l .t) (now (a .out)) (now (a .slots)) (a .n) _ _ _ _ _ _ (l .inv .6 cs) (r .ensures .0 cs (a .step) (q .4) (omega arith) (here .fewStatements (l .t)) few (here .allPlaces) (q .3) (l .inv .7) (here .below)),
+      idle-written S (line S (listed (a .points)) (a .step) (kindAt (a .kind)) (l .t)) (idle-line S (listed (a .points)) (a .step) (kindAt (a .kind)) (l .t)) _ _ _ _ _ _
+          (r .ensures .0 (listed (a .points)) (a .step) (q .4) (omega arith) (here .fewStatements (l .t)) few (here .allPlaces) (q .3) (l .inv .7) (here .below)) (l .inv .7),
     )
 
 same-length : tie.Need-same-length Inv-loop μ-loop

@@ -5,7 +5,9 @@ use denote.Ref.{now}
 use native.Mathlib.Omega.{arith}
 use mathlib.Core.Path.{_≡_, refl, subst}
 use Prim.Native.Nat.{ℕ, _+_, _-_, _*_, _≤_}
-use Rattle.places.specs.Places.{listed}
+use Rattle.places.specs.Places.{placeOf, listed}
+use Rattle.places.specs.Idle.{Idle}
+use Rattle.places.proofs.Idle.{idle-step, idle-written}
 use Rattle.encoding.specs.Steps.{step}
 use Rattle.table.specs.Programs.{upto}
 use Rattle.records.specs.Sets.{setBy}
@@ -15,24 +17,25 @@ use Rattle.encoder.proofs.steps.Statement.{statement}
 use Rattle.encoder.proofs.steps.Tie as tie
 
 abbrev Inv-loop : tie.InvT-loop
-Inv-loop set layout points nexts slots₀ out₀ bound n next₀ k₀ slots out next k =
+Inv-loop set layout points members slots₀ out₀ bound n next₀ k₀ slots out next k =
     (k ≤ bound) × (bound ≤ 64) × (next ≤ n + 377858 * k) × (length out ≡ length out₀) × (length slots ≡ length slots₀)
     × (Limits layout points slots next)
     × (Writes (upto (step (setBy set layout) (listed points)) k) out₀ slots₀ n out slots next)
+    × (Idle (setBy set layout) (placeOf slots))
 
 abbrev μ-loop : tie.MeasureT-loop
-μ-loop set layout points nexts slots₀ out₀ bound n next₀ k₀ slots out next k = bound - k
+μ-loop set layout points members slots₀ out₀ bound n next₀ k₀ slots out next k = bound - k
 
 loop-holds : tie.Need-loop-holds Inv-loop μ-loop
 loop-holds c =
     let a = c .before .before .before .before .args in
     let l = c .before .before .before .before .pre .0 in
-    (omega arith, omega arith, omega arith, refl, refl, l, writes-row (step (setBy (now (a .set)) (a .layout)) (listed (a .points))) (now (a .out)) (now (a .slots)) (a .n))
+    (omega arith, omega arith, omega arith, refl, refl, l, writes-row (step (setBy (now (a .set)) (a .layout)) (listed (a .points))) (now (a .out)) (now (a .slots)) (a .n), c .before .before .before .before .pre .4)
 
 one-step-requires : tie.Need-one-step-requires Inv-loop μ-loop
 one-step-requires c κs =
     let l = c .before .before .before .loop in
-    (l .inv .5, omega arith, c .before .before .before .before .before .before .before .before .pre .3)
+    (l .inv .5, omega arith, c .before .before .before .before .before .before .before .before .pre .3, l .inv .7)
 
 add-k : tie.Need-add-k Inv-loop μ-loop
 add-k c = search needs
@@ -53,6 +56,7 @@ loop-again c =
       search needs,
       limits-after (a .layout) (a .points) (f (l .k)) _ _ _ _ _ _ (r .ensures .0) (l .inv .5),
       writes-more f (l .k) (now (a .out)) (now (a .slots)) (a .n) _ _ _ _ _ _ (l .inv .6) (r .ensures .0),
+      idle-written (setBy (now (a .set)) (a .layout)) (f (l .k)) (idle-step (setBy (now (a .set)) (a .layout)) (listed (a .points)) (l .k)) _ _ _ _ _ _ (r .ensures .0) (l .inv .7),
     )
 
 same-length : tie.Need-same-length Inv-loop μ-loop

@@ -1,10 +1,17 @@
 -- `encoder::write` meets its contract. Assumes nothing.
 use denote.Ref.{now}
+use mathlib.Core.Path.{refl}
+use mathlib.Core.List.{[]}
 use native.Mathlib.Omega.{arith}
 use lib.ListN.{replicate}
 use borrow.Author.Needs.{needs}
+use Rattle.records.specs.Maps.{cells}
 use Rattle.records.specs.Sets.{setBy}
-use Rattle.links.proofs.Following.{nexts-none}
+use Rattle.table.specs.Programs.{upto}
+use Rattle.encoding.specs.Slots.{unit, argument}
+use Rattle.encoding.specs.Steps.{block}
+use Rattle.encoding.specs.Encodings.{mapDemand, starting}
+use Rattle.places.proofs.Idle.{idle-none, idle-needs, idle-++, idle-upto, idle-block, idle-written, idle-start}
 use Rattle.places.specs.Places.{listed}
 use Rattle.places.proofs.Pieces.{limits-after}
 use Rattle.encoder.proofs.Repeating.{encoded-ended, ended-room}
@@ -31,7 +38,7 @@ before-steps-requires : tie.Need-before-steps-requires
 before-steps-requires c κs =
     let a = c .before .before .before .before .before .before .before .before .before .before .before .before .before .args in
     let p = c .before .before .before .before .before .before .before .before .before .before .before .before .before .pre in
-    (p .0, p .1, c .before .before .before .before .before .before .before .before .make .ensures .1 (nexts-none (setBy (now (a .set)) (a .layout)) 1188))
+    (p .0, p .1, c .before .before .before .before .before .before .before .before .make .ensures .1 refl (λ t h. p .0 .fewStatements t), idle-start (setBy (now (a .set)) (a .layout)) 5248)
 
 slice-aggregate-all-steps : tie.Need-slice-aggregate-all-steps
 slice-aggregate-all-steps c = search needs
@@ -49,8 +56,10 @@ all-steps-requires c κs =
       limits-after (a .layout) (a .points) (early S cs (now (a .map))) _ _ _ _ _ _ (w .0) (p .0),
       (let l = w .1 in omega arith),
       p .2,
-      c .before .before .before .before .before .before .before .before .before .before .before .before .before .before .before .make .ensures .1 (nexts-none S 1188),
+      c .before .before .before .before .before .before .before .before .before .before .before .before .before .before .before .make .ensures .1 refl (λ t h. p .0 .fewStatements t),
       ended-room S cs (now (a .map)) (a .bound) (now (a .table)) _ _ _ _ (c .before .before .before .before .before .before .before .before .before .before .before .before .firsts .ensures) (w .0) (p .3),
+      idle-written S (early S cs (now (a .map))) (idle-++ S (starting S cs) (upto (mapDemand (now (a .map))) (cells (now (a .map)))) (idle-++ S (block S cs 0 unit) (block S cs 0 argument) (idle-block S cs 0 unit) (idle-block S cs 0 argument))
+          (idle-upto S (mapDemand (now (a .map))) (λ j. idle-needs S _ [] (idle-none S)) (cells (now (a .map))))) _ _ _ _ _ _ (w .0) (idle-start S 5248),
     )
 
 goal-requires : tie.Need-goal-requires

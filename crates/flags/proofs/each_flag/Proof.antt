@@ -1,7 +1,7 @@
 -- `flags::each_flag` meets its contract. Assumes nothing.
-use Rattle.flags.proofs.Written.{below-after}
-use Rattle.links.specs.Nexts.{Nexts}
-use Rattle.places.proofs.Pieces.{writes-row, writes-more}
+use Rattle.links.specs.Members.{Members}
+use Rattle.flags.specs.Named.{Unnamed}
+use Rattle.places.proofs.Pieces.{writes-row, writes-more, below-after}
 use Rattle.places.specs.Pieces.{Writes}
 use Rattle.places.specs.Places.{placeOf, size}
 use Rattle.encoding.specs.Steps.{entry}
@@ -19,28 +19,37 @@ use Rattle.flags.proofs.each_flag.Statement.{statement}
 use Rattle.flags.proofs.each_flag.Tie as tie
 
 abbrev Inv-loop : tie.InvT-loop
-Inv-loop set first nexts slots₀ out₀ t count n next₀ j₀ slots out next j =
+Inv-loop set first members slots₀ out₀ t count n named next₀ j₀ slots out next j =
     (j ≤ count) × (next ≤ n + 36 * j) × (length out ≡ length out₀) × (length slots ≡ length slots₀)
-    × ((S : Set) (cs : List ℕ) (k : ℕ) → count ≡ S .count t → Nexts S nexts → ((x : ℕ) → x < count → S .statement t x ≡ statementAt set (first + x))
+    × ((S : Set) (cs : List ℕ) (k : ℕ) → count ≡ S .count t → Members S members → ((j : ℕ) → j < count → Unnamed S t count j named) → ((x : ℕ) → x < count → S .statement t x ≡ statementAt set (first + x))
     → length slots₀ ≡ size → ((s : Slot) → placeOf slots₀ s < n)
     → (Writes (upto (entry S cs k flag t) j) out₀ slots₀ n out slots next) × ((s : Slot) → placeOf slots s < next))
 
 abbrev μ-loop : tie.MeasureT-loop
-μ-loop set first nexts slots₀ out₀ t count n next₀ j₀ slots out next j = count - j
+μ-loop set first members slots₀ out₀ t count n named next₀ j₀ slots out next j = count - j
+
+slice-aggregate-name-targets : tie.Need-slice-aggregate-name-targets Inv-loop μ-loop
+slice-aggregate-name-targets c = search needs
+
+name-targets-requires : tie.Need-name-targets-requires Inv-loop μ-loop
+name-targets-requires c κs = search needs
 
 loop-holds : tie.Need-loop-holds Inv-loop μ-loop
 loop-holds c =
-    let a = c .before .before .before .before .args in (
+    let a = c .before .before .before .before .before .before .before .args in (
       omega arith,
       omega arith,
       refl,
       refl,
-      λ (S : Set) (cs : List ℕ) (k : ℕ) count-is nexts known all below. (writes-row (entry S cs k flag (a .t)) (now (a .out)) (now (a .slots)) (a .n), below),
+      λ (S : Set) (cs : List ℕ) (k : ℕ) count-is members unnamed known all below. (writes-row (entry S cs k flag (a .t)) (now (a .out)) (now (a .slots)) (a .n), below),
     )
+
+slice-aggregate-flag : tie.Need-slice-aggregate-flag Inv-loop μ-loop
+slice-aggregate-flag c = search needs
 
 flag-requires : tie.Need-flag-requires Inv-loop μ-loop
 flag-requires c κs =
-    let q = c .before .before .before .before .before .before .before .before .pre in
+    let q = c .before .before .before .before .before .before .before .before .before .before .before .before .pre in
     let few = q .1 in
     let small = q .3 in
     (q .0, q .1, omega arith, q .2, omega arith)
@@ -53,18 +62,18 @@ loop-less c = search needs
 
 loop-again : tie.Need-loop-again Inv-loop μ-loop
 loop-again c =
-    let a = c .before .before .before .before .before .before .before .before .before .before .before .before .before .args in
-    let l = c .before .before .before .before .before .before .before .before .loop in
+    let a = c .before .before .before .before .before .before .before .before .before .before .before .before .before .before .before .before .before .args in
+    let l = c .before .before .before .before .before .before .before .before .before .loop in
     let r = c .before .before .before .before .flag in
     let more = r .ensures .1 in (
       omega arith,
       omega arith,
       search needs,
       search needs,
-      λ (S : Set) (cs : List ℕ) (k : ℕ) count-is nexts known all below.
+      λ (S : Set) (cs : List ℕ) (k : ℕ) count-is members unnamed known all below.
           let f = entry S cs k flag (a .t) in
-          let so-far = l .inv .4 S cs k count-is nexts known all below in
-          let w = r .ensures .0 S cs k count-is nexts known (l .inv .3 ∙ all) (so-far .1) in
+          let so-far = l .inv .4 S cs k count-is members unnamed known all below in
+          let w = r .ensures .0 S cs k count-is members (unnamed (l .j) (omega arith)) known (l .inv .3 ∙ all) (so-far .1) in
           (writes-more f (l .j) (now (a .out)) (now (a .slots)) (a .n) _ _ _ _ _ _ (so-far .0) w, below-after (f (l .j)) _ _ _ _ _ _ w (so-far .1)),
     )
 
@@ -76,13 +85,14 @@ same-length-2 c = search needs
 
 returns : tie.Need-returns Inv-loop μ-loop
 returns c =
-    let a = c .before .before .before .before .before .before .args in
+    let a = c .before .before .before .before .before .before .before .before .before .args in
     let l = c .before .loop in
-    let few = c .before .before .before .before .before .before .pre .1 in
+    let few = c .before .before .before .before .before .before .before .before .before .pre .1 in
+    let named = c .before .before .before .name-targets .ensures .1 in
     let j-is : l .j ≡ a .count = omega arith in (
-      λ (S : Set) (cs : List ℕ) (k : ℕ) count-is nexts known all below.
+      λ (S : Set) (cs : List ℕ) (k : ℕ) count-is members known all below.
           subst (λ (i : ℕ). Writes (upto (entry S cs k flag (a .t)) i) (now (a .out)) (now (a .slots)) (a .n) (l .out) (l .slots) (l .next))
-          (j-is ∙ count-is) (l .inv .4 S cs k count-is nexts known all below .0),
+          (j-is ∙ count-is) (l .inv .4 S cs k count-is members (λ (j : ℕ) (h : j < a .count). named S count-is members known j (omega arith)) known all below .0),
       omega arith,
     )
 
@@ -92,7 +102,10 @@ each-flag-spec =
     (tie.spec
     Inv-loop
     μ-loop
+    slice-aggregate-name-targets
+    name-targets-requires
     loop-holds
+    slice-aggregate-flag
     flag-requires
     add-j
     loop-less

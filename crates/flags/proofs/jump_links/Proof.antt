@@ -1,6 +1,6 @@
 -- `flags::jump_links` meets its contract. Assumes nothing.
 use Rattle.links.proofs.Trees.{chain-none, chain-more, chain-to}
-use Rattle.links.specs.Nexts.{Nexts}
+use Rattle.links.specs.Members.{Members}
 use Rattle.places.specs.Pieces.{WritesTree}
 use Rattle.places.specs.Places.{placeOf}
 use Rattle.encoding.specs.Steps.{chain, leads}
@@ -17,14 +17,14 @@ use Rattle.flags.proofs.jump_links.Statement.{statement}
 use Rattle.flags.proofs.jump_links.Tie as tie
 
 abbrev Inv-loop : tie.InvT-loop
-Inv-loop set first nexts slots out₀ t j count n base tree₀ i₀ out tree i =
+Inv-loop set first members slots out₀ t j count n base tree₀ i₀ out tree i =
     (i ≤ count) × (tree .next ≤ n + i) × (length out ≡ length out₀)
-    × ((S : Set) (base-tree : Term) (start : List ℕ) (m : ℕ) → Nexts S nexts → ((x : ℕ) → x < count → S .statement t x ≡ statementAt set (first + x))
+    × ((S : Set) (base-tree : Term) (start : List ℕ) (m : ℕ) → count ≡ S .count t → Members S members → ((x : ℕ) → x < count → S .statement t x ≡ statementAt set (first + x))
     → WritesTree (placeOf slots) base-tree start m out₀ n base
     → WritesTree (placeOf slots) (chain (leads S [] 0 t j) i base-tree) start m out (tree .next) (tree .at))
 
 abbrev μ-loop : tie.MeasureT-loop
-μ-loop set first nexts slots out₀ t j count n base tree₀ i₀ out tree i = count - i
+μ-loop set first members slots out₀ t j count n base tree₀ i₀ out tree i = count - i
 
 leading-requires : tie.Need-leading-requires Inv-loop μ-loop
 leading-requires c κs = search needs
@@ -32,14 +32,15 @@ leading-requires c κs = search needs
 loop-holds : tie.Need-loop-holds Inv-loop μ-loop
 loop-holds c =
     let a = c .before .before .before .before .before .args in
+    let four = c .before .before .before .before .before .pre .3 in
     let f = c .leading .ensures in
     let within = f .2 (omega arith) in (
       within,
       omega arith,
       refl,
-      λ (S : Set) (t : Term) (start : List ℕ) (m : ℕ) nexts known w.
+      λ (S : Set) (t : Term) (start : List ℕ) (m : ℕ) all members known w.
           let links = leads S [] 0 (a .t) (a .j) in
-          chain-to (placeOf (now (a .slots))) links t start m (now (a .out)) (a .n) (a .base) 0 (c .leading .result) (f .1) (f .0 S nexts known)
+          chain-to (placeOf (now (a .slots))) links t start m (now (a .out)) (a .n) (a .base) 0 (c .leading .result) (f .1) (f .0 S four (subst (λ (k : ℕ). a .count ≤ k) all (omega arith)) members known)
           (chain-none (placeOf (now (a .slots))) links t start m (now (a .out)) (a .n) (a .base) w),
     )
 
@@ -79,16 +80,17 @@ loop-again c =
     let one = p .ensures .1 in
     let few = c .before .before .before .before .before .before .before .before .before .before .before .before .before .before .pre .1 in
     let small = c .before .before .before .before .before .before .before .before .before .before .before .before .before .before .pre .2 in
+    let four = c .before .before .before .before .before .before .before .before .before .before .before .before .before .before .pre .3 in
     let room : l .tree .next ≤ 2000000000 = omega arith in (
       within,
       omega arith,
       p .kept .0 ∙ l .inv .2,
-      λ (S : Set) (t : Term) (start : List ℕ) (m : ℕ) nexts known w.
+      λ (S : Set) (t : Term) (start : List ℕ) (m : ℕ) all members known w.
           let links = leads S [] 0 (a .t) (a .j) in
-          chain-to (placeOf (now (a .slots))) links t start m _ _ _ (l .i + 1) (c .leading2 .result) later (f .0 S nexts known)
+          chain-to (placeOf (now (a .slots))) links t start m _ _ _ (l .i + 1) (c .leading2 .result) later (f .0 S four (subst (λ (k : ℕ). a .count ≤ k) all (omega arith)) members known)
           (chain-more (placeOf (now (a .slots))) links t start m _ _ _ (l .i)
           (p .ensures .0 (placeOf (now (a .slots))) (links (l .i)) (chain links (l .i) t) start m room
-          (c .before .before .before .before .before .leads .ensures S (s .ensures ∙ sym (known (l .i) (omega arith)))) (l .inv .3 S t start m nexts known w))),
+          (c .before .before .before .before .before .leads .ensures S (s .ensures ∙ sym (known (l .i) (omega arith)))) (l .inv .3 S t start m all members known w))),
     )
 
 same-length : tie.Need-same-length Inv-loop μ-loop
@@ -99,9 +101,9 @@ returns c =
     let a = c .before .before .before .before .before .before .before .args in
     let l = c .before .loop in
     let i-is : l .i ≡ a .count = omega arith in (
-      λ (S : Set) (t : Term) (start : List ℕ) (m : ℕ) nexts known w.
+      λ (S : Set) (t : Term) (start : List ℕ) (m : ℕ) all members known w.
           subst (λ (k : ℕ). WritesTree (placeOf (now (a .slots))) (chain (leads S [] 0 (a .t) (a .j)) k t) start m (l .out) (l .tree .next) (l .tree .at))
-          i-is (l .inv .3 S t start m nexts known w),
+          i-is (l .inv .3 S t start m all members known w),
       omega arith,
     )
 

@@ -5,22 +5,25 @@ use native.Mathlib.Omega.{arith}
 use lib.ListN.{length}
 use denote.Ref.{now}
 use borrow.Author.Needs.{needs}
-use Rattle.encoding.specs.Slots.{kinds}
+use Rattle.encoding.specs.Slots.{kinds, full, adr, val, heap}
 use Rattle.values.proofs.Values.{Row, row-none, row-more, row-line}
 use Rattle.values.proofs.addresses.Statement.{statement}
 use Rattle.values.proofs.addresses.Tie as tie
 
 abbrev Inv-loop : tie.InvT-loop
-Inv-loop set first count slots₀ out₀ t n next₀ i₀ slots out next i =
+Inv-loop set first count slots₀ out₀ t n load next₀ i₀ slots out next i =
     (i ≤ count) × (next ≤ n + 4 * i) × (length out ≡ length out₀) × (length slots ≡ length slots₀)
     × (Row 11 set first count t i out₀ slots₀ n out slots next)
 
 abbrev μ-loop : tie.MeasureT-loop
-μ-loop set first count slots₀ out₀ t n next₀ i₀ slots out next i = count - i
+μ-loop set first count slots₀ out₀ t n load next₀ i₀ slots out next i = count - i
+
+load-of-requires : tie.Need-load-of-requires Inv-loop μ-loop
+load-of-requires c κs = search needs
 
 loop-holds : tie.Need-loop-holds Inv-loop μ-loop
 loop-holds c =
-    let a = c .before .before .before .args in
+    let a = c .before .before .before .before .before .args in
     (omega arith, omega arith, refl, refl, row-none 11 (now (a .set)) (a .first) (a .count) (a .t) (now (a .out)) (now (a .slots)) (a .n))
 
 cast-statement-at : tie.Need-cast-statement-at Inv-loop μ-loop
@@ -47,9 +50,10 @@ loop-less c = search needs
 loop-again : tie.Need-loop-again Inv-loop μ-loop
 unfolding kinds
 loop-again c =
-    let a = c .before .before .before .before .before .before .before .before .before .before .before .before .before .before .before .args in
-    let q = c .before .before .before .before .before .before .before .before .before .before .before .before .before .before .before .pre in
+    let a = c .before .before .before .before .before .before .before .before .before .before .before .before .before .before .before .before .before .args in
+    let q = c .before .before .before .before .before .before .before .before .before .before .before .before .before .before .before .before .before .pre in
     let l = c .before .before .before .before .before .before .before .before .before .before .before .loop in
+    let found = c .before .before .before .before .before .before .before .before .before .before .before .before .load-of .ensures in
     let put = c .before .before .before .before .before .before .put-address in
     let settled = c .before .before .settle in
     let less : l .i < a .count = omega arith in
@@ -60,8 +64,9 @@ loop-again c =
       search needs,
       search needs,
       row-more 11 (now (a .set)) (a .first) (a .count) (a .t) (now (a .out)) (now (a .slots)) (a .n) (l .i) (l .out) (l .slots) (l .next) _ _ _ (l .inv .4)
-          (λ S cs k stands below. settled .ensures .0 S cs k (l .out) _ (omega arith) refl (q .1) small (l .inv .3 ∙ q .3) below
-          (put .ensures .0 S cs k (c .before .before .before .before .before .before .before .before .before .statement-at .ensures ∙ stands .statementIs (l .i) less) room)),
+          (λ S cs k stands below others. settled .ensures .0 S cs k (l .out) _ (omega arith) refl (q .1) small (l .inv .3 ∙ q .3) below
+          (put .ensures .0 S cs k (c .before .before .before .before .before .before .before .before .before .statement-at .ensures ∙ stands .statementIs (l .i) less)
+          (found ∙ (λ z. record { full = others full (a .t) 0 refl z; adr = others adr (a .t) 0 refl z; val = others val (a .t) 0 refl z; heap = others heap 0 0 refl z })) room)),
     )
 
 same-length : tie.Need-same-length Inv-loop μ-loop
@@ -73,8 +78,8 @@ same-length-2 c = search needs
 returns : tie.Need-returns Inv-loop μ-loop
 unfolding kinds
 returns c =
-    let a = c .before .before .before .before .before .args in
-    let few = c .before .before .before .before .before .pre .0 in
+    let a = c .before .before .before .before .before .before .before .args in
+    let few = c .before .before .before .before .before .before .before .pre .0 in
     let l = c .before .loop in
     let all : l .i ≡ a .count = omega arith in (
       row-line 11 (now (a .set)) (a .first) (a .count) (a .t) (now (a .out)) (now (a .slots)) (a .n) (omega arith) refl (l .i) all (l .out) (l .slots) (l .next) (l .inv .4),
@@ -87,6 +92,7 @@ addresses-spec =
     (tie.spec
     Inv-loop
     μ-loop
+    load-of-requires
     loop-holds
     cast-statement-at
     add-statement-at

@@ -61,7 +61,7 @@ loop-again c =
       search needs,
       search needs,
       row-more 40 (now (a .set)) (a .first) (a .count) (a .t) (now (a .out)) (now (a .slots)) (a .n) (l .i) (l .out) (l .slots) (l .next) _ _ _ (l .inv .4)
-          (λ S cs k stands below. settled .ensures .0 S cs k (l .out) _ (omega arith) refl (q .1) small (l .inv .3 ∙ q .3) below
+          (λ S cs k stands below others. settled .ensures .0 S cs k (l .out) _ (omega arith) refl (q .1) small (l .inv .3 ∙ q .3) below
           (put .ensures .0 S (placeOf (l .slots)) cs k (a .t) (l .i) (c .before .before .before .before .before .before .before .before .statement-at .ensures ∙ stands .statementIs (l .i) less))),
     )
 

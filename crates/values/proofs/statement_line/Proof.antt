@@ -4,12 +4,13 @@ use native.Mathlib.Omega.{arith}
 use Rattle.base.proofs.Choice.{clash}
 use Rattle.encoding.specs.Slots.{kinds}
 use Rattle.values.proofs.Values.{line-by, statement-other}
+use Rattle.values.proofs.Listed.{listed-by}
 use borrow.Author.Needs.{needs}
 use Rattle.values.proofs.statement_line.Statement.{statement}
 use Rattle.values.proofs.statement_line.Tie as tie
 
 returns : tie.Need-returns
-returns c = (λ cs k of h few room full below. let e = c .if1 .taken in absurd (omega arith), λ h. omega arith)
+returns c = (λ cs k of h few room full listed idle below. let e = c .if1 .taken in absurd (omega arith), λ h. omega arith)
 
 mul-count : tie.Need-mul-count
 mul-count c = search needs
@@ -18,13 +19,13 @@ array-read-count : tie.Need-array-read-count
 array-read-count c = search needs
 
 returns-2 : tie.Need-returns-2
-returns-2 c = (λ cs k of h few room full below. let e = c .if2 .taken in absurd (omega arith), λ h. omega arith)
+returns-2 c = (λ cs k of h few room full listed idle below. let e = c .if2 .taken in absurd (omega arith), λ h. omega arith)
 
 returns-3 : tie.Need-returns-3
-returns-3 c = (λ cs k of h few room full below. absurd (c .if3 .taken full), λ h. omega arith)
+returns-3 c = (λ cs k of h few room full listed idle below. absurd (c .if3 .taken full), λ h. omega arith)
 
 returns-4 : tie.Need-returns-4
-returns-4 c = (λ cs k of h few room full below. let e = c .if4 .taken in absurd (omega arith), λ h. omega arith)
+returns-4 c = (λ cs k of h few room full listed idle below. let e = c .if4 .taken in absurd (omega arith), λ h. omega arith)
 
 mul-first : tie.Need-mul-first
 mul-first c = search needs
@@ -65,9 +66,9 @@ same-length-2 c = search needs
 returns-5 : tie.Need-returns-5
 unfolding kinds
 returns-5 c =
-    let a = c .before .before .before .before .before .before .before .before .before .before .before .before .before .before .before .before .before .args in
+    let a = c .before .before .before .before .before .before .before .before .before .before .before .before .before .before .before .before .before .before .args in
     let line = c .before .before .before .before .actives in (
-      (λ cs k of h few room full below. line-by (now (a .set)) (a .layout) cs k (a .kind) 1 (a .t) (now (a .out)) (now (a .slots)) (a .n) _ _ _ (c .before .before .before .before .before .before .before .match .keys1) (line .ensures .0) below),
+      (λ cs k of h few room full listed idle below. line-by (now (a .set)) (a .layout) cs k (a .kind) 1 (a .t) (now (a .out)) (now (a .slots)) (a .n) _ _ _ (c .before .before .before .before .before .before .before .match .keys1) (line .ensures .0) below),
       λ h. line .ensures .1,
     )
 
@@ -80,9 +81,9 @@ same-length-4 c = search needs
 returns-6 : tie.Need-returns-6
 unfolding kinds
 returns-6 c =
-    let a = c .before .before .before .before .before .before .before .before .before .before .before .before .before .before .before .before .before .args in
+    let a = c .before .before .before .before .before .before .before .before .before .before .before .before .before .before .before .before .before .before .args in
     let line = c .before .before .before .before .addresses in (
-      (λ cs k of h few room full below. line-by (now (a .set)) (a .layout) cs k (a .kind) 11 (a .t) (now (a .out)) (now (a .slots)) (a .n) _ _ _ (c .before .before .before .before .before .before .before .match .keys2) (line .ensures .0) below),
+      (λ cs k of h few room full listed idle below. line-by (now (a .set)) (a .layout) cs k (a .kind) 11 (a .t) (now (a .out)) (now (a .slots)) (a .n) _ _ _ (c .before .before .before .before .before .before .before .match .keys2) (line .ensures .0) below),
       λ h. line .ensures .1,
     )
 
@@ -95,9 +96,9 @@ same-length-6 c = search needs
 returns-7 : tie.Need-returns-7
 unfolding kinds
 returns-7 c =
-    let a = c .before .before .before .before .before .before .before .before .before .before .before .before .before .before .before .before .before .args in
+    let a = c .before .before .before .before .before .before .before .before .before .before .before .before .before .before .before .before .before .before .args in
     let line = c .before .before .before .before .loads in (
-      (λ cs k of h few room full below. line-by (now (a .set)) (a .layout) cs k (a .kind) 12 (a .t) (now (a .out)) (now (a .slots)) (a .n) _ _ _ (c .before .before .before .before .before .before .before .match .keys3) (line .ensures .0) below),
+      (λ cs k of h few room full listed idle below. listed-by (now (a .set)) (a .layout) (now (a .members)) cs k (a .kind) 12 (a .t) (now (a .out)) (now (a .slots)) (a .n) _ _ _ (c .before .before .before .before .before .before .before .match .keys3) (line .ensures .0) listed idle below),
       λ h. line .ensures .1,
     )
 
@@ -110,9 +111,9 @@ same-length-8 c = search needs
 returns-8 : tie.Need-returns-8
 unfolding kinds
 returns-8 c =
-    let a = c .before .before .before .before .before .before .before .before .before .before .before .before .before .before .before .before .before .args in
+    let a = c .before .before .before .before .before .before .before .before .before .before .before .before .before .before .before .before .before .before .args in
     let line = c .before .before .before .before .swaps in (
-      (λ cs k of h few room full below. line-by (now (a .set)) (a .layout) cs k (a .kind) 13 (a .t) (now (a .out)) (now (a .slots)) (a .n) _ _ _ (c .before .before .before .before .before .before .before .match .keys4) (line .ensures .0) below),
+      (λ cs k of h few room full listed idle below. listed-by (now (a .set)) (a .layout) (now (a .members)) cs k (a .kind) 13 (a .t) (now (a .out)) (now (a .slots)) (a .n) _ _ _ (c .before .before .before .before .before .before .before .match .keys4) (line .ensures .0) listed idle below),
       λ h. line .ensures .1,
     )
 
@@ -125,9 +126,9 @@ same-length-10 c = search needs
 returns-9 : tie.Need-returns-9
 unfolding kinds
 returns-9 c =
-    let a = c .before .before .before .before .before .before .before .before .before .before .before .before .before .before .before .before .before .args in
+    let a = c .before .before .before .before .before .before .before .before .before .before .before .before .before .before .before .before .before .before .args in
     let line = c .before .before .before .before .results in (
-      (λ cs k of h few room full below. line-by (now (a .set)) (a .layout) cs k (a .kind) 14 (a .t) (now (a .out)) (now (a .slots)) (a .n) _ _ _ (c .before .before .before .before .before .before .before .match .keys5) (line .ensures .0) below),
+      (λ cs k of h few room full listed idle below. line-by (now (a .set)) (a .layout) cs k (a .kind) 14 (a .t) (now (a .out)) (now (a .slots)) (a .n) _ _ _ (c .before .before .before .before .before .before .before .match .keys5) (line .ensures .0) below),
       λ h. line .ensures .1,
     )
 
@@ -140,9 +141,9 @@ same-length-12 c = search needs
 returns-10 : tie.Need-returns-10
 unfolding kinds
 returns-10 c =
-    let a = c .before .before .before .before .before .before .before .before .before .before .before .before .before .before .before .before .before .args in
+    let a = c .before .before .before .before .before .before .before .before .before .before .before .before .before .before .before .before .before .before .args in
     let line = c .before .before .before .before .tests in (
-      (λ cs k of h few room full below. line-by (now (a .set)) (a .layout) cs k (a .kind) 15 (a .t) (now (a .out)) (now (a .slots)) (a .n) _ _ _ (c .before .before .before .before .before .before .before .match .keys6) (line .ensures .0) below),
+      (λ cs k of h few room full listed idle below. listed-by (now (a .set)) (a .layout) (now (a .members)) cs k (a .kind) 15 (a .t) (now (a .out)) (now (a .slots)) (a .n) _ _ _ (c .before .before .before .before .before .before .before .match .keys6) (line .ensures .0) listed idle below),
       λ h. line .ensures .1,
     )
 
@@ -155,9 +156,9 @@ same-length-14 c = search needs
 returns-11 : tie.Need-returns-11
 unfolding kinds
 returns-11 c =
-    let a = c .before .before .before .before .before .before .before .before .before .before .before .before .before .before .before .before .before .args in
+    let a = c .before .before .before .before .before .before .before .before .before .before .before .before .before .before .before .before .before .before .args in
     let line = c .before .before .before .before .untests in (
-      (λ cs k of h few room full below. line-by (now (a .set)) (a .layout) cs k (a .kind) 16 (a .t) (now (a .out)) (now (a .slots)) (a .n) _ _ _ (c .before .before .before .before .before .before .before .match .keys7) (line .ensures .0) below),
+      (λ cs k of h few room full listed idle below. listed-by (now (a .set)) (a .layout) (now (a .members)) cs k (a .kind) 16 (a .t) (now (a .out)) (now (a .slots)) (a .n) _ _ _ (c .before .before .before .before .before .before .before .match .keys7) (line .ensures .0) listed idle below),
       λ h. line .ensures .1,
     )
 
@@ -170,14 +171,14 @@ same-length-16 c = search needs
 returns-12 : tie.Need-returns-12
 unfolding kinds
 returns-12 c =
-    let a = c .before .before .before .before .before .before .before .before .before .before .before .before .before .before .before .before .before .args in
+    let a = c .before .before .before .before .before .before .before .before .before .before .before .before .before .before .before .before .before .before .args in
     let line = c .before .before .before .before .arguments in (
-      (λ cs k of h few room full below. line-by (now (a .set)) (a .layout) cs k (a .kind) 40 (a .t) (now (a .out)) (now (a .slots)) (a .n) _ _ _ (c .before .before .before .before .before .before .before .match .keys8) (line .ensures .0) below),
+      (λ cs k of h few room full listed idle below. line-by (now (a .set)) (a .layout) cs k (a .kind) 40 (a .t) (now (a .out)) (now (a .slots)) (a .n) _ _ _ (c .before .before .before .before .before .before .before .match .keys8) (line .ensures .0) below),
       λ h. line .ensures .1,
     )
 
 returns-13 : tie.Need-returns-13
-returns-13 c = (λ cs k of h few room full below. clash of (statement-other _ (c .match .rest)), λ h. omega arith)
+returns-13 c = (λ cs k of h few room full listed idle below. clash of (statement-other _ (c .match .rest)), λ h. omega arith)
 
 pub statement-line-spec : {M : Type 1} → statement M
 statement-line-spec =

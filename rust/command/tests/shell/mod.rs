@@ -5,8 +5,10 @@ use reference::{Cell, Statement};
 use std::ffi::OsStr;
 use std::fs;
 use std::io::Write;
+use std::os::unix::fs::PermissionsExt;
 use std::path::{Path, PathBuf};
-use std::process::{Command, Output, Stdio};
+use std::process::{Child, Command, Output, Stdio};
+use std::sync::{Mutex, MutexGuard, PoisonError};
 
 /// Document 01's example: thread 1 fails where it does not see the store of thread 0.
 pub const EXAMPLE: &str = "ADDI 1\nSTORE 0\n.\nLOAD 0\nJZ 3\nEXIT 0\nEXIT 7\n.\n0 0\n";
@@ -122,13 +124,32 @@ impl Ended {
     }
 }
 
+/// Held while a program is written, and while one is started: a child that another test starts
+/// meanwhile has the file open, and it cannot be run until that child has closed it.
+static PROGRAMS: Mutex<()> = Mutex::new(());
+
+fn alone() -> MutexGuard<'static, ()> {
+    PROGRAMS.lock().unwrap_or_else(PoisonError::into_inner)
+}
+
+/// Writes a program that can be run.
+pub fn write_program(path: &Path, bytes: &[u8]) {
+    let _alone = alone();
+    fs::write(path, bytes).expect("written");
+    fs::set_permissions(path, fs::Permissions::from_mode(0o755)).expect("set");
+}
+
+pub fn start(command: &mut Command) -> Child {
+    let _alone = alone();
+    command.spawn().expect("the command starts")
+}
+
 pub fn ended(mut command: Command, input: &[u8]) -> Ended {
-    let mut child = command
+    command
         .stdin(Stdio::piped())
         .stdout(Stdio::piped())
-        .stderr(Stdio::piped())
-        .spawn()
-        .expect("the command starts");
+        .stderr(Stdio::piped());
+    let mut child = start(&mut command);
     let mut pipe = child.stdin.take().expect("it is piped");
     // A command that does not read its input closes the pipe.
     let _ = pipe.write_all(input);

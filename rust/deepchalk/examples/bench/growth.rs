@@ -1,13 +1,15 @@
 //! How the library's time grows: with the bound or the steps, with the statements, with the text.
 
 use crate::calls::{check, decode, encode, read, records, replay, simulate, table_size};
-use crate::inputs::{failing, memory_heavy};
+use crate::inputs::{failing, litmus, memory_heavy};
 use crate::page::{columns, count, heading, hundredths, row, short, whole};
 use crate::texts;
 use crate::timing::Times;
+use testing::models::ModelInput;
 
 pub fn print() {
     with_bound();
+    with_bound_of_a_litmus_test();
     with_statements();
     with_text();
 }
@@ -21,7 +23,7 @@ fn with_bound() {
         1,
         &["Call", "K", "records", "library ns", "ns a step", "ratio"],
     );
-    let bounds = [1, 4, 16, 64];
+    let bounds = [1, 2, 4, 16, 64];
     for bound in bounds {
         let work = memory_heavy(32).cut(bound);
         print_row("simulate", bound, None, bound, simulate(&work));
@@ -39,6 +41,30 @@ fn with_bound() {
             let input = failing(32, bound);
             print_row(call, bound, Some(records(&input)), bound, time(&input));
         }
+    }
+}
+
+fn with_bound_of_a_litmus_test() {
+    heading(
+        "Growth with K, a litmus test",
+        "Tables of the store-buffer litmus test with its outcome, whose own bound is 15.",
+    );
+    columns(
+        1,
+        &["Call", "K", "records", "library ns", "ns a step", "ratio"],
+    );
+    for bound in [1, 2, 4, 8, 15] {
+        let input = ModelInput {
+            bound: bound as u64,
+            ..litmus()
+        };
+        print_row(
+            "encode",
+            bound,
+            Some(records(&input)),
+            bound,
+            encode(&input),
+        );
     }
 }
 

@@ -5,6 +5,7 @@ use lib.Dec.{eqb}
 use borrow.Author.Tests.{eq-eqb, ne-eqb}
 use Rattle.base.proofs.Choice.{chosen, passed}
 use Rattle.encoding.specs.Slots.{slot, argument}
+use Rattle.places.specs.Places.{placeOf}
 use Rattle.records.specs.declared.Statement.{Statement}
 use Rattle.bases.proofs.Given.{puts-as}
 use borrow.Author.Needs.{needs}
@@ -23,8 +24,8 @@ same-length c = search needs
 returns : tie.Need-returns
 returns c =
     let a = c .before .before .before .before .before .before .before .before .before .args in (
-      λ S cs k e h. puts-as (chosen _ _ (ap (λ (s : Statement). eqb (s .mode) 1) (sym e) ∙ eq-eqb _ _ (c .before .before .before .before .before .if1 .taken)))
-          (c .before .before .put-load .ensures .0 (slot argument (a .t) (a .i)) (c .before .before .before .before .place .ensures) h),
+      λ S cs k e load h. puts-as (chosen _ _ (ap (λ (s : Statement). eqb (s .mode) 1) (sym e) ∙ eq-eqb _ _ (c .before .before .before .before .before .if1 .taken)))
+          (c .before .before .put-load .ensures .0 (placeOf (now (a .slots))) (a .t) (slot argument (a .t) (a .i)) load (c .before .before .before .before .place .ensures) h),
       c .before .before .put-load .ensures .1,
     )
 
@@ -34,7 +35,7 @@ put-none-requires c κs = search needs
 returns-2 : tie.Need-returns-2
 returns-2 c =
     let a = c .before .before .before .before .before .args in (
-      λ S cs k e h. puts-as (passed _ _ (ap (λ (s : Statement). eqb (s .mode) 1) (sym e) ∙ ne-eqb _ _ (c .before .if1 .left)))
+      λ S cs k e load h. puts-as (passed _ _ (ap (λ (s : Statement). eqb (s .mode) 1) (sym e) ∙ ne-eqb _ _ (c .before .if1 .left)))
           (c .put-none .ensures .0 (a .n) argument (now (a .out)) refl refl),
       c .put-none .ensures .1,
     )

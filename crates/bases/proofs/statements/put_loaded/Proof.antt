@@ -1,9 +1,10 @@
 -- `bases::statements::put_loaded` meets its contract. Assumes nothing.
 use denote.Ref.{now}
-use mathlib.Core.Path.{refl, sym, ap, _∙_}
+use mathlib.Core.Path.{sym, ap, _∙_}
 use Rattle.base.proofs.Choice.{chosen, passed}
 use Rattle.encoding.specs.Steps.{loads}
 use Rattle.encoding.specs.Slots.{slot, address, nought}
+use Rattle.places.specs.Places.{placeOf}
 use Rattle.records.specs.declared.Statement.{Statement}
 use Rattle.bases.proofs.Given.{puts-as}
 use borrow.Author.Needs.{needs}
@@ -22,20 +23,20 @@ same-length c = search needs
 returns : tie.Need-returns
 returns c =
     let a = c .before .before .before .before .before .before .before .before .args in (
-      λ S cs k e h. puts-as (chosen _ _ (ap (λ (s : Statement). loads (s .number)) (sym e) ∙ c .before .before .before .before .before .if1 .taken))
-          (c .before .before .put-load .ensures .0 (slot address (a .t) (a .i)) (c .before .before .before .before .place .ensures) h),
+      λ S cs k e load v h. puts-as (chosen _ _ (ap (λ (s : Statement). loads (s .number)) (sym e) ∙ c .before .before .before .before .before .if1 .taken))
+          (c .before .before .put-load .ensures .0 (placeOf (now (a .slots))) (a .t) (slot address (a .t) (a .i)) load (c .before .before .before .before .place .ensures) h),
       c .before .before .put-load .ensures .1,
     )
 
-put-none-requires : tie.Need-put-none-requires
-put-none-requires c κs = search needs
+put-at-requires : tie.Need-put-at-requires
+put-at-requires c κs = search needs
 
 returns-2 : tie.Need-returns-2
 returns-2 c =
     let a = c .before .before .before .before .args in (
-      λ S cs k e h. puts-as (passed _ _ (ap (λ (s : Statement). loads (s .number)) (sym e) ∙ c .before .if1 .left))
-          (c .put-none .ensures .0 (a .n) nought (now (a .out)) refl refl),
-      c .put-none .ensures .1,
+      λ S cs k e load v h. puts-as (passed _ _ (ap (λ (s : Statement). loads (s .number)) (sym e) ∙ c .before .if1 .left))
+          (c .put-at .ensures .0 (placeOf (now (a .slots))) (a .n) (slot nought 0 0) (now (a .out)) v),
+      c .put-at .ensures .1,
     )
 
 pub put-loaded-spec : {M : Type 1} → statement M
@@ -46,5 +47,5 @@ put-loaded-spec =
     put-load-requires
     same-length
     returns
-    put-none-requires
+    put-at-requires
     returns-2)

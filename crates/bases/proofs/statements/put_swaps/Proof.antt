@@ -45,22 +45,22 @@ same-length c = search needs
 returns : tie.Need-returns
 returns c =
     let a = c .before .before .before .before .before .before .before .before .before .before .before .before .before .before .before .args in (
-      λ S cs k e h. puts-as (chosen _ _ (ap (λ (s : Statement). eqb (s .number) 16) (sym e) ∙ eq-eqb _ _ (c .before .before .before .before .before .before .before .before .before .before .before .if1 .taken)))
+      λ S cs k e v h. puts-as (chosen _ _ (ap (λ (s : Statement). eqb (s .number) 16) (sym e) ∙ eq-eqb _ _ (c .before .before .before .before .before .before .before .before .before .before .before .if1 .taken)))
           (c .before .before .put-three .ensures .0 (placeOf (a .slots .now)) _ h
           (gives-swaps (placeOf (a .slots .now)) (a .n) _ (slot active (a .t) (a .i)) (slot heap 0 0) (slot address (a .t) (a .i)) (slot mem (a .t) 0) (refl, (refl, (refl, (refl, refl))))
           (c .before .before .before .before .before .before .formula .ensures) (c .before .before .before .before .before .formula2 .ensures) (c .before .before .before .before .formula3 .ensures) (c .before .before .before .before .before .before .before .place4 .ensures) (c .before .before .before .before .before .before .before .before .before .before .place .ensures) (c .before .before .before .before .before .before .before .before .before .place2 .ensures) (c .before .before .before .before .before .before .before .before .place3 .ensures))),
       c .before .before .put-three .ensures .1,
     )
 
-put-none-requires : tie.Need-put-none-requires
-put-none-requires c κs = search needs
+put-at-requires : tie.Need-put-at-requires
+put-at-requires c κs = search needs
 
 returns-2 : tie.Need-returns-2
 returns-2 c =
     let a = c .before .before .before .before .before .args in (
-      λ S cs k e h. puts-as (passed _ _ (ap (λ (s : Statement). eqb (s .number) 16) (sym e) ∙ ne-eqb _ _ (c .before .if1 .left)))
-          (c .put-none .ensures .0 (a .n) no (now (a .out)) refl refl),
-      c .put-none .ensures .1,
+      λ S cs k e v h. puts-as (passed _ _ (ap (λ (s : Statement). eqb (s .number) 16) (sym e) ∙ ne-eqb _ _ (c .before .if1 .left)))
+          (c .put-at .ensures .0 (placeOf (now (a .slots))) (a .n) (slot no 0 0) (now (a .out)) v),
+      c .put-at .ensures .1,
     )
 
 pub put-swaps-spec : {M : Type 1} → statement M
@@ -78,5 +78,5 @@ put-swaps-spec =
     put-three-requires
     same-length
     returns
-    put-none-requires
+    put-at-requires
     returns-2)

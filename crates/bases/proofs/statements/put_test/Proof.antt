@@ -29,7 +29,7 @@ same-length c = search needs
 returns : tie.Need-returns
 returns c =
     let a = c .before .before .before .before .before .before .before .before .before .args in (
-      λ S cs k e h. puts-test S cs k (a .t) (a .i) _ (sym e) (puts-as (chosen _ _ (c .before .before .before .before .before .before .if1 .taken))
+      λ S cs k e v h. puts-test S cs k (a .t) (a .i) _ (sym e) (puts-as (chosen _ _ (c .before .before .before .before .before .before .if1 .taken))
           (c .before .before .put-one .ensures .0 (placeOf (a .slots .now)) _
           (gives-binary (placeOf (a .slots .now)) (a .n) _ equal2 (slot accu (a .t) 0) (slot nought 0 0) (refl, (refl, refl)) refl refl (c .before .before .before .before .before .place .ensures) (c .before .before .before .before .place2 .ensures)))),
       c .before .before .put-one .ensures .1,
@@ -47,7 +47,7 @@ same-length-2 c = search needs
 returns-2 : tie.Need-returns-2
 returns-2 c =
     let a = c .before .before .before .before .before .before .before .before .before .args in (
-      λ S cs k e h. puts-test S cs k (a .t) (a .i) _ (sym e) (puts-as (passed _ _ (c .before .before .before .before .before .before .if1 .left) ∙ chosen _ _ (c .before .before .before .before .before .if2 .taken))
+      λ S cs k e v h. puts-test S cs k (a .t) (a .i) _ (sym e) (puts-as (passed _ _ (c .before .before .before .before .before .before .if1 .left) ∙ chosen _ _ (c .before .before .before .before .before .if2 .taken))
           (c .before .before .put-one2 .ensures .0 (placeOf (a .slots .now)) _
           (gives-unary (placeOf (a .slots .now)) (a .n) _ top1 (slot accu (a .t) 0) (refl, (refl, refl)) (c .before .before .before .before .place3 .ensures)))),
       c .before .before .put-one2 .ensures .1,
@@ -77,7 +77,7 @@ same-length-3 c = search needs
 returns-3 : tie.Need-returns-3
 returns-3 c =
     let a = c .before .before .before .before .before .before .before .before .before .before .before .before .before .before .args in (
-      λ S cs k e h. puts-test S cs k (a .t) (a .i) _ (sym e) (puts-as
+      λ S cs k e v h. puts-test S cs k (a .t) (a .i) _ (sym e) (puts-as
           (passed _ _ (c .before .before .before .before .before .before .before .before .before .before .before .if1 .left) ∙ passed _ _ (c .before .before .before .before .before .before .before .before .before .before .if2 .left) ∙ chosen _ _ (eq-eqb _ _ (c .before .before .before .before .before .before .before .before .before .if3 .taken)))
           (c .before .before .put-three .ensures .0 (placeOf (a .slots .now)) _ h
           (gives-either (placeOf (a .slots .now)) (a .n) _ (slot accu (a .t) 0) (slot nought 0 0) (refl, (refl, (refl, (refl, refl))))
@@ -85,16 +85,16 @@ returns-3 c =
       c .before .before .put-three .ensures .1,
     )
 
-put-none-requires : tie.Need-put-none-requires
-put-none-requires c κs = search needs
+put-at-requires : tie.Need-put-at-requires
+put-at-requires c κs = search needs
 
 returns-4 : tie.Need-returns-4
 returns-4 c =
     let a = c .before .before .before .before .before .before .args in (
-      λ S cs k e h. puts-test S cs k (a .t) (a .i) _ (sym e) (puts-as
+      λ S cs k e v h. puts-test S cs k (a .t) (a .i) _ (sym e) (puts-as
           (passed _ _ (c .before .before .before .if1 .left) ∙ passed _ _ (c .before .before .if2 .left) ∙ passed _ _ (ne-eqb _ _ (c .before .if3 .left)))
-          (c .put-none .ensures .0 (a .n) no (now (a .out)) refl refl)),
-      c .put-none .ensures .1,
+          (c .put-at .ensures .0 (placeOf (now (a .slots))) (a .n) (slot no 0 0) (now (a .out)) v)),
+      c .put-at .ensures .1,
     )
 
 pub put-test-spec : {M : Type 1} → statement M
@@ -119,5 +119,5 @@ put-test-spec =
     put-three-requires
     same-length-3
     returns-3
-    put-none-requires
+    put-at-requires
     returns-4)

@@ -29,23 +29,23 @@ same-length c = search needs
 returns : tie.Need-returns
 returns c =
     let a = c .before .before .before .before .before .before .before .before .before .args in (
-      λ S cs k e h. puts-as (chosen _ _ (ap (λ (s : Statement). isConditional (s .number)) (sym e)
+      λ S cs k e v h. puts-as (chosen _ _ (ap (λ (s : Statement). isConditional (s .number)) (sym e)
           ∙ ap (λ (b : Bool). b && not (eqb (a .statement .number) 9)) (sym (c .before .before .before .before .before .before .is-jump .ensures)) ∙ c .before .before .before .before .before .if1 .taken))
           (c .before .before .put-one .ensures .0 (placeOf (a .slots .now)) _
           (gives-unary (placeOf (a .slots .now)) (a .n) _ not1 (slot test (a .t) (a .i)) (refl, (refl, refl)) (c .before .before .before .before .place .ensures))),
       c .before .before .put-one .ensures .1,
     )
 
-put-none-requires : tie.Need-put-none-requires
-put-none-requires c κs = search needs
+put-at-requires : tie.Need-put-at-requires
+put-at-requires c κs = search needs
 
 returns-2 : tie.Need-returns-2
 returns-2 c =
     let a = c .before .before .before .before .before .args in (
-      λ S cs k e h. puts-as (passed _ _ (ap (λ (s : Statement). isConditional (s .number)) (sym e)
+      λ S cs k e v h. puts-as (passed _ _ (ap (λ (s : Statement). isConditional (s .number)) (sym e)
           ∙ ap (λ (b : Bool). b && not (eqb (a .statement .number) 9)) (sym (c .before .before .is-jump .ensures)) ∙ c .before .if1 .left))
-          (c .put-none .ensures .0 (a .n) no (now (a .out)) refl refl),
-      c .put-none .ensures .1,
+          (c .put-at .ensures .0 (placeOf (now (a .slots))) (a .n) (slot no 0 0) (now (a .out)) v),
+      c .put-at .ensures .1,
     )
 
 pub put-untest-spec : {M : Type 1} → statement M
@@ -57,5 +57,5 @@ put-untest-spec =
     put-one-requires
     same-length
     returns
-    put-none-requires
+    put-at-requires
     returns-2)

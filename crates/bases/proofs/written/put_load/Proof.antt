@@ -1,10 +1,10 @@
 -- `bases::written::put_load` meets its contract. Assumes nothing.
 use denote.Ref.{now}
 use Prim.Native.Nat.{_+_, _≤_}
-use mathlib.Core.Path.{_∙_}
+use mathlib.Core.Path.{ap, _∙_}
 use native.Mathlib.Omega.{arith}
-use Rattle.places.specs.Places.{placeOf}
 use Rattle.encoding.specs.Slots.{slot, full, adr, val, heap}
+use Rattle.bases.specs.declared.written.Load.{Load}
 use Rattle.bases.proofs.Records.{recordAt}
 use Rattle.bases.proofs.Given.{gives-load, puts-four}
 use borrow.Author.Needs.{needs}
@@ -14,32 +14,20 @@ use Rattle.bases.proofs.written.put_load.Tie as tie
 add-root : tie.Need-add-root
 add-root c = search needs
 
-place-requires : tie.Need-place-requires
-place-requires c κs = search needs
-
 formula-requires : tie.Need-formula-requires
 formula-requires c κs = search needs
 
-place-requires-2 : tie.Need-place-requires-2
-place-requires-2 c κs = search needs
-
 formula-requires-2 : tie.Need-formula-requires-2
 formula-requires-2 c κs = search needs
-
-place-requires-3 : tie.Need-place-requires-3
-place-requires-3 c κs = search needs
 
 formula-requires-3 : tie.Need-formula-requires-3
 formula-requires-3 c κs = search needs
 
 add-formula : tie.Need-add-formula
-add-formula c = let p = c .before .before .before .before .before .before .before .before .fits .n in omega arith
-
-place-requires-4 : tie.Need-place-requires-4
-place-requires-4 c κs = search needs
+add-formula c = search needs
 
 add-formula-2 : tie.Need-add-formula-2
-add-formula-2 c = let p = c .before .before .before .before .before .before .before .before .before .fits .n in omega arith
+add-formula-2 c = search needs
 
 formula-requires-4 : tie.Need-formula-requires-4
 formula-requires-4 c κs = search needs
@@ -70,18 +58,21 @@ same-length c = search needs
 
 returns : tie.Need-returns
 returns c =
-    let a = c .before .before .before .before .before .before .before .before .before .before .before .before .before .before .before .before .before .before .before .before .before .before .before .before .before .before .before .before .before .args in
+    let a = c .before .before .before .before .before .before .before .before .before .before .before .before .before .before .before .before .before .before .before .before .before .before .before .before .args in
     let one : 1 ≤ 4 = omega arith in
     let two : 2 ≤ 4 = omega arith in
     let three : 3 ≤ 4 = omega arith in
-    let at = placeOf (now (a .slots)) in
-    let f = c .before .before .before .before .before .before .before .before .before .before .before .before .before .before .before .before .before .before .before .before .before .before .before .before .before .formula .result in
-    let g = c .before .before .before .before .before .before .before .before .before .before .before .before .before .before .before .before .before .before .before .before .before .before .before .formula2 .result in
-    let k = c .before .before .before .before .before .before .before .before .before .before .before .before .before .before .before .before .before .before .before .before .before .formula3 .result in
+    let f = c .before .before .before .before .before .before .before .before .before .before .before .before .before .before .before .before .before .before .before .before .before .before .formula .result in
+    let g = c .before .before .before .before .before .before .before .before .before .before .before .before .before .before .before .before .before .before .before .before .before .formula2 .result in
+    let k = c .before .before .before .before .before .before .before .before .before .before .before .before .before .before .before .before .before .before .before .before .formula3 .result in
     let l = c .before .before .before .before .before .before .before .before .before .before .before .before .before .before .before .before .before .before .before .formula4 .result in (
-      λ s e h. puts-four at (a .n) _ (now (a .out)) _ f g k l
-          (gives-load at (a .n) (slot full (a .t) 0) (slot adr (a .t) 0) s (slot val (a .t) 0) (slot heap 0 0)
-          (c .before .before .before .before .before .before .before .before .before .before .before .before .before .before .before .before .before .before .before .before .before .before .before .before .before .formula .ensures) (c .before .before .before .before .before .before .before .before .before .before .before .before .before .before .before .before .before .before .before .before .before .before .before .formula2 .ensures) (c .before .before .before .before .before .before .before .before .before .before .before .before .before .before .before .before .before .before .before .before .before .formula3 .ensures) (c .before .before .before .before .before .before .before .before .before .before .before .before .before .before .before .before .before .before .before .formula4 .ensures) (c .before .before .before .before .before .before .before .before .before .before .before .before .before .before .before .before .before .before .before .before .before .before .before .before .place2 .ensures) (c .before .before .before .before .before .before .before .before .before .before .before .before .before .before .before .before .before .before .before .before .before .before .before .before .before .before .place .ensures) e (c .before .before .before .before .before .before .before .before .before .before .before .before .before .before .before .before .before .before .before .before .place4 .ensures) (c .before .before .before .before .before .before .before .before .before .before .before .before .before .before .before .before .before .before .before .before .before .before .place3 .ensures))
+      λ at t s e p h. puts-four at (a .n) _ (now (a .out)) _ f g k l
+          (gives-load at (a .n) (slot full t 0) (slot adr t 0) s (slot val t 0) (slot heap 0 0)
+          (c .before .before .before .before .before .before .before .before .before .before .before .before .before .before .before .before .before .before .before .before .before .before .formula .ensures)
+          (c .before .before .before .before .before .before .before .before .before .before .before .before .before .before .before .before .before .before .before .before .before .formula2 .ensures)
+          (c .before .before .before .before .before .before .before .before .before .before .before .before .before .before .before .before .before .before .before .before .formula3 .ensures)
+          (c .before .before .before .before .before .before .before .before .before .before .before .before .before .before .before .before .before .before .before .formula4 .ensures)
+          (ap (λ (x : Load). x .full) e) (ap (λ (x : Load). x .adr) e) p (ap (λ (x : Load). x .val) e) (ap (λ (x : Load). x .heap) e))
           (c .before .before .put4 .ensures
           ∙ ((λ z. recordAt (c .before .before .before .after3 .ensures h three z) l (c .before .before .before .before .before .before .before .put3 .ensures z))
           ∙ ((λ z. recordAt (a .n + 3) l (recordAt (c .before .before .before .before .before .before .before .before .after2 .ensures h two z) k (c .before .before .before .before .before .before .before .before .before .before .before .before .put2 .ensures z)))
@@ -94,14 +85,10 @@ put-load-spec =
     tie.close
     (tie.spec
     add-root
-    place-requires
     formula-requires
-    place-requires-2
     formula-requires-2
-    place-requires-3
     formula-requires-3
     add-formula
-    place-requires-4
     add-formula-2
     formula-requires-4
     put-requires

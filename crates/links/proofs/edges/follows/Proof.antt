@@ -1,5 +1,6 @@
+-- `links::edges::follows` meets its contract. Assumes nothing.
 use Rattle.links.proofs.Leads.{leads-rests, follows-jump, follows-test, follows-on, contrary, tested, leads-by}
-use Rattle.links.specs.Nexts.{namesTarget}
+use Rattle.links.specs.Members.{namesTarget}
 use Rattle.places.specs.Places.{placeOf}
 use Rattle.encoding.specs.Steps.{isConditional, isPlain, rests}
 use Rattle.encoding.specs.Slots.{slot, active, yes, test, untest}

@@ -46,20 +46,17 @@ loop-holds c =
     let f = record-of (now (a .out)) (a .at) (a .first) (a .stride) in
     (omega arith, room .0, room .1, room .2, room .3, refl, numbered-none f (now (a .out)) (a .at))
 
-sub-moved-record : tie.Need-sub-moved-record Inv-loop μ-loop
-sub-moved-record c = search needs
+sub-repeat-record : tie.Need-sub-repeat-record Inv-loop μ-loop
+sub-repeat-record c = search needs
 
-add-moved-record : tie.Need-add-moved-record Inv-loop μ-loop
-add-moved-record c = search needs
+add-repeat-record : tie.Need-add-repeat-record Inv-loop μ-loop
+add-repeat-record c = search needs
 
-moved-record-requires : tie.Need-moved-record-requires Inv-loop μ-loop
-moved-record-requires c κs = search needs
+add-repeat-record-2 : tie.Need-add-repeat-record-2 Inv-loop μ-loop
+add-repeat-record-2 c = search needs
 
-add-put : tie.Need-add-put Inv-loop μ-loop
-add-put c = search needs
-
-put-requires : tie.Need-put-requires Inv-loop μ-loop
-put-requires c κs = search needs
+repeat-record-requires : tie.Need-repeat-record-requires Inv-loop μ-loop
+repeat-record-requires c κs = search needs
 
 add-j : tie.Need-add-j Inv-loop μ-loop
 add-j c = search needs
@@ -69,19 +66,19 @@ loop-less c = search needs
 
 loop-again : tie.Need-loop-again Inv-loop μ-loop
 loop-again c =
-    let a = c .before .before .before .before .before .before .before .before .before .before .before .args in
-    let l = c .before .before .before .before .before .before .before .loop in
+    let a = c .before .before .before .before .before .before .before .before .before .args in
+    let l = c .before .before .before .before .before .loop in
     let i = a .at - a .stride + l .j in
     let f = record-of (now (a .out)) (a .at) (a .first) (a .stride) in
     let old : formulaAt (l .out) i ≡ formulaAt (now (a .out)) i = ap (λ (o : List ℕ). formulaAt o i) (l .inv .6) ∙ record-before (now (a .out)) (a .at) (upto (λ k. f k ∷ []) (l .j)) i (omega arith) in
-    let formula = c .before .before .before .before .moved-record .ensures ∙ ap (repeated (a .first) (a .stride)) old in (
+    let formula : repeated (a .first) (a .stride) (formulaAt (l .out) i) ≡ f (l .j) = ap (repeated (a .first) (a .stride)) old in (
       omega arith,
       l .inv .1,
       l .inv .2,
       l .inv .3,
       l .inv .4,
-      c .before .before .put .kept .0 ∙ l .inv .5,
-      c .before .before .put .ensures
+      c .before .before .repeat-record .kept .0 ∙ l .inv .5,
+      c .before .before .repeat-record .ensures
           ∙ (ap (λ (x : Formula). placed (l .out) (16 * (a .at + l .j)) (formulaBytes x)) formula
           ∙ numbered-more f (now (a .out)) (l .out) (a .at) (l .j) (l .inv .6)),
     )
@@ -108,11 +105,10 @@ repeat-spec =
     can-repeat-requires
     returns
     loop-holds
-    sub-moved-record
-    add-moved-record
-    moved-record-requires
-    add-put
-    put-requires
+    sub-repeat-record
+    add-repeat-record
+    add-repeat-record-2
+    repeat-record-requires
     add-j
     loop-less
     loop-again

@@ -1,0 +1,2 @@
+-- What the marks of jumps' targets say.
+pub mod Named
