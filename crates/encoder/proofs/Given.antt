@@ -10,7 +10,7 @@ use Rattle.base.proofs.Choice.{passed, or-false, or-left, or-right}
 use Rattle.records.specs.Sets.{Set}
 use Rattle.encoding.specs.Slots.{kinds}
 use Rattle.links.specs.Given.{givenBy, given}
-use Rattle.encoder.specs.Entries.{GivenEntry, byThread, ByThread, afterThread, AfterThread}
+use Rattle.encoder.specs.Entries.{byThread, ByThread, afterThread, AfterThread}
 
 -- one of two tests holds
 either : {A : Type 0} (a : Bool) {b : Bool} → (a || b) ≡ true → (a ≡ true → A) → (b ≡ true → A) → A

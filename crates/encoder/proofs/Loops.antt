@@ -10,7 +10,7 @@ use Rattle.base.specs.Below.{every}
 use Rattle.base.proofs.Below.{every-at}
 use Rattle.base.proofs.Choice.{and-left, and-right}
 use Rattle.records.specs.Sets.{Set}
-use Rattle.table.specs.Programs.{Command, upto}
+use Rattle.table.specs.Programs.{upto}
 use Rattle.encoding.specs.Slots.{Slot, kinds, kindAt}
 use Rattle.encoding.specs.Steps.{Shape, perChoice, perThread, perStatement, perCheckpoint, perMark, beforeThread, beforeChoice, single, shape, chain, link, links, base, rows, columns, kept, entry, line, block}
 use Rattle.places.specs.Pieces.{Writes, WritesTree}

@@ -4,7 +4,7 @@ ghost use mathlib.Core.Bool.{true, false, cond};
 ghost use mathlib.Core.List.{List, [], _∷_, _++_};
 ghost use Prim.Native.Nat.{ℕ, _+_, _-_, _*_, _≤_, _<_};
 ghost use lib.Dec.{ltb};
-ghost use lib.ListN.{length, getD, replicate};
+ghost use lib.ListN.{length, replicate};
 ghost use Rattle.records.specs.Maps.{cells, mapAccepted};
 ghost use Rattle.records.specs.Sets.{Set, setBy, setAccepted, layoutOf};
 ghost use Rattle.table.specs.Formulas.{writtenAt};

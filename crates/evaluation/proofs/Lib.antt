@@ -2,6 +2,7 @@
 mod Backwards
 pub mod Choices
 pub mod Evaluated
+mod Halves
 mod Parsed
 pub mod Tables
 mod Turns

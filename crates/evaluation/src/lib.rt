@@ -1,10 +1,10 @@
 // The values of a table's records under the assignment of a model, in work memory behind the table's bytes: each record's as a word.
 ghost use mathlib.Core.Path.{_≡_};
-ghost use mathlib.Core.Bool.{cond};
+ghost use mathlib.Core.Bool.{true, cond};
 ghost use Prim.Native.Nat.{_+_, _*_, _≤_, _<_};
 ghost use lib.ListN.{length};
 ghost use Rattle.base.specs.Bytes.{wordAt};
-ghost use Rattle.records.specs.Maps.{mapValue};
+ghost use Rattle.records.specs.Maps.{mapValue, mapAccepted};
 ghost use Rattle.table.specs.Formulas.{longAt};
 ghost use Rattle.decoding.specs.Models.{assigned};
 ghost use Rattle.evaluation.specs.Evaluations.{formulaIn, valueIn, stored, memoryBehind, cellBack, wordIn, isFalse, givenBy, falseIn};
@@ -92,10 +92,36 @@ fn choice(model: &[u8], threads: u8, bound: u8, k: u64, kind: u64, t: u64) -> bo
     false
 }
 
-// The first cell at address x: the model's, 0 where it is unlisted.
-fn first(cells: &[u8], x: u16) -> u16
+// The first cell at address x where addresses ascend, by halves: a check of a model reads cells very often.
+fn search(cells: &[u8], x: u16) -> u16
+    requires { ⌜ mapAccepted 256 (now cells) ≡ true ⌝ }
     ensures { λ r. ⌜ r ≡ mapValue (now (cells .entry)) x ⌝ }
 {
+    let mut low: usize = 0;
+    let mut high = cells.len() / 4;
+    while low < high {
+        let middle = low + (high - low) / 2;
+        let address = word(cells, 4 * middle);
+        if address == x {
+            return word(cells, 4 * middle + 2);
+        }
+        if address < x {
+            low = middle + 1;
+        } else {
+            high = middle;
+        }
+    }
+    0
+}
+
+// The first cell at address x: the model's, 0 where it is unlisted.
+fn first(cells: &[u8], ordered: bool, x: u16) -> u16
+    requires { ⌜ (ordered ≡ true → mapAccepted 256 (now cells) ≡ true) ⌝ }
+    ensures { λ r. ⌜ r ≡ mapValue (now (cells .entry)) x ⌝ }
+{
+    if ordered {
+        return search(cells, x);
+    }
     let n = cells.len() / 4;
     let mut k: usize = 0;
     while k < n {
@@ -122,8 +148,8 @@ fn behind(work: &[u8], n: u32, f: Formula) -> u64
 }
 
 // The cell at address x of memory m, from the last write back.
-fn read_back(work: &[u8], n: u32, cells: &[u8], m: u64, x: u16) -> u16
-    requires { ⌜ 32 * n ≤ length (now work) ⌝ }
+fn read_back(work: &[u8], n: u32, cells: &[u8], ordered: bool, m: u64, x: u16) -> u16
+    requires { ⌜ (32 * n ≤ length (now work)) × (ordered ≡ true → mapAccepted 256 (now cells) ≡ true) ⌝ }
     ensures { λ r. ⌜ r ≡ cellBack (mapValue (now (cells .entry))) (formulaIn (now (work .entry)) n) (valueIn (now (work .entry)) n) n m x ⌝ }
 {
     let mut left = n;
@@ -135,7 +161,7 @@ fn read_back(work: &[u8], n: u32, cells: &[u8], m: u64, x: u16) -> u16
             return value(work, n, f.c);
         }
         if !((operation == 13) | (operation == 8)) {
-            return first(cells, x);
+            return first(cells, ordered, x);
         }
         memory = behind(work, n, f);
         left -= 1;
@@ -157,10 +183,11 @@ fn word_of(
     f: Formula,
     model: &[u8],
     cells: &[u8],
+    ordered: bool,
     threads: u8,
     bound: u8,
 ) -> u16
-    requires { ⌜ 32 * n ≤ length (now work) ⌝ }
+    requires { ⌜ (32 * n ≤ length (now work)) × (ordered ≡ true → mapAccepted 256 (now cells) ≡ true) ⌝ }
     ensures { λ r. ⌜ r ≡ wordIn (givenBy threads bound (now (model .entry)) (now (cells .entry))) n (now (work .entry)) f ⌝ }
 {
     let operation = f.operation;
@@ -181,7 +208,7 @@ fn word_of(
         9 => base::sum(value(work, n, f.a), value(work, n, f.b)),
         10 => base::difference(value(work, n, f.a), value(work, n, f.b)),
         11 => base::product(value(work, n, f.a), value(work, n, f.b)),
-        12 => read_back(work, n, cells, f.a, value(work, n, f.b)),
+        12 => read_back(work, n, cells, ordered, f.a, value(work, n, f.b)),
         14 => bit(32768 <= value(work, n, f.a)),
         _ => 0,
     }
@@ -207,13 +234,15 @@ pub fn evaluate(work: &mut [u8], n: u32, model: &[u8], cells: &[u8], threads: u8
     if work.len() < 32 * (n as usize) {
         return n;
     }
+    // asked once for all reads: the cells of an accepted model are in order
+    let ordered = records::map::map_accepted(cells, 256);
     let mut i: u32 = 0;
     while i < n {
         let f = formula(work, n, i as u64);
         if is_false(work, n, f) {
             return i;
         }
-        let value = word_of(work, n, f, model, cells, threads, bound);
+        let value = word_of(work, n, f, model, cells, ordered, threads, bound);
         store(work, n, i, value);
         i += 1;
     }

@@ -6,11 +6,12 @@ ghost use mathlib.Core.List.{List, []};
 ghost use Prim.Native.Nat.{ℕ, _+_, _≤_, _<_};
 ghost use lib.Dec.{eqb};
 ghost use lib.ListN.{length, getD};
-ghost use Rattle.records.specs.Sets.{Set, setBy, statementAt};
+ghost use Rattle.records.specs.Sets.{Set, setBy};
 ghost use Rattle.encoding.specs.Slots.{Slot, Term, flag as flagKind};
 ghost use Rattle.encoding.specs.Steps.{chain as chainOf, leads as leadsOf, entry as entryOf, line as lineOf};
 ghost use Rattle.places.specs.Places.{placeOf, size};
 ghost use Rattle.places.specs.Pieces.{Writes, WritesTree};
+ghost use Rattle.links.specs.Held.{Held};
 ghost use Rattle.links.specs.Members.{Members};
 ghost use Rattle.flags.specs.Named.{Unnamed};
 use links::Root;
@@ -37,7 +38,7 @@ fn mark(named: &mut [u8], j: u16)
 fn name_targets(set: &[u8], first: u32, members: &[u8], named: &mut [u8], t: u8, count: u16)
     requires { ⌜ (first < 65536) × (t < 4) ⌝ }
     ensures { λ _. ⌜ (length (now (named .exit)) ≡ length (now (named .entry)))
-        × ((S : Set) → count ≡ S .count t → Members S (now (members .entry)) → ((x : ℕ) → x < count → S .statement t x ≡ statementAt (now (set .entry)) (first + x))
+        × ((S : Set) → count ≡ S .count t → Members S (now (members .entry)) → Held S (now (set .entry)) t first count
         → (j : ℕ) → j < length (now (named .entry)) → Unnamed S t count j (now (named .exit))) ⌝ }
 {
     let many = count_of(members, IS_JUMP, t);
@@ -64,7 +65,7 @@ fn jump_links(
     base: u64,
 ) -> Root
     requires { ⌜ (first < 65536) × (count ≤ 32) × (n ≤ 1900000000) × (t < 4) ⌝ }
-    ensures { λ r. ⌜ ((S : Set) (tree : Term) (start : List ℕ) (m : ℕ) → count ≡ S .count t → Members S (now (members .entry)) → ((x : ℕ) → x < count → S .statement t x ≡ statementAt (now (set .entry)) (first + x))
+    ensures { λ r. ⌜ ((S : Set) (tree : Term) (start : List ℕ) (m : ℕ) → count ≡ S .count t → Members S (now (members .entry)) → Held S (now (set .entry)) t first count
         → WritesTree (placeOf (now (slots .entry))) tree start m (now (out .entry)) n base
         → WritesTree (placeOf (now (slots .entry))) (chainOf (leadsOf S [] 0 t j) count tree) start m (now (out .exit)) (r .next) (r .at))
         × (r .next ≤ n + 32) ⌝ }
@@ -95,7 +96,7 @@ fn flag_links(
     base: u64,
 ) -> Root
     requires { ⌜ (first < 65536) × (count ≤ 32) × (j < count) × (n ≤ 1900000000) × (t < 4) ⌝ }
-    ensures { λ r. ⌜ ((S : Set) (tree : Term) (start : List ℕ) (m : ℕ) → count ≡ S .count t → Members S (now (members .entry)) → Unnamed S t count j (now (named .entry)) → ((x : ℕ) → x < count → S .statement t x ≡ statementAt (now (set .entry)) (first + x))
+    ensures { λ r. ⌜ ((S : Set) (tree : Term) (start : List ℕ) (m : ℕ) → count ≡ S .count t → Members S (now (members .entry)) → Unnamed S t count j (now (named .entry)) → Held S (now (set .entry)) t first count
         → WritesTree (placeOf (now (slots .entry))) tree start m (now (out .entry)) n base
         → WritesTree (placeOf (now (slots .entry))) (chainOf (leadsOf S [] 0 t j) count tree) start m (now (out .exit)) (r .next) (r .at))
         × (r .next ≤ n + 32) ⌝ }
@@ -126,7 +127,7 @@ fn flag(
     n: u32,
 ) -> u32
     requires { ⌜ (first < 65536) × (count ≤ 32) × (j < count) × (t < 4) × (n ≤ 1800000000) ⌝ }
-    ensures { λ r. ⌜ ((S : Set) (cs : List ℕ) (k : ℕ) → count ≡ S .count t → Members S (now (members .entry)) → Unnamed S t count j (now (named .entry)) → ((x : ℕ) → x < count → S .statement t x ≡ statementAt (now (set .entry)) (first + x))
+    ensures { λ r. ⌜ ((S : Set) (cs : List ℕ) (k : ℕ) → count ≡ S .count t → Members S (now (members .entry)) → Unnamed S t count j (now (named .entry)) → Held S (now (set .entry)) t first count
         → length (now (slots .entry)) ≡ size → ((s : Slot) → placeOf (now (slots .entry)) s < n)
         → Writes (entryOf S cs k flagKind t j) (now (out .entry)) (now (slots .entry)) n (now (out .exit)) (now (slots .exit)) r)
         × (r ≤ n + 36) ⌝ }
@@ -163,7 +164,7 @@ fn each_flag(
     n: u32,
 ) -> u32
     requires { ⌜ (first < 65536) × (count ≤ 32) × (t < 4) × (n ≤ 1700000000) ⌝ }
-    ensures { λ r. ⌜ ((S : Set) (cs : List ℕ) (k : ℕ) → count ≡ S .count t → Members S (now (members .entry)) → ((x : ℕ) → x < count → S .statement t x ≡ statementAt (now (set .entry)) (first + x))
+    ensures { λ r. ⌜ ((S : Set) (cs : List ℕ) (k : ℕ) → count ≡ S .count t → Members S (now (members .entry)) → Held S (now (set .entry)) t first count
         → length (now (slots .entry)) ≡ size → ((s : Slot) → placeOf (now (slots .entry)) s < n)
         → Writes (lineOf S cs k flagKind t) (now (out .entry)) (now (slots .entry)) n (now (out .exit)) (now (slots .exit)) r)
         × (r ≤ n + 1152) ⌝ }
@@ -177,13 +178,6 @@ fn each_flag(
         j += 1;
     }
     next
-}
-
-// An element of an array of words, as a number that is known to be a word.
-fn wide(x: u16) -> u32
-    ensures { λ r. ⌜ (r ≡ x) × (r < 65536) ⌝ }
-{
-    x as u32
 }
 
 // Writes the flags of thread t. The limits are tested here once, so that the compiler leaves out tests of bounds below.
@@ -217,6 +211,6 @@ pub fn flags(
     if 1700000000 < n {
         return n;
     }
-    let first = wide(layout.starts[thread]);
+    let first = links::first(layout, t);
     each_flag(set, first, members, slots, out, t, count, n)
 }

@@ -1,4 +1,4 @@
--- Where the records of a thread's statements stand. Assumes nothing.
+-- A thread's statements stand where its layout says, and a member of a class is read there. Assumes nothing.
 use Prim.Native.Nat.{ℕ, _+_, _≤_, _<_}
 use mathlib.Core.Path.{_≡_, sym, ap, _∙_}
 use mathlib.Core.List.{List}
@@ -8,12 +8,9 @@ use borrow.Author.Tests.{lt-ltb}
 use Rattle.base.proofs.Choice.{chosen}
 use Rattle.records.specs.Sets.{Set, setBy, statementAt}
 use Rattle.records.specs.declared.Layout.{Layout}
+use Rattle.links.specs.Held.{Held}
 use Rattle.links.specs.Members.{membersOf}
 use Rattle.links.proofs.Listed.{members-below}
-
--- the first `count` statements of thread t stand from record `first` on
-abbrev pub Held : Set → (set : List ℕ) (t first count : ℕ) → Type 0
-Held S set t first count = (x : ℕ) → x < count → S .statement t x ≡ statementAt set (first + x)
 
 -- as a layout says
 pub held : (set : List ℕ) (layout : Layout) (t first count : ℕ) → first ≡ getD (layout .starts) t 0 → count ≤ getD (layout .counts) t 0 →

@@ -4,10 +4,11 @@ ghost use mathlib.Core.Bool.{cond, false};
 ghost use mathlib.Core.List.{[]};
 ghost use Prim.Native.Nat.{ℕ, _+_, _≤_, _<_};
 ghost use Rattle.table.specs.Formulas.{bitSort};
-ghost use Rattle.records.specs.Sets.{Set, statementAt};
+ghost use Rattle.records.specs.Sets.{Set};
 ghost use Rattle.encoding.specs.Slots.{slot, active, test, untest};
 ghost use Rattle.encoding.specs.Steps.{skip, ifThen, leads as leadsOf};
 ghost use Rattle.places.specs.Places.{placeOf};
+ghost use Rattle.links.specs.Held.{Held};
 ghost use Rattle.links.specs.Members.{Members, namesTarget};
 ghost use Rattle.links.specs.Placed.{placedLink};
 use crate::Link;
@@ -107,7 +108,7 @@ fn later(a: u16, b: u16) -> u16
 // The first jump of thread t, from statement i on, that names j; at most `count`. The thread's statements stand from record `first` on.
 pub fn jump_to(set: &[u8], first: u32, members: &[u8], t: u8, j: u16, i: u16, count: u16) -> u16
     ensures { λ r. ⌜ ((S : Set) → t < 4 → count ≤ S .count t → Members S (now (members .entry))
-        → ((x : ℕ) → x < count → S .statement t x ≡ statementAt (now (set .entry)) (first + x))
+        → Held S (now (set .entry)) t first count
         → (x : ℕ) → i ≤ x → x < r → namesTarget (S .statement t x) j ≡ false)
         × (i ≤ r) × (i ≤ count → r ≤ count) ⌝ }
 {
@@ -138,7 +139,7 @@ pub fn jump_to(set: &[u8], first: u32, members: &[u8], t: u8, j: u16, i: u16, co
 // lead to j. The thread's statements stand from record `first` on.
 pub fn leading(set: &[u8], first: u32, members: &[u8], t: u8, j: u16, i: u16, count: u16) -> u16
     ensures { λ r. ⌜ ((S : Set) → t < 4 → count ≤ S .count t → Members S (now (members .entry))
-        → ((x : ℕ) → x < count → S .statement t x ≡ statementAt (now (set .entry)) (first + x))
+        → Held S (now (set .entry)) t first count
         → (x : ℕ) → i ≤ x → x < r → leadsOf S [] 0 t j x ≡ skip)
         × (i ≤ r) × (i ≤ count → r ≤ count) ⌝ }
 {

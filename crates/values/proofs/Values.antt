@@ -5,10 +5,11 @@ use mathlib.Core.Bool.{Bool, true, false, not, _&&_, _||_, true≢false}
 use mathlib.Core.List.{List, [], _∷_}
 use lib.Dec.{eqb}
 use lib.ListN.{getD}
-use borrow.Author.Tests.{eqb-true, ne-eqb, lt-ltb}
+use native.Mathlib.Omega.{arith}
+use borrow.Author.Tests.{eqb-true, ne-eqb}
 use Rattle.base.specs.Below.{every}
 use Rattle.base.proofs.Below.{every-at}
-use Rattle.base.proofs.Choice.{and-left, and-right, and-false, or-false, chosen, passed, cond-both}
+use Rattle.base.proofs.Choice.{and-left, and-right, and-false, or-false, passed, cond-both}
 use Rattle.records.specs.declared.Layout.{Layout}
 use Rattle.records.specs.Sets.{Set, setBy}
 use Rattle.table.specs.Programs.{Command, upto, nextAfter, placesAfter}
@@ -21,6 +22,7 @@ use Rattle.places.proofs.Pieces.{below-after, writes-row, writes-more}
 use Rattle.places.proofs.Entries.{treeOf, line-at}
 use Rattle.bases.specs.Fews.{ofStatement}
 use Rattle.bases.proofs.Given.{Apart}
+use Rattle.links.proofs.Held.{held}
 use Rattle.values.specs.Lines.{Stands, Line}
 
 -- ---- kinds of statements
@@ -142,7 +144,7 @@ module _ (kind : ℕ) (set : List ℕ) (first count t : ℕ) (out slots : List �
 
 -- a thread's statements by its start and count in a layout
 pub stands-by : (set : List ℕ) (layout : Layout) (t : ℕ) → Stands (setBy set layout) set (getD (layout .starts) t 0) (getD (layout .counts) t 0) t
-stands-by set layout t = record { countIs = refl; statementIs = λ i h. sym (chosen _ _ (lt-ltb i (getD (layout .counts) t 0) h)) }
+stands-by set layout t = record { countIs = refl; statementIs = held set layout t (getD (layout .starts) t 0) (getD (layout .counts) t 0) refl (omega arith) }
 
 -- the line of a kind by number, from what its loop ensures
 pub line-by : (set : List ℕ) (layout : Layout) (cs : List ℕ) (k kind m t : ℕ) (out slots : List ℕ) (n : ℕ) (after slotsAfter : List ℕ) (r : ℕ) → kind ≡ m →

@@ -1,19 +1,20 @@
 -- A thread's statements in a set's records, and the values of one kind written for them. Assumes nothing.
-use Prim.Native.Nat.{ℕ, _+_, _<_}
+use Prim.Native.Nat.{ℕ, _<_}
 use mathlib.Core.Path.{_≡_}
 use mathlib.Core.List.{List}
-use Rattle.records.specs.Sets.{Set, statementAt}
+use Rattle.records.specs.Sets.{Set}
 use Rattle.encoding.specs.Slots.{Kind, Slot}
 use Rattle.encoding.specs.Steps.{line as lineOf}
 use Rattle.places.specs.Places.{placeOf}
 use Rattle.places.specs.Pieces.{Writes}
 use Rattle.places.specs.Idle.{Idle}
+use Rattle.links.specs.Held.{Held}
 use Rattle.links.specs.Members.{Members}
 
 -- thread t has `count` statements, and they are the records from `first` on
 pub record Stands (S : Set) (set : List ℕ) (first count t : ℕ) : Type 0 where
   pub countIs : S .count t ≡ count
-  pub statementIs : (i : ℕ) → i < count → statementAt set (first + i) ≡ S .statement t i
+  pub statementIs : Held S set t first count
 
 -- the values of a kind are written for these statements, in any set that has them, from output, slots and next index to those afterwards
 abbrev pub Line : Kind → (set : List ℕ) (first count t : ℕ) (out slots : List ℕ) (n : ℕ) (outAfter slotsAfter : List ℕ) (after : ℕ) → Type 0

@@ -1,30 +1,20 @@
 -- `checkpoints::points_of` meets its contract. Assumes nothing.
 use borrow.Author.Needs.{needs}
-use borrow.Author.Tests.{lt-ltb}
-use lib.ListN.{getD, take}
+use lib.ListN.{take}
 use denote.Ref.{now}
 use native.Mathlib.Omega.{arith}
 use mathlib.Core.List.{List}
 use mathlib.Core.Path.{_≡_, ap, sym, _∙_}
-use Prim.Native.Nat.{ℕ, _+_, _-_, _≤_, _<_}
-use Rattle.base.proofs.Choice.{chosen}
+use Prim.Native.Nat.{ℕ, _-_, _≤_, _<_}
 use Rattle.places.specs.Places.{listed}
 use Rattle.encoding.specs.Checkpoints.{noted, notedIn}
-use Rattle.records.specs.declared.Layout.{Layout}
 use Rattle.records.specs.declared.Statement.{Statement}
-use Rattle.records.specs.Sets.{Set, setBy, statementAt, nothing}
+use Rattle.records.specs.Sets.{Set, setBy}
 use Rattle.checkpoints.proofs.Noted.{noted-start, noted-more}
+use Rattle.links.specs.Held.{Held}
+use Rattle.links.proofs.Held.{held as held-by}
 use Rattle.checkpoints.proofs.points_of.Statement.{statement}
 use Rattle.checkpoints.proofs.points_of.Tie as tie
-
--- the statements of thread t stand from record `first` on
-abbrev Held : Set → (set : List ℕ) (t first n : ℕ) → Type 0
-Held S set t first n = (x : ℕ) → x < n → S .statement t x ≡ statementAt set (first + x)
-
--- those of a layout's thread do, from its start on
-held-by : (set : List ℕ) (layout : Layout) (t first n : ℕ) → first ≡ getD (layout .starts) t 0 → n ≡ getD (layout .counts) t 0 → Held (setBy set layout) set t first n
-held-by set layout t first n e f x l =
-    chosen (statementAt set (getD (layout .starts) t 0 + x)) nothing (lt-ltb x (getD (layout .counts) t 0) (omega (arith, l, f))) ∙ ap (λ (k : ℕ). statementAt set (k + x)) (sym e)
 
 abbrev Inv-loop : tie.InvT-loop
 Inv-loop set t n first points₀ i₀ points i =
@@ -88,7 +78,7 @@ returns c =
     let S = setBy (now (a .set)) (a .layout) in
     let i-is : l .i ≡ n .result = omega arith in
     λ (before : List ℕ) (e : listed (a .seen) ≡ take 8 before).
-    l .inv .2 S (held-by (now (a .set)) (a .layout) (a .t) (first .result) (n .result) (first .ensures .0) (n .ensures)) before e
+    l .inv .2 S (held-by (now (a .set)) (a .layout) (a .t) (first .result) (n .result) (first .ensures .0) (let e = n .ensures in omega arith)) before e
     ∙ ap (λ (n : ℕ). take 8 (notedIn S (a .t) before n)) (i-is ∙ n .ensures)
 
 pub points-of-spec : {M : Type 1} → statement M

@@ -4,11 +4,11 @@ use lib.ListN.{length}
 use denote.Ref.{now}
 use native.Mathlib.Omega.{arith}
 use mathlib.Core.List.{List}
-use mathlib.Core.Path.{_≡_, refl, sym, _∙_, subst}
-use Prim.Native.Nat.{ℕ, _+_, _-_, _*_, _≤_, _<_}
+use mathlib.Core.Path.{_≡_, refl, subst}
+use Prim.Native.Nat.{ℕ, _+_, _-_, _*_, _≤_}
 use Rattle.places.specs.Places.{listed}
 use Rattle.places.specs.declared.Points.{Points}
-use Rattle.encoding.specs.Steps.{entry, line}
+use Rattle.encoding.specs.Steps.{line}
 use Rattle.encoding.specs.Slots.{kinds, flag}
 use Rattle.table.specs.Programs.{upto}
 use Rattle.records.specs.Sets.{setBy}

@@ -10,7 +10,6 @@ use Rattle.encoding.specs.Steps.{entry, shape}
 use Rattle.encoding.specs.Slots.{kindAt}
 use Rattle.table.specs.Programs.{upto}
 use Rattle.records.specs.Sets.{setBy}
-use Rattle.base.proofs.Choice.{clash}
 use Rattle.places.proofs.Entries.{columns-most, columns-step}
 use Rattle.places.proofs.Pieces.{writes-row, writes-more, limits-after}
 use Rattle.places.specs.Pieces.{Writes, Limits}

@@ -8,7 +8,7 @@ use Prim.Native.Nat.{ℕ, _+_, _-_, _*_, _≤_, _<_}
 use Rattle.records.specs.Sets.{Set}
 use Rattle.table.specs.Programs.{upto}
 use Rattle.encoding.specs.Slots.{Slot, kindAt}
-use Rattle.encoding.specs.Steps.{entry, line}
+use Rattle.encoding.specs.Steps.{line}
 use Rattle.places.specs.Places.{placeOf, size}
 use Rattle.places.specs.Pieces.{Writes}
 use Rattle.places.proofs.Pieces.{writes-row, writes-more, below-after}

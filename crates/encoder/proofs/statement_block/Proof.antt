@@ -4,13 +4,13 @@ use lib.ListN.{length}
 use denote.Ref.{now}
 use native.Mathlib.Omega.{arith}
 use mathlib.Core.List.{List}
-use mathlib.Core.Path.{_≡_, refl, sym, _∙_, subst}
-use Prim.Native.Nat.{ℕ, _+_, _-_, _*_, _≤_, _<_}
+use mathlib.Core.Path.{_≡_, refl, _∙_, subst}
+use Prim.Native.Nat.{ℕ, _+_, _-_, _*_, _≤_}
 use Rattle.places.specs.Places.{placeOf, listed}
 use Rattle.places.specs.Idle.{Idle}
 use Rattle.places.proofs.Idle.{idle-line, idle-written}
 use Rattle.places.specs.declared.Points.{Points}
-use Rattle.encoding.specs.Steps.{entry, line}
+use Rattle.encoding.specs.Steps.{line}
 use Rattle.encoding.specs.Slots.{kindAt}
 use Rattle.table.specs.Programs.{upto}
 use Rattle.records.specs.Sets.{setBy}

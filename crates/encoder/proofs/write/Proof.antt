@@ -3,7 +3,6 @@ use denote.Ref.{now}
 use mathlib.Core.Path.{refl}
 use mathlib.Core.List.{[]}
 use native.Mathlib.Omega.{arith}
-use lib.ListN.{replicate}
 use borrow.Author.Needs.{needs}
 use Rattle.records.specs.Maps.{cells}
 use Rattle.records.specs.Sets.{setBy}

@@ -13,10 +13,10 @@ use Rattle.evaluation.proofs.evaluate.Statement.{statement}
 use Rattle.evaluation.proofs.evaluate.Tie as tie
 
 abbrev Inv-loop : tie.InvT-loop
-Inv-loop work₀ n model cells threads bound i₀ work i = (i ≤ n) × ((32 * n ≤ length work) × ((length work ≡ length work₀) × (falseFrom (givenBy threads bound model cells) n 0 n work₀ ≡ falseFrom (givenBy threads bound model cells) n i (n - i) work)))
+Inv-loop work₀ n model cells threads bound ordered i₀ work i = (i ≤ n) × ((32 * n ≤ length work) × ((length work ≡ length work₀) × (falseFrom (givenBy threads bound model cells) n 0 n work₀ ≡ falseFrom (givenBy threads bound model cells) n i (n - i) work)))
 
 abbrev μ-loop : tie.MeasureT-loop
-μ-loop work₀ n model cells threads bound i₀ work i = n - i
+μ-loop work₀ n model cells threads bound ordered i₀ work i = n - i
 
 mul-if1 : tie.Need-mul-if1 Inv-loop μ-loop
 mul-if1 c = search needs
@@ -25,8 +25,11 @@ returns : tie.Need-returns Inv-loop μ-loop
 unfolding falseIn
 returns c = sym (chosen _ _ (lt-ltb _ _ (c .if1 .taken)))
 
+map-accepted-requires : tie.Need-map-accepted-requires Inv-loop μ-loop
+map-accepted-requires c κs = search needs
+
 loop-holds : tie.Need-loop-holds Inv-loop μ-loop
-loop-holds c = let a = c .before .before .before .before .args in let e : a .n ≡ a .n - 0 = omega arith in
+loop-holds c = let a = c .before .before .before .before .before .args in let e : a .n ≡ a .n - 0 = omega arith in
     (search needs, (search needs, (refl, ap (λ (k : ℕ). falseFrom (givenBy (a .threads) (a .bound) (now (a .model)) (now (a .cells))) (a .n) 0 k (a .work .now)) e)))
 
 cast-formula : tie.Need-cast-formula Inv-loop μ-loop
@@ -43,12 +46,12 @@ same-length c = search needs
 
 returns-2 : tie.Need-returns-2 Inv-loop μ-loop
 unfolding falseIn
-returns-2 c = let l = c .before .before .before .before .before .before in let a = l .before .before .before .before .before .args in
-    sym (passed _ _ (le-ltb _ _ (l .before .if1 .left)) ∙ (l .loop .inv .1 .1 .1
+returns-2 c = let l = c .before .before .before .before .before .before in let a = l .before .before .before .before .before .before .args in
+    sym (passed _ _ (le-ltb _ _ (l .before .before .if1 .left)) ∙ (l .loop .inv .1 .1 .1
     ∙ false-here (givenBy (a .threads) (a .bound) (now (a .model)) (now (a .cells))) (a .n) (l .loop .i) (l .loop .work) (c .before .before .before .formula .result) (c .before .before .before .formula .ensures) (c .before .before .before .before .before .loop-test .taken) (sym (c .before .is-false .ensures) ∙ c .if2 .taken)))
 
 word-of-requires : tie.Need-word-of-requires Inv-loop μ-loop
-word-of-requires c κs = search needs
+word-of-requires c κs = let l = c .before .before .before .before .before .before .before in (search needs, λ e. sym (l .before .map-accepted .ensures) ∙ e)
 
 store-requires : tie.Need-store-requires Inv-loop μ-loop
 store-requires c κs = search needs
@@ -60,7 +63,7 @@ loop-less : tie.Need-loop-less Inv-loop μ-loop
 loop-less c = search needs
 
 loop-again : tie.Need-loop-again Inv-loop μ-loop
-loop-again c = let l = c .before .before .before .before .before .before .before .before .before .before .before .before in let a = l .before .before .before .before .before .args in
+loop-again c = let l = c .before .before .before .before .before .before .before .before .before .before .before .before in let a = l .before .before .before .before .before .before .args in
     let at = 16 * a .n + 2 * l .loop .i in
     let w = c .before .before .before .before .word-of .result in
     let k = c .before .before .store .ensures in
@@ -83,10 +86,10 @@ same-length-2 c = search needs
 
 returns-3 : tie.Need-returns-3 Inv-loop μ-loop
 unfolding falseIn falseFrom
-returns-3 c = let l = c .before in let a = l .before .before .before .before .before .args in
+returns-3 c = let l = c .before in let a = l .before .before .before .before .before .before .args in
     let e : a .n - l .loop .i ≡ 0 = omega arith in
     let d : l .loop .i ≡ a .n = omega (arith, l .loop .inv .0) in
-    sym (passed _ _ (le-ltb _ _ (l .before .if1 .left)) ∙ (l .loop .inv .1 .1 .1 ∙ (ap (λ (k : ℕ). falseFrom (givenBy (a .threads) (a .bound) (now (a .model)) (now (a .cells))) (a .n) (l .loop .i) k (l .loop .work)) e ∙ d)))
+    sym (passed _ _ (le-ltb _ _ (l .before .before .if1 .left)) ∙ (l .loop .inv .1 .1 .1 ∙ (ap (λ (k : ℕ). falseFrom (givenBy (a .threads) (a .bound) (now (a .model)) (now (a .cells))) (a .n) (l .loop .i) k (l .loop .work)) e ∙ d)))
 
 pub evaluate-spec : {M : Type 1} → statement M
 evaluate-spec =
@@ -96,6 +99,7 @@ evaluate-spec =
     μ-loop
     mul-if1
     returns
+    map-accepted-requires
     loop-holds
     cast-formula
     formula-requires

@@ -16,10 +16,16 @@ use Rattle.evaluation.proofs.first.Statement.{statement}
 use Rattle.evaluation.proofs.first.Tie as tie
 
 abbrev Inv-loop : tie.InvT-loop
-Inv-loop cells x n k₀ k = (k ≤ n) × (least k (λ j. eqb (addressAt cells j) x) ≡ k)
+Inv-loop cells ordered x n k₀ k = (k ≤ n) × (least k (λ j. eqb (addressAt cells j) x) ≡ k)
 
 abbrev μ-loop : tie.MeasureT-loop
-μ-loop cells x n k₀ k = n - k
+μ-loop cells ordered x n k₀ k = n - k
+
+search-requires : tie.Need-search-requires Inv-loop μ-loop
+search-requires c κs = c .before .before .pre (c .if1 .taken)
+
+returns : tie.Need-returns Inv-loop μ-loop
+returns c = c .search .ensures
 
 loop-holds : tie.Need-loop-holds Inv-loop μ-loop
 unfolding least
@@ -40,10 +46,10 @@ add-word c = search needs
 word-requires-2 : tie.Need-word-requires-2 Inv-loop μ-loop
 word-requires-2 c κs = search needs
 
-returns : tie.Need-returns Inv-loop μ-loop
-returns c = let a = c .before .before .before .before .before .before .args in let l = c .before .before .before .before .loop in let h = c .before .before .before .loop-test .taken in
+returns-2 : tie.Need-returns-2 Inv-loop μ-loop
+returns-2 c = let a = c .before .before .before .before .before .before .before .args in let l = c .before .before .before .before .loop in let h = c .before .before .before .loop-test .taken in
     c .word2 .ensures ∙ sym (ap (λ (i : ℕ). cond (ltb i (cellCount (now (a .cells)))) (valueAt (now (a .cells)) i) 0)
-    (least-hit (λ j. eqb (addressAt (now (a .cells)) j) (a .x)) (cellCount (now (a .cells))) (l .k) (l .inv .1) (eq-eqb _ _ (sym (c .before .before .word .ensures) ∙ c .before .if1 .taken)) h)
+    (least-hit (λ j. eqb (addressAt (now (a .cells)) j) (a .x)) (cellCount (now (a .cells))) (l .k) (l .inv .1) (eq-eqb _ _ (sym (c .before .before .word .ensures) ∙ c .before .if2 .taken)) h)
     ∙ chosen _ _ (lt-ltb _ _ h))
 
 add-k : tie.Need-add-k Inv-loop μ-loop
@@ -53,11 +59,11 @@ loop-less : tie.Need-loop-less Inv-loop μ-loop
 loop-less c = search needs
 
 loop-again : tie.Need-loop-again Inv-loop μ-loop
-loop-again c = let a = c .before .before .before .before .before .args in
-    (search needs, least-more (λ j. eqb (addressAt (now (a .cells)) j) (a .x)) _ (c .before .before .before .loop .inv .1) (ne-eqb _ _ (λ e. c .if1 .left (c .before .word .ensures ∙ e))))
+loop-again c = let a = c .before .before .before .before .before .before .args in
+    (search needs, least-more (λ j. eqb (addressAt (now (a .cells)) j) (a .x)) _ (c .before .before .before .loop .inv .1) (ne-eqb _ _ (λ e. c .if2 .left (c .before .word .ensures ∙ e))))
 
-returns-2 : tie.Need-returns-2 Inv-loop μ-loop
-returns-2 c = let a = c .before .before .before .args in let e : c .before .loop .k ≡ length (now (a .cells)) / 4 = omega arith in
+returns-3 : tie.Need-returns-3 Inv-loop μ-loop
+returns-3 c = let a = c .before .before .before .before .args in let e : c .before .loop .k ≡ length (now (a .cells)) / 4 = omega arith in
     sym (ap (λ (i : ℕ). cond (ltb i (cellCount (now (a .cells)))) (valueAt (now (a .cells)) i) 0) (rw e at (c .before .loop .inv .1)) ∙ passed (valueAt (now (a .cells)) (cellCount (now (a .cells)))) 0 (le-ltb (cellCount (now (a .cells))) (cellCount (now (a .cells))) (omega arith)))
 
 pub first-spec : {M : Type 1} → statement M
@@ -66,14 +72,16 @@ first-spec =
     (tie.spec
     Inv-loop
     μ-loop
+    search-requires
+    returns
     loop-holds
     mul-word
     word-requires
     mul-word-2
     add-word
     word-requires-2
-    returns
+    returns-2
     add-k
     loop-less
     loop-again
-    returns-2)
+    returns-3)

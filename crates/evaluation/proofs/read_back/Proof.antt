@@ -12,10 +12,10 @@ use Rattle.evaluation.proofs.read_back.Statement.{statement}
 use Rattle.evaluation.proofs.read_back.Tie as tie
 
 abbrev Inv-loop : tie.InvT-loop
-Inv-loop work n cells m x left₀ memory₀ left memory = (left ≤ n) × (cellBack (mapValue cells) (formulaIn work n) (valueIn work n) n m x ≡ cellBack (mapValue cells) (formulaIn work n) (valueIn work n) left memory x)
+Inv-loop work n cells ordered m x left₀ memory₀ left memory = (left ≤ n) × (cellBack (mapValue cells) (formulaIn work n) (valueIn work n) n m x ≡ cellBack (mapValue cells) (formulaIn work n) (valueIn work n) left memory x)
 
 abbrev μ-loop : tie.MeasureT-loop
-μ-loop work n cells m x left₀ memory₀ left memory = left
+μ-loop work n cells ordered m x left₀ memory₀ left memory = left
 
 loop-holds : tie.Need-loop-holds Inv-loop μ-loop
 loop-holds c = (search needs, refl)
@@ -34,7 +34,7 @@ returns c = let v = c .before .before in let l = v .before .before .before in le
     sym (l .loop .inv .1 ∙ (back-hit (mapValue (now (a .cells))) (formulaIn s (a .n)) (valueIn s (a .n)) (l .loop .memory) (a .x) (v .before .formula .result) (v .before .formula .ensures) (l .loop .left) (v .value .result) (v .before .before .loop-test .taken) (v .value .ensures) (c .before .if1 .taken) ∙ sym (c .value2 .ensures)))
 
 first-requires : tie.Need-first-requires Inv-loop μ-loop
-first-requires c κs = search needs
+first-requires c κs = c .before .before .before .before .before .before .before .before .pre .1
 
 returns-2 : tie.Need-returns-2 Inv-loop μ-loop
 returns-2 c = let v = c .before .before .before in let l = v .before .before .before in let a = l .before .before .before .args in let s = now (a .work) in

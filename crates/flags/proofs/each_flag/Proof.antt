@@ -1,4 +1,5 @@
 -- `flags::each_flag` meets its contract. Assumes nothing.
+use Rattle.links.specs.Held.{Held}
 use Rattle.links.specs.Members.{Members}
 use Rattle.flags.specs.Named.{Unnamed}
 use Rattle.places.proofs.Pieces.{writes-row, writes-more, below-after}
@@ -7,7 +8,7 @@ use Rattle.places.specs.Places.{placeOf, size}
 use Rattle.encoding.specs.Steps.{entry}
 use Rattle.encoding.specs.Slots.{flag, Slot}
 use Rattle.table.specs.Programs.{upto}
-use Rattle.records.specs.Sets.{Set, statementAt}
+use Rattle.records.specs.Sets.{Set}
 use Prim.Native.Nat.{ℕ, _+_, _-_, _*_, _≤_, _<_}
 use mathlib.Core.Path.{_≡_, refl, _∙_, subst}
 use mathlib.Core.List.{List}
@@ -21,7 +22,7 @@ use Rattle.flags.proofs.each_flag.Tie as tie
 abbrev Inv-loop : tie.InvT-loop
 Inv-loop set first members slots₀ out₀ t count n named next₀ j₀ slots out next j =
     (j ≤ count) × (next ≤ n + 36 * j) × (length out ≡ length out₀) × (length slots ≡ length slots₀)
-    × ((S : Set) (cs : List ℕ) (k : ℕ) → count ≡ S .count t → Members S members → ((j : ℕ) → j < count → Unnamed S t count j named) → ((x : ℕ) → x < count → S .statement t x ≡ statementAt set (first + x))
+    × ((S : Set) (cs : List ℕ) (k : ℕ) → count ≡ S .count t → Members S members → ((j : ℕ) → j < count → Unnamed S t count j named) → Held S set t first count
     → length slots₀ ≡ size → ((s : Slot) → placeOf slots₀ s < n)
     → (Writes (upto (entry S cs k flag t) j) out₀ slots₀ n out slots next) × ((s : Slot) → placeOf slots s < next))
 

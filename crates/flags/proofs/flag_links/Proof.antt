@@ -6,7 +6,7 @@ use Rattle.encoding.specs.Slots.{Term}
 use Rattle.records.specs.declared.Statement.{Statement}
 use Rattle.records.specs.Sets.{Set}
 use Prim.Native.Nat.{ℕ, _-_, _≤_}
-use mathlib.Core.Path.{_≡_, sym, ap, _∙_}
+use mathlib.Core.Path.{sym, ap, _∙_}
 use mathlib.Core.List.{List, []}
 use native.Mathlib.Omega.{arith}
 use denote.Ref.{now}

@@ -1,22 +1,21 @@
 -- `flags::flags` meets its contract. Assumes nothing.
 use Rattle.places.specs.Places.{size}
-use Rattle.records.specs.Sets.{setBy, statementAt}
-use Rattle.base.proofs.Choice.{chosen}
-use Prim.Native.Nat.{ℕ, _+_, _≤_, _<_}
-use mathlib.Core.Path.{_≡_, refl, sym, ap, _∙_}
+use Rattle.records.specs.Sets.{setBy}
+use Prim.Native.Nat.{ℕ, _≤_, _<_}
+use mathlib.Core.Path.{_≡_, refl}
 use mathlib.Core.List.{List}
 use native.Mathlib.Omega.{arith}
 use denote.Ref.{now}
 use lib.ListN.{length, getD}
-use borrow.Author.Tests.{lt-ltb}
 use borrow.Author.Needs.{needs}
+use Rattle.links.proofs.Held.{held}
 use Rattle.flags.proofs.flags.Statement.{statement}
 use Rattle.flags.proofs.flags.Tie as tie
 
 returns : tie.Need-returns
 returns c =
     let a = c .before .before .before .before .before .args in
-    ((λ (cs : List ℕ) (k : ℕ) (four : a .t < 4) few room nexts all below. absurd (omega arith)), λ (room : a .n ≤ 1700000000). omega arith)
+    ((λ (cs : List ℕ) (k : ℕ) (four : a .t < 4) few room members all below. absurd (omega arith)), λ (room : a .n ≤ 1700000000). omega arith)
 
 mul-count : tie.Need-mul-count
 mul-count c = search needs
@@ -27,26 +26,20 @@ element-copy-out-count c = search needs
 returns-2 : tie.Need-returns-2
 returns-2 c =
     let a = c .before .before .before .before .before .before .before .args in
-    ((λ (cs : List ℕ) (k : ℕ) four (few : getD (a .t2 .counts) (a .t) 0 ≤ 32) room nexts all below. absurd (omega arith)), λ (room : a .n ≤ 1700000000). omega arith)
+    ((λ (cs : List ℕ) (k : ℕ) four (few : getD (a .t2 .counts) (a .t) 0 ≤ 32) room members all below. absurd (omega arith)), λ (room : a .n ≤ 1700000000). omega arith)
 
 returns-3 : tie.Need-returns-3
 returns-3 c =
     let a = c .before .before .before .before .before .before .before .before .args in
-    ((λ (cs : List ℕ) (k : ℕ) four few room nexts (all : length (now (a .slots)) ≡ size) below. absurd (c .if3 .taken all)), λ (room : a .n ≤ 1700000000). omega arith)
+    ((λ (cs : List ℕ) (k : ℕ) four few room members (all : length (now (a .slots)) ≡ size) below. absurd (c .if3 .taken all)), λ (room : a .n ≤ 1700000000). omega arith)
 
 returns-4 : tie.Need-returns-4
 returns-4 c =
     let a = c .before .before .before .before .before .before .before .before .before .args in
-    ((λ (cs : List ℕ) (k : ℕ) four few (room : a .n ≤ 1700000000) nexts all below. absurd (omega arith)), λ (room : a .n ≤ 1700000000). omega arith)
+    ((λ (cs : List ℕ) (k : ℕ) four few (room : a .n ≤ 1700000000) members all below. absurd (omega arith)), λ (room : a .n ≤ 1700000000). omega arith)
 
-mul-wide : tie.Need-mul-wide
-mul-wide c = search needs
-
-element-copy-out-wide : tie.Need-element-copy-out-wide
-element-copy-out-wide c = search needs
-
-wide-requires : tie.Need-wide-requires
-wide-requires c κs = search needs
+first-requires : tie.Need-first-requires
+first-requires c κs = search needs
 
 each-flag-requires : tie.Need-each-flag-requires
 each-flag-requires c κs = search needs
@@ -59,12 +52,12 @@ same-length-2 c = search needs
 
 returns-5 : tie.Need-returns-5
 returns-5 c =
-    let a = c .before .before .before .before .before .before .before .before .before .before .before .before .before .before .before .before .before .before .args in
+    let a = c .before .before .before .before .before .before .before .before .before .before .before .before .before .before .before .before .before .args in
     let r = c .before .before .before .before .each-flag in
-    let start = c .before .before .before .before .before .before .before .wide in (
-      (λ (cs : List ℕ) (k : ℕ) four few room nexts all below.
-          r .ensures .0 (setBy (now (a .set)) (a .t2)) cs k refl nexts
-          (λ (x : ℕ) (p : x < getD (a .t2 .counts) (a .t) 0). chosen _ _ (lt-ltb x (getD (a .t2 .counts) (a .t) 0) p) ∙ ap (λ (i : ℕ). statementAt (now (a .set)) (i + x)) (sym (start .ensures .0)))
+    let start = c .before .before .before .before .before .before .before .first in (
+      (λ (cs : List ℕ) (k : ℕ) four few room members all below.
+          r .ensures .0 (setBy (now (a .set)) (a .t2)) cs k refl members
+          (held (now (a .set)) (a .t2) (a .t) (start .result) (getD (a .t2 .counts) (a .t) 0) (start .ensures .0) (omega arith))
           all below),
       λ room. r .ensures .1,
     )
@@ -79,9 +72,7 @@ flags-spec =
     returns-2
     returns-3
     returns-4
-    mul-wide
-    element-copy-out-wide
-    wide-requires
+    first-requires
     each-flag-requires
     same-length
     same-length-2

@@ -1,12 +1,13 @@
 -- `flags::jump_links` meets its contract. Assumes nothing.
 use Rattle.links.proofs.Trees.{chain-none, chain-more, chain-to}
+use Rattle.links.specs.Held.{Held}
 use Rattle.links.specs.Members.{Members}
 use Rattle.places.specs.Pieces.{WritesTree}
 use Rattle.places.specs.Places.{placeOf}
 use Rattle.encoding.specs.Steps.{chain, leads}
 use Rattle.encoding.specs.Slots.{Term}
-use Rattle.records.specs.Sets.{Set, statementAt}
-use Prim.Native.Nat.{ℕ, _+_, _-_, _≤_, _<_}
+use Rattle.records.specs.Sets.{Set}
+use Prim.Native.Nat.{ℕ, _+_, _-_, _≤_}
 use mathlib.Core.Path.{_≡_, refl, sym, _∙_, subst}
 use mathlib.Core.List.{List, []}
 use native.Mathlib.Omega.{arith}
@@ -19,7 +20,7 @@ use Rattle.flags.proofs.jump_links.Tie as tie
 abbrev Inv-loop : tie.InvT-loop
 Inv-loop set first members slots out₀ t j count n base tree₀ i₀ out tree i =
     (i ≤ count) × (tree .next ≤ n + i) × (length out ≡ length out₀)
-    × ((S : Set) (base-tree : Term) (start : List ℕ) (m : ℕ) → count ≡ S .count t → Members S members → ((x : ℕ) → x < count → S .statement t x ≡ statementAt set (first + x))
+    × ((S : Set) (base-tree : Term) (start : List ℕ) (m : ℕ) → count ≡ S .count t → Members S members → Held S set t first count
     → WritesTree (placeOf slots) base-tree start m out₀ n base
     → WritesTree (placeOf slots) (chain (leads S [] 0 t j) i base-tree) start m out (tree .next) (tree .at))
 

@@ -1,8 +1,7 @@
 -- `flags::name_targets` meets its contract. Assumes nothing.
 use Prim.Native.Nat.{ℕ, _+_, _-_, _≤_, _<_}
 use mathlib.Core.Path.{_≡_, refl, ap, sym, _∙_, subst}
-use mathlib.Core.Bool.{Bool, true, false, _&&_}
-use mathlib.Core.List.{List}
+use mathlib.Core.Bool.{Bool, true, false}
 use native.Mathlib.Omega.{arith}
 use native.Mathlib.Decide.{ℕ-discrete}
 use denote.Ref.{now}
@@ -12,8 +11,9 @@ use Rattle.base.proofs.Choice.{and-false, and-right-false}
 use Rattle.records.specs.Instructions.{isJump}
 use Rattle.records.specs.Sets.{Set, statementAt}
 use Rattle.records.specs.declared.Statement.{Statement}
+use Rattle.links.specs.Held.{Held}
 use Rattle.links.specs.Members.{Members, membersOf, namesTarget}
-use Rattle.links.proofs.Listed.{At, members-below, members-at}
+use Rattle.links.proofs.Listed.{members-below, members-at}
 use borrow.Author.Needs.{needs}
 use Rattle.flags.proofs.name_targets.Statement.{statement}
 use Rattle.flags.proofs.name_targets.Tie as tie
@@ -21,7 +21,7 @@ use Rattle.flags.proofs.name_targets.Tie as tie
 abbrev Inv-loop : tie.InvT-loop
 Inv-loop set first members named₀ t count many p₀ named p =
     (p ≤ many) × (length named ≡ length named₀)
-    × ((S : Set) → count ≡ S .count t → Members S members → ((x : ℕ) → x < count → S .statement t x ≡ statementAt set (first + x)) → (j : ℕ) → j < length named₀
+    × ((S : Set) → count ≡ S .count t → Members S members → Held S set t first count → (j : ℕ) → j < length named₀
     → getD named j 0 ≡ 0 → (q : ℕ) → q < p → namesTarget (S .statement t (getD (membersOf S 8 t) q 0)) j ≡ false)
 
 abbrev μ-loop : tie.MeasureT-loop

@@ -1,6 +1,6 @@
 -- `values::results` meets its contract. Assumes nothing.
 use Prim.Native.Nat.{_+_, _-_, _*_, _≤_, _<_}
-use mathlib.Core.Path.{_≡_, refl, _∙_}
+use mathlib.Core.Path.{_≡_, refl, sym, _∙_}
 use native.Mathlib.Omega.{arith}
 use lib.ListN.{length}
 use denote.Ref.{now}
@@ -61,7 +61,7 @@ loop-again c =
       search needs,
       row-more 14 (now (a .set)) (a .first) (a .count) (a .t) (now (a .out)) (now (a .slots)) (a .n) (l .i) (l .out) (l .slots) (l .next) _ _ _ (l .inv .4)
           (λ S cs k stands below others. settled .ensures .0 S cs k (l .out) _ (omega arith) refl (q .1) small (l .inv .3 ∙ q .3) below
-          (put .ensures .0 S cs k (c .before .before .before .before .before .before .before .before .before .statement-at .ensures ∙ stands .statementIs (l .i) less) room)),
+          (put .ensures .0 S cs k (c .before .before .before .before .before .before .before .before .before .statement-at .ensures ∙ sym (stands .statementIs (l .i) less)) room)),
     )
 
 same-length : tie.Need-same-length Inv-loop μ-loop

@@ -1,6 +1,6 @@
 -- `values::swaps` meets its contract. Assumes nothing.
 use Prim.Native.Nat.{_+_, _-_, _*_, _≤_}
-use mathlib.Core.Path.{_≡_, refl, _∙_}
+use mathlib.Core.Path.{_≡_, refl, sym, _∙_}
 use native.Mathlib.Omega.{arith}
 use lib.ListN.{length}
 use denote.Ref.{now}
@@ -76,7 +76,7 @@ loop-again c =
           (λ S listed. named S listed (omega arith) (q .0) (let e = counted .0 S listed (omega arith) (q .0) in omega arith))
           (l .inv .4)
           (λ S cs k count stands less small below others. settled .ensures .0 S cs k (l .out) _ (omega arith) refl (q .0) small (l .inv .3 ∙ q .2) below
-          (put .ensures .0 S cs k (read ∙ stands .statementIs _ less) (lies ∙ others no 0 0 refl) room)),
+          (put .ensures .0 S cs k (read ∙ sym (stands .statementIs _ less)) (lies ∙ others no 0 0 refl) room)),
     )
 
 same-length : tie.Need-same-length Inv-loop μ-loop

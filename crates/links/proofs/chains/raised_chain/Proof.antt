@@ -18,7 +18,8 @@ use Prim.Native.Nat.{ℕ, _+_, _-_, _≤_, _<_}
 use lib.ListN.{length, getD}
 use Rattle.places.specs.Pieces.{WritesTree}
 use Rattle.links.specs.Members.{membersOf, ofClass, Members}
-use Rattle.links.proofs.Held.{Held, held, held-member}
+use Rattle.links.specs.Held.{Held}
+use Rattle.links.proofs.Held.{held, held-member}
 use Rattle.links.proofs.Contains.{checks, raised-checks}
 use borrow.Author.Needs.{needs}
 use Rattle.links.proofs.chains.raised_chain.Statement.{statement}

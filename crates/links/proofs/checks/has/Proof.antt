@@ -15,7 +15,8 @@ use lib.Dec.{eqb}
 use lib.ListN.{length, getD}
 use native.Mathlib.Decide.{ℕ-discrete}
 use Rattle.links.specs.Members.{membersOf, Members}
-use Rattle.links.proofs.Held.{Held, held, held-member}
+use Rattle.links.specs.Held.{Held}
+use Rattle.links.proofs.Held.{held, held-member}
 use borrow.Author.Needs.{needs}
 use Rattle.links.proofs.checks.has.Statement.{statement}
 use Rattle.links.proofs.checks.has.Tie as tie

@@ -13,7 +13,7 @@ use lib.Dec.{eqb, leb, ltb}
 use lib.ListN.{length, getD}
 use native.Mathlib.Decide.{decLt, ℕ-discrete}
 use Rattle.links.specs.Members.{membersOf, Members}
-use Rattle.links.proofs.Held.{Held}
+use Rattle.links.specs.Held.{Held}
 use borrow.Author.Needs.{needs}
 use Rattle.links.proofs.edges.jump_to.Statement.{statement}
 use Rattle.links.proofs.edges.jump_to.Tie as tie

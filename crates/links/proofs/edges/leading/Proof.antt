@@ -1,5 +1,5 @@
 -- `links::edges::leading` meets its contract. Assumes nothing.
-use Rattle.links.proofs.Held.{Held}
+use Rattle.links.specs.Held.{Held}
 use Rattle.links.proofs.Leads.{leads-elsewhere}
 use Rattle.links.specs.Members.{Members}
 use Rattle.encoding.specs.Steps.{skip, leads}

@@ -7,7 +7,8 @@ use mathlib.Core.Path.{_≡_, refl, sym, ap, _∙_}
 use Prim.Native.Nat.{_-_, _≤_, _<_}
 use lib.ListN.{length}
 use Rattle.links.specs.Members.{Filled}
-use Rattle.links.proofs.Held.{Held, held}
+use Rattle.links.specs.Held.{Held}
+use Rattle.links.proofs.Held.{held}
 use Rattle.links.proofs.Filling.{filled-next, filled-thread}
 use borrow.Author.Needs.{needs}
 use Rattle.links.proofs.members.make_thread.Statement.{statement}
