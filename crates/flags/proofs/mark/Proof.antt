@@ -22,8 +22,8 @@ returns c =
     let a = c .before .args in
     let l = now (a .named) in
     let inside : a .j < length l = c .if1 .taken in (
-      length-set l (a .j) 1,
-      λ (k : ℕ) (h : k < length l) (e : getD (set l (a .j) 1) k 0 ≡ 0).
+      length-set l (a .j) _,
+      λ (k : ℕ) (h : k < length l) e.
           elim (ℕ-discrete k (a .j)) [
             | yes p ↦ let one = ap (λ (i : ℕ). getD (set l (a .j) 1) i 0) p in let written = getD-set-same l (a .j) 1 0 inside in absurd (omega arith)
             | no p ↦ (sym (getD-set-other l (a .j) k 1 0 p) ∙ e, ne-eqb (a .j) k (λ q. p (sym q)))

@@ -41,7 +41,7 @@ add-members c = search needs
 slice-write-members-2 : tie.Need-slice-write-members-2
 slice-write-members-2 c =
     let a = c .before .before .before .before .before .before .args in
-    lt-length-set (now (a .members)) (rowIndex (a .class) (a .t) + 1 + c .before .before .byte-at .result) (a .i) (omega arith)
+    lt-length-set (now (a .members)) (rowIndex (a .class) (a .t) + 1 + c .before .before .byte-at .result) _ (omega arith)
 
 same-length : tie.Need-same-length
 same-length c = search needs
