@@ -1,4 +1,4 @@
--- A value of a table whose links the statements of a thread give. Assumes nothing.
+-- Values of a table by their links: those without links, and those whose links the statements of a thread give. Assumes nothing.
 use Prim.Native.Nat.{ℕ, _+_, _<_}
 use mathlib.Core.Path.{_≡_}
 use mathlib.Core.Bool.{Bool, true, false, _||_}
