@@ -43,21 +43,7 @@ use written::put_joined;
 use written::put_none;
 use written::put_previous;
 
-// Whether a kind has one value for each statement, and no links.
-pub fn of_statement(kind: u8) -> bool
-    ensures { λ r. ⌜ r ≡ ofStatement kind ⌝ }
-{
-    (kind == kinds::ACTIVE)
-        | (kind == kinds::ADDRESS)
-        | (kind == kinds::LOADED)
-        | (kind == kinds::SWAPS)
-        | (kind == kinds::RESULT)
-        | (kind == kinds::TEST)
-        | (kind == kinds::UNTEST)
-        | (kind == kinds::ARGUMENT)
-}
-
-// Writes the base of another kind's tree for a and b, its records from index n on; that of a flag is `put_flag`.
+// Writes the base of the tree of a kind that is not of statements for a and b, its records from index n on; that of a flag is `put_flag`.
 pub fn put_base(
     slots: &[u32],
     out: &mut [u8],

@@ -17,7 +17,7 @@ use Rattle.places.specs.Pieces.{Writes, WritesTree}
 use Rattle.places.proofs.Pieces.{writes-row, writes-more}
 use Rattle.places.proofs.Entries.{treeOf}
 use Rattle.bases.specs.Fews.{ofStatement}
-use Rattle.encoder.specs.Entries.{BareEntry, bare, Bare}
+use Rattle.encoder.specs.Entries.{BareEntry}
 
 module _ (S : Set) (cs : List ℕ) (k kind : ℕ) (out slots : List ℕ) (n : ℕ) (after slotsAfter : List ℕ) (m : ℕ) where
   -- ---- one value for each thread
@@ -31,15 +31,26 @@ module _ (S : Set) (cs : List ℕ) (k kind : ℕ) (out slots : List ℕ) (n : �
     pub registers : (t : ℕ) → t ≡ S .threads → Writes (upto (line S cs k (kindAt kind)) t) out slots n after slotsAfter m → Writes (block S cs k (kindAt kind)) out slots n after slotsAfter m
     registers t all w = subst (λ (j : ℕ). Writes (upto (line S cs k (kindAt kind)) j) out slots n after slotsAfter m) (all ∙ sym (ap (rows S cs k) e)) w
 
+  -- ---- one row
+
+  pub one-line : rows S cs k (shape (kindAt kind)) ≡ 1 → (c : ℕ) → c ≡ columns S cs k (shape (kindAt kind)) 0 → Writes (upto (entry S cs k (kindAt kind) 0) c) out slots n after slotsAfter m →
+      Writes (block S cs k (kindAt kind)) out slots n after slotsAfter m
+  one-line row c all w =
+      subst (λ (j : ℕ). Writes (upto (line S cs k (kindAt kind)) j) out slots n after slotsAfter m) (sym row)
+      (writes-more (line S cs k (kindAt kind)) 0 out slots n out slots n after slotsAfter m (writes-row (line S cs k (kindAt kind)) out slots n)
+      (subst (λ (j : ℕ). Writes (upto (entry S cs k (kindAt kind) 0) j) out slots n after slotsAfter m) all w))
+
+  pub one-value : rows S cs k (shape (kindAt kind)) ≡ 1 → columns S cs k (shape (kindAt kind)) 0 ≡ 1 → Writes (entry S cs k (kindAt kind) 0 0) out slots n after slotsAfter m →
+      Writes (block S cs k (kindAt kind)) out slots n after slotsAfter m
+  one-value row column w =
+      one-line row 1 (sym column) (writes-more (entry S cs k (kindAt kind) 0) 0 out slots n out slots n after slotsAfter m (writes-row (entry S cs k (kindAt kind) 0) out slots n) w)
+
   -- ---- one before the first thread, and one after each
 
   pub running : shape (kindAt kind) ≡ beforeThread → (t : ℕ) → t ≡ S .threads → Writes (upto (entry S cs k (kindAt kind) 0) (t + 1)) out slots n after slotsAfter m →
       Writes (block S cs k (kindAt kind)) out slots n after slotsAfter m
   running e t all w =
-      let columns-are : t + 1 ≡ columns S cs k (shape (kindAt kind)) 0 = add-one t ∙ (ap suc all ∙ sym (ap (λ (s : Shape). columns S cs k s 0) e)) in
-      subst (λ (j : ℕ). Writes (upto (line S cs k (kindAt kind)) j) out slots n after slotsAfter m) (sym (ap (rows S cs k) e))
-      (writes-more (line S cs k (kindAt kind)) 0 out slots n out slots n after slotsAfter m (writes-row (line S cs k (kindAt kind)) out slots n)
-      (subst (λ (j : ℕ). Writes (upto (entry S cs k (kindAt kind) 0) j) out slots n after slotsAfter m) columns-are w))
+      one-line (ap (rows S cs k) e) (t + 1) (add-one t ∙ (ap suc all ∙ sym (ap (λ (s : Shape). columns S cs k s 0) e))) w
 
 -- ---- values without links
 
@@ -50,6 +61,11 @@ unfolding chain
 bare-written S cs k kind a b bare places out n after m at w =
     subst (λ (l : ℕ). WritesTree places (chain (link S cs 0 (kindAt kind) a b) l (base S cs k (kindAt kind) a b)) out n after m at) (sym (bare .linkless)) w
 
+-- the kinds by number whose values are all there and have no links
+abbrev bare : ℕ → Bool
+bare kind =
+    eqb kind 0 || eqb kind 3 || eqb kind 7 || eqb kind 8 || eqb kind 9 || eqb kind 24 || eqb kind 34 || eqb kind 35 || eqb kind 39
+
 module _ (S : Set) (cs : List ℕ) (a b : ℕ) where
   -- there, and without links
   lone : ℕ → Bool
@@ -59,7 +75,7 @@ module _ (S : Set) (cs : List ℕ) (a b : ℕ) where
   unfolding every kinds lone
   lone-tabled = refl
 
-  lone-at : (kind : ℕ) → kind < 41 → bare kind ≡ true → BareEntry S cs kind a b
+  pub lone-at : (kind : ℕ) → kind < 41 → bare kind ≡ true → BareEntry S cs kind a b
   unfolding lone
   lone-at kind h is =
       let holds = sym (ap (λ (t : Bool). not t || lone kind) is) ∙ every-at (λ n. not (bare n) || lone n) 41 kind lone-tabled h in
@@ -67,39 +83,6 @@ module _ (S : Set) (cs : List ℕ) (a b : ℕ) where
         linkless = eqb-true (links S cs 0 (kindAt kind) a b) 0 (and-left (eqb (links S cs 0 (kindAt kind) a b) 0) (kept S cs 0 (shape (kindAt kind)) a b) holds);
         there = and-right (eqb (links S cs 0 (kindAt kind) a b) 0) (kept S cs 0 (shape (kindAt kind)) a b) holds;
       }
-
--- as many columns in each row
-even : Shape → Bool
-even perChoice = true
-even perThread = true
-even perStatement = false
-even perCheckpoint = true
-even perMark = true
-even beforeThread = true
-even beforeChoice = true
-even single = true
-
-even-tabled : every 41 (λ n. not (bare n) || even (shape (kindAt n))) ≡ true
-unfolding every kinds even
-even-tabled = refl
-
-even-columns : (S : Set) (cs : List ℕ) (s : Shape) → even s ≡ true → (a : ℕ) → columns S cs 0 s a ≡ columns S cs 0 s 0
-unfolding even
-even-columns S cs perChoice e a = refl
-even-columns S cs perThread e a = refl
-even-columns S cs perStatement e a = absurd (true≢false (sym e))
-even-columns S cs perCheckpoint e a = refl
-even-columns S cs perMark e a = refl
-even-columns S cs beforeThread e a = refl
-even-columns S cs beforeChoice e a = refl
-even-columns S cs single e a = refl
-
-pub all-bare : (S : Set) (cs : List ℕ) (kind : ℕ) → kind < 41 → bare kind ≡ true → Bare S cs kind
-all-bare S cs kind h is = record {
-  each = λ a b. lone-at S cs a b kind h is;
-  alike = even-columns S cs (shape (kindAt kind))
-      (sym (ap (λ (t : Bool). not t || even (shape (kindAt kind))) is) ∙ every-at (λ n. not (bare n) || even (shape (kindAt n))) 41 kind even-tabled h);
-}
 
 -- ---- a line for each thread
 
@@ -133,8 +116,3 @@ module _ (S : Set) (cs : List ℕ) (k : ℕ) where
   statement-rows kind h of =
       thread-rows (shape (kindAt kind))
       (sym (ap (λ (b : Bool). not b || byThreads (shape (kindAt kind))) of) ∙ every-at (λ n. not (ofStatement n) || byThreads (shape (kindAt n))) 41 kind threads-tabled h)
-
--- the block of a kind by number
-pub block-at : (S : Set) (cs : List ℕ) (k kind l : ℕ) → kind ≡ l → (out slots : List ℕ) (n : ℕ) (after slotsAfter : List ℕ) (m : ℕ) →
-    Writes (block S cs k (kindAt l)) out slots n after slotsAfter m → Writes (block S cs k (kindAt kind)) out slots n after slotsAfter m
-block-at S cs k kind l e out slots n after slotsAfter m w = subst (λ (i : ℕ). Writes (block S cs k (kindAt i)) out slots n after slotsAfter m) (sym e) w

@@ -11,21 +11,21 @@ ghost use Rattle.table.specs.Formulas.{writtenAt};
 ghost use Rattle.table.specs.Repeats.{movedBy};
 ghost use Rattle.table.specs.Programs.{leafFormula, choiceBit, needs, aims, upto, compiled, nextAfter};
 ghost use Rattle.encoding.specs.Encodings.{mapDemand, starting, goalTree, firsts as firstsOf, encoded as encodedOf};
-ghost use Rattle.encoding.specs.Slots.{Slot, same, Term, kindAt, code as codeKind};
-ghost use Rattle.encoding.specs.Steps.{only, word0, shape, rows as rowsOf, columns as columnsOf, chain as chainOf, link as linkOf, links as linksOf, entry as entryOf, line as lineOf, block as blockOf, blocks as blocksOf, ruled, step as stepOf};
+ghost use Rattle.encoding.specs.Slots.{Slot, same, kindAt, code as codeKind};
+ghost use Rattle.encoding.specs.Steps.{only, word0, single, shape, rows as rowsOf, columns as columnsOf, entry as entryOf, block as blockOf, blocks as blocksOf, ruled, step as stepOf};
 ghost use Rattle.places.specs.Places.{placeOf, listed, size as placesCount};
 ghost use Rattle.bases.specs.Fews.{ofStatement};
-ghost use Rattle.links.specs.Given.{given};
+ghost use Rattle.links.specs.Chained.{chained};
 ghost use Rattle.links.specs.Members.{Members};
 ghost use Rattle.encoder.specs.Answers.{sizeAnswer, encodeAnswer, tableOutput};
-ghost use Rattle.places.specs.Pieces.{Writes, WritesTree, Limits};
+ghost use Rattle.places.specs.Pieces.{Writes, Limits};
 ghost use Rattle.places.specs.Idle.{Idle};
-ghost use Rattle.encoder.specs.Entries.{BareEntry, bare, Bare, GivenEntry, byThread, ByThread, afterThread, AfterThread};
+ghost use Rattle.encoder.specs.Entries.{BareEntry, GivenEntry, ByThread, AfterThread};
 ghost use Rattle.encoder.specs.Repeating.{Started, Stepped, Ended};
-use links::Root;
-use links::put_link;
 use places::Points;
 use places::kinds::ACCU;
+use places::kinds::ACTIVE;
+use places::kinds::ADDRESS;
 use places::kinds::ADR;
 use places::kinds::ARGUMENT;
 use places::kinds::BARRED;
@@ -35,18 +35,27 @@ use places::kinds::CODES;
 use places::kinds::ENDED;
 use places::kinds::EXITS;
 use places::kinds::FIT;
-use places::kinds::FLAG;
+use places::kinds::FLUSH_TO;
+use places::kinds::FLUSH_VALUE;
 use places::kinds::FULL;
 use places::kinds::HALTED;
+use places::kinds::HALTS;
 use places::kinds::HEAP;
+use places::kinds::HELD;
+use places::kinds::LOADED;
+use places::kinds::MARK;
 use places::kinds::MAY;
 use places::kinds::MEM;
 use places::kinds::NONE;
 use places::kinds::NOUGHT;
 use places::kinds::ONE;
 use places::kinds::RAISED;
+use places::kinds::RESULT;
 use places::kinds::SHUT;
+use places::kinds::SWAPS;
+use places::kinds::TEST;
 use places::kinds::UNIT;
+use places::kinds::UNTEST;
 use places::kinds::VAL;
 use places::kinds::WRITE_TO;
 use places::kinds::WRITE_VALUE;
@@ -61,83 +70,6 @@ pub enum Answer {
 
 // ---- trees
 
-// Writes the links of a kind over a tree; those of flags and of the kinds that `given` names have their own ways.
-fn chain(
-    set: &[u8],
-    layout: Layout,
-    points: Points,
-    members: &[u8],
-    slots: &[u32],
-    out: &mut [u8],
-    kind: u8,
-    a: u8,
-    b: u16,
-    n: u32,
-    base: u64,
-) -> Root
-    requires { ⌜ (n ≤ 1900000000) × (linksOf (setBy (now set) layout) (listed points) 0 (kindAt kind) a b ≤ 32) × (Members (setBy (now set) layout) (now members)) × (kind ≡ 31 → ⊥) × (given kind ≡ false)
-        × (a < 4) × (length (now slots) ≡ placesCount) ⌝ }
-    ensures { λ r. ⌜ ((tree : Term) (start : List ℕ) (m : ℕ) → WritesTree (placeOf (now (slots .entry))) tree start m (now (out .entry)) n base
-        → WritesTree (placeOf (now (slots .entry)))
-        (chainOf (linkOf (setBy (now (set .entry)) layout) (listed points) 0 (kindAt kind) a b) (linksOf (setBy (now (set .entry)) layout) (listed points) 0 (kindAt kind) a b) tree)
-        start m (now (out .exit)) (r .next) (r .at))
-        × (r .next ≤ n + 32) ⌝ }
-{
-    if kind == RAISED {
-        return links::chains::raised_chain(set, layout, points, members, slots, out, a, b, n, base);
-    }
-    let count = links::chains::links(layout, points, kind, a, b);
-    let mut tree = Root { next: n, at: base };
-    let mut i: u16 = 0;
-    while i < count {
-        let link = links::chains::link(set, layout, points, members, slots, kind, a, b, i);
-        tree = put_link(out, tree.next, tree.at, link);
-        i += 1;
-    }
-    tree
-}
-
-// Writes the value of a kind for a and b, if there is one.
-fn entry(
-    set: &[u8],
-    layout: Layout,
-    points: Points,
-    members: &[u8],
-    slots: &mut [u32],
-    out: &mut [u8],
-    step: u8,
-    kind: u8,
-    a: u8,
-    b: u16,
-    n: u32,
-) -> u32
-    requires { ⌜ (Limits layout points (now slots) n) × (n ≤ 1800000000) × (kind < 41) × (a < 4) × (b < 32) × (Members (setBy (now set) layout) (now members)) × (ofStatement kind ≡ false) × (kind ≡ 31 → ⊥) × (given kind ≡ false) ⌝ }
-    ensures { λ r. ⌜ (Writes (entryOf (setBy (now (set .entry)) layout) (listed points) step (kindAt kind) a b)
-        (now (out .entry)) (now (slots .entry)) n (now (out .exit)) (now (slots .exit)) r)
-        × (r ≤ n + 36) ⌝ }
-{
-    if links::kept(set, layout, points, members, kind, a, b) {
-        let base = bases::put_base(slots, out, layout.threads, step, kind, a, b, n);
-        let next = n + base.count;
-        let tree = chain(
-            set,
-            layout,
-            points,
-            members,
-            slots,
-            out,
-            kind,
-            a,
-            b,
-            next,
-            base.root,
-        );
-        places::set_place(slots, kind, a, b, tree.at);
-        return tree.next;
-    }
-    n
-}
-
 // Writes the value of a kind for a and b, which is there and has no links.
 fn bare_entry(
     slots: &mut [u32],
@@ -149,7 +81,7 @@ fn bare_entry(
     b: u16,
     n: u32,
 ) -> u32
-    requires { ⌜ (n ≤ 1800000000) × (kind < 41) × (a < 4) × (b < 32) × (ofStatement kind ≡ false) × (kind ≡ 31 → ⊥) ⌝ }
+    requires { ⌜ (n ≤ 1800000000) × (kind < 41) × (a < 4) × (b < 9) × (ofStatement kind ≡ false) × (kind ≡ 31 → ⊥) ⌝ }
     ensures { λ r. ⌜ ((S : Set) (cs : List ℕ) → S .threads ≡ threads → BareEntry S cs kind a b → length (now (slots .entry)) ≡ placesCount
         → ((s : Slot) → placeOf (now (slots .entry)) s < n)
         → Writes (entryOf S cs step (kindAt kind) a b) (now (out .entry)) (now (slots .entry)) n (now (out .exit)) (now (slots .exit)) r)
@@ -160,138 +92,60 @@ fn bare_entry(
     n + base.count
 }
 
-// Writes the values of a kind for a, which have no links, at most 32 of them.
+// Writes the values of a kind that has one row and no links, at most nine of them.
 fn bare_line(
     slots: &mut [u32],
     out: &mut [u8],
     threads: u8,
     step: u8,
     kind: u8,
-    a: u8,
     columns: u16,
     n: u32,
 ) -> u32
-    requires { ⌜ (n ≤ 1700000000) × (kind < 41) × (a < 4) × (columns ≤ 32) × (ofStatement kind ≡ false) × (kind ≡ 31 → ⊥) ⌝ }
-    ensures { λ r. ⌜ ((S : Set) (cs : List ℕ) → S .threads ≡ threads → ((b : ℕ) → BareEntry S cs kind a b) → length (now (slots .entry)) ≡ placesCount
-        → ((s : Slot) → placeOf (now (slots .entry)) s < n)
-        → Writes (upto (entryOf S cs step (kindAt kind) a) columns) (now (out .entry)) (now (slots .entry)) n (now (out .exit)) (now (slots .exit)) r)
-        × (r ≤ n + 128) ⌝ }
+    requires { ⌜ (n ≤ 1600000000) × (kind < 41) × (columns ≤ 9) × (ofStatement kind ≡ false) × (kind ≡ 31 → ⊥) ⌝ }
+    ensures { λ r. ⌜ ((S : Set) (cs : List ℕ) → S .threads ≡ threads → ((b : ℕ) → BareEntry S cs kind 0 b) → rowsOf S cs step (shape (kindAt kind)) ≡ 1
+        → columns ≡ columnsOf S cs step (shape (kindAt kind)) 0 → length (now (slots .entry)) ≡ placesCount → ((s : Slot) → placeOf (now (slots .entry)) s < n)
+        → Writes (blockOf S cs step (kindAt kind)) (now (out .entry)) (now (slots .entry)) n (now (out .exit)) (now (slots .exit)) r)
+        × (r ≤ n + 36) ⌝ }
 {
     let mut next = n;
     let mut b: u16 = 0;
     while b < columns {
-        next = bare_entry(slots, out, threads, step, kind, a, b, next);
+        next = bare_entry(slots, out, threads, step, kind, 0, b, next);
         b += 1;
     }
     next
 }
 
-// Writes all values of a kind that has no links: `rows` times `columns` of them.
-fn bare_block(
-    slots: &mut [u32],
-    out: &mut [u8],
-    threads: u8,
-    step: u8,
-    kind: u8,
-    rows: u8,
-    columns: u16,
-    n: u32,
-) -> u32
-    requires { ⌜ (n ≤ 1600000000) × (kind < 41) × (rows ≤ 4) × (columns ≤ 32) × (ofStatement kind ≡ false) × (kind ≡ 31 → ⊥) ⌝ }
-    ensures { λ r. ⌜ ((S : Set) (cs : List ℕ) → S .threads ≡ threads → Bare S cs kind → rows ≡ rowsOf S cs 0 (shape (kindAt kind)) → columns ≡ columnsOf S cs 0 (shape (kindAt kind)) 0
-        → length (now (slots .entry)) ≡ placesCount → ((s : Slot) → placeOf (now (slots .entry)) s < n)
+// Writes for each thread whether it may execute.
+fn may_block(slots: &mut [u32], out: &mut [u8], threads: u8, step: u8, n: u32) -> u32
+    requires { ⌜ (n ≤ 1600000000) × (threads ≤ 4) ⌝ }
+    ensures { λ r. ⌜ ((S : Set) (cs : List ℕ) → S .threads ≡ threads → length (now (slots .entry)) ≡ placesCount → ((s : Slot) → placeOf (now (slots .entry)) s < n)
+        → Writes (blockOf S cs step (kindAt 7)) (now (out .entry)) (now (slots .entry)) n (now (out .exit)) (now (slots .exit)) r)
+        × (r ≤ n + 16) ⌝ }
+{
+    let mut next = n;
+    let mut t: u8 = 0;
+    while t < threads {
+        next = bare_entry(slots, out, threads, step, MAY, t, 0, next);
+        t += 1;
+    }
+    next
+}
+
+// Writes a value that there is one of, whose links the choices or the threads give.
+fn single_block(slots: &mut [u32], out: &mut [u8], threads: u8, step: u8, kind: u8, n: u32) -> u32
+    requires { ⌜ (n ≤ 1600000000) × (threads ≤ 4) × (kind < 41) × (ofStatement kind ≡ false) × (kind ≡ 31 → ⊥) ⌝ }
+    ensures { λ r. ⌜ ((S : Set) (cs : List ℕ) → S .threads ≡ threads → chained kind ≡ true → shape (kindAt kind) ≡ single → length (now (slots .entry)) ≡ placesCount
+        → ((s : Slot) → placeOf (now (slots .entry)) s < n)
         → Writes (blockOf S cs step (kindAt kind)) (now (out .entry)) (now (slots .entry)) n (now (out .exit)) (now (slots .exit)) r)
-        × (r ≤ n + 512) ⌝ }
+        × (r ≤ n + 12) ⌝ }
 {
-    let mut next = n;
-    // With the length known here, the compiler drops the tests of places.
-    if slots.len() != 5248 {
-        return next;
-    }
-    let mut a: u8 = 0;
-    while a < rows {
-        next = bare_line(slots, out, threads, step, kind, a, columns, next);
-        a += 1;
-    }
-    next
-}
-
-// Writes the values of a kind for a.
-fn line(
-    set: &[u8],
-    layout: Layout,
-    points: Points,
-    members: &[u8],
-    slots: &mut [u32],
-    out: &mut [u8],
-    step: u8,
-    kind: u8,
-    a: u8,
-    n: u32,
-) -> u32
-    requires { ⌜ (Limits layout points (now slots) n) × (n ≤ 1700000000) × (kind < 41) × (a < 4) × (Members (setBy (now set) layout) (now members)) × (ofStatement kind ≡ false) × (kind ≡ 31 → ⊥) × (given kind ≡ false) ⌝ }
-    ensures { λ r. ⌜ (Writes (lineOf (setBy (now (set .entry)) layout) (listed points) step (kindAt kind) a)
-        (now (out .entry)) (now (slots .entry)) n (now (out .exit)) (now (slots .exit)) r)
-        × (r ≤ n + 1152) ⌝ }
-{
-    let count = links::columns(layout, points, kind, a);
-    let mut next = n;
-    let mut b: u16 = 0;
-    while b < count {
-        next = entry(
-            set,
-            layout,
-            points,
-            members,
-            slots,
-            out,
-            step,
-            kind,
-            a,
-            b,
-            next,
-        );
-        b += 1;
-    }
-    next
-}
-
-// Writes all values of a kind whose links are not those of statements.
-fn plain_block(
-    set: &[u8],
-    layout: Layout,
-    points: Points,
-    members: &[u8],
-    slots: &mut [u32],
-    out: &mut [u8],
-    step: u8,
-    kind: u8,
-    n: u32,
-) -> u32
-    requires { ⌜ (Limits layout points (now slots) n) × (n ≤ 1600000000) × (kind < 41) × (Members (setBy (now set) layout) (now members)) × (ofStatement kind ≡ false) × (kind ≡ 31 → ⊥) × (given kind ≡ false) ⌝ }
-    ensures { λ r. ⌜ (Writes (blockOf (setBy (now (set .entry)) layout) (listed points) step (kindAt kind))
-        (now (out .entry)) (now (slots .entry)) n (now (out .exit)) (now (slots .exit)) r)
-        × (r ≤ n + 4608) ⌝ }
-{
-    let count = links::rows(layout, kind);
-    let mut next = n;
-    let mut a: u8 = 0;
-    while a < count {
-        next = line(
-            set,
-            layout,
-            points,
-            members,
-            slots,
-            out,
-            step,
-            kind,
-            a,
-            next,
-        );
-        a += 1;
-    }
-    next
+    let base = bases::put_base(slots, out, threads, step, kind, 0, 0, n);
+    let next = n + base.count;
+    let tree = links::chains::single_chain(slots, out, threads, kind, next, base.root);
+    places::set_place(slots, kind, 0, 0, tree.at);
+    tree.next
 }
 
 // Writes the value of a kind for a and b, whose links the statements of thread t give.
@@ -307,7 +161,7 @@ fn given_entry(
     t: u8,
     n: u32,
 ) -> u32
-    requires { ⌜ (n ≤ 1800000000) × (a < 4) × (b < 32) × (t < 4) ⌝ }
+    requires { ⌜ (n ≤ 1800000000) × (a < 4) × (b < 9) × (t < 4) ⌝ }
     ensures { λ r. ⌜ ((S : Set) (cs : List ℕ) → S .threads ≡ threads → GivenEntry S cs kind a b t → Members S (now (members .entry)) → length (now (slots .entry)) ≡ placesCount
         → ((s : Slot) → placeOf (now (slots .entry)) s < n)
         → Writes (entryOf S cs step (kindAt kind) a b) (now (out .entry)) (now (slots .entry)) n (now (out .exit)) (now (slots .exit)) r)
@@ -375,17 +229,15 @@ fn running_block(
 fn statement_block(
     set: &[u8],
     layout: Layout,
-    points: Points,
     members: &[u8],
     slots: &mut [u32],
     out: &mut [u8],
-    step: u8,
     kind: u8,
     n: u32,
 ) -> u32
-    requires { ⌜ (Limits layout points (now slots) n) × (n ≤ 1600000000) × (kind < 41) × (Members (setBy (now set) layout) (now members)) × (ofStatement kind ≡ true) × (Idle (setBy (now set) layout) (placeOf (now slots))) ⌝ }
-    ensures { λ r. ⌜ (Writes (blockOf (setBy (now (set .entry)) layout) (listed points) step (kindAt kind))
-        (now (out .entry)) (now (slots .entry)) n (now (out .exit)) (now (slots .exit)) r)
+    requires { ⌜ (n ≤ 1600000000) × (layout .threads ≤ 4) × (kind < 41) × (ofStatement kind ≡ true) ⌝ }
+    ensures { λ r. ⌜ ((points : Points) (step : ℕ) → Limits layout points (now (slots .entry)) n → Members (setBy (now (set .entry)) layout) (now (members .entry)) → Idle (setBy (now (set .entry)) layout) (placeOf (now (slots .entry)))
+        → Writes (blockOf (setBy (now (set .entry)) layout) (listed points) step (kindAt kind)) (now (out .entry)) (now (slots .entry)) n (now (out .exit)) (now (slots .exit)) r)
         × (r ≤ n + 4608) ⌝ }
 {
     let threads = layout.threads;
@@ -402,16 +254,14 @@ fn statement_block(
 fn flag_block(
     set: &[u8],
     layout: Layout,
-    points: Points,
     members: &[u8],
     slots: &mut [u32],
     out: &mut [u8],
-    step: u8,
     n: u32,
 ) -> u32
-    requires { ⌜ (Limits layout points (now slots) n) × (n ≤ 1600000000) × (Members (setBy (now set) layout) (now members)) ⌝ }
-    ensures { λ r. ⌜ (Writes (blockOf (setBy (now (set .entry)) layout) (listed points) step (kindAt 31))
-        (now (out .entry)) (now (slots .entry)) n (now (out .exit)) (now (slots .exit)) r)
+    requires { ⌜ (n ≤ 1600000000) × (layout .threads ≤ 4) ⌝ }
+    ensures { λ r. ⌜ ((points : Points) (step : ℕ) → Limits layout points (now (slots .entry)) n → Members (setBy (now (set .entry)) layout) (now (members .entry))
+        → Writes (blockOf (setBy (now (set .entry)) layout) (listed points) step (kindAt 31)) (now (out .entry)) (now (slots .entry)) n (now (out .exit)) (now (slots .exit)) r)
         × (r ≤ n + 4608) ⌝ }
 {
     let threads = layout.threads;
@@ -424,43 +274,10 @@ fn flag_block(
     next
 }
 
-// Whether a kind has one value for each thread, whose links the thread's statements give.
-fn by_thread(kind: u8) -> bool
-    ensures { λ r. ⌜ r ≡ byThread kind ⌝ }
-{
-    (kind == BARRED)
-        | (kind == VAL)
-        | (kind == ADR)
-        | (kind == MEM)
-        | (kind == ACCU)
-        | (kind == FULL)
-        | (kind == HALTED)
-}
+// ---- the kinds of a step, five at a time
 
-// Whether it has one before the first thread and one after each, whose links the thread's statements give.
-fn after_thread(kind: u8) -> bool
-    ensures { λ r. ⌜ r ≡ afterThread kind ⌝ }
-{
-    (kind == WRITE_TO) | (kind == WRITE_VALUE) | (kind == EXITS) | (kind == CODES)
-}
-
-// Whether the values of a kind are all there and have no links.
-fn is_bare(kind: u8) -> bool
-    ensures { λ r. ⌜ r ≡ bare kind ⌝ }
-{
-    (kind == CHOICE)
-        | (kind == SHUT)
-        | (kind == MAY)
-        | (kind == NONE)
-        | (kind == FIT)
-        | (kind == HEAP)
-        | (kind == ENDED)
-        | (kind == CODE)
-        | (kind == UNIT)
-}
-
-// Writes all values of a kind. Each sort of kind has its own loop: with one loop for all, the compiler keeps what each needs at hand for the others too.
-fn block(
+// The choice bits, which statements execute, which checkpoints are open and which are not, and which threads need an empty buffer.
+fn choice_kinds(
     set: &[u8],
     layout: Layout,
     points: Points,
@@ -468,40 +285,32 @@ fn block(
     slots: &mut [u32],
     out: &mut [u8],
     step: u8,
-    kind: u8,
     n: u32,
 ) -> u32
-    requires { ⌜ (Limits layout points (now slots) n) × (n ≤ 1600000000) × (kind < 41) × (Members (setBy (now set) layout) (now members)) × (Idle (setBy (now set) layout) (placeOf (now slots))) ⌝ }
-    ensures { λ r. ⌜ (Writes (blockOf (setBy (now (set .entry)) layout) (listed points) step (kindAt kind))
-        (now (out .entry)) (now (slots .entry)) n (now (out .exit)) (now (slots .exit)) r)
-        × (r ≤ n + 4608) ⌝ }
+    requires { ⌜ (n ≤ 1500000000) × (layout .threads ≤ 4) × (length (listed points) ≤ 8) ⌝ }
+    ensures { λ r. ⌜ (Limits layout points (now (slots .entry)) n → Members (setBy (now (set .entry)) layout) (now (members .entry)) → Idle (setBy (now (set .entry)) layout) (placeOf (now (slots .entry)))
+        → Writes (blocksOf (setBy (now (set .entry)) layout) (listed points) step 0 5) (now (out .entry)) (now (slots .entry)) n (now (out .exit)) (now (slots .exit)) r)
+        × (r ≤ n + 23040) ⌝ }
 {
-    // Known lengths make the places' tests of an index superfluous for the compiler.
-    if slots.len() != 5248 {
-        return n;
-    }
-    if bases::of_statement(kind) {
-        return statement_block(set, layout, points, members, slots, out, step, kind, n);
-    }
-    if by_thread(kind) {
-        return register_block(members, slots, out, layout.threads, step, kind, n);
-    }
-    if after_thread(kind) {
-        return running_block(members, slots, out, layout.threads, step, kind, n);
-    }
-    if kind == FLAG {
-        return flag_block(set, layout, points, members, slots, out, step, n);
-    }
-    if is_bare(kind) {
-        let rows = links::rows(layout, kind);
-        let columns = links::columns(layout, points, kind, 0);
-        return bare_block(slots, out, layout.threads, step, kind, rows, columns, n);
-    }
-    plain_block(set, layout, points, members, slots, out, step, kind, n)
+    let threads = layout.threads;
+    let choices = 2 * (threads as u16);
+    let taken = bare_line(slots, out, threads, step, CHOICE, choices, n);
+    let active = statement_block(set, layout, members, slots, out, ACTIVE, taken);
+    let open = marks::openings(set, layout, points, members, slots, out, step, active);
+    let shut = bare_line(
+        slots,
+        out,
+        threads,
+        step,
+        SHUT,
+        places::points_count(points),
+        open,
+    );
+    register_block(members, slots, out, threads, step, BARRED, shut)
 }
 
-// Writes all values of some kinds.
-fn blocks(
+// Which marks hold a thread up, which threads wait, which may execute; what comes before each choice, and which choices are permitted.
+fn permit_kinds(
     set: &[u8],
     layout: Layout,
     points: Points,
@@ -509,32 +318,177 @@ fn blocks(
     slots: &mut [u32],
     out: &mut [u8],
     step: u8,
-    from: u8,
-    count: u8,
     n: u32,
 ) -> u32
-    requires { ⌜ (Limits layout points (now slots) n) × (n ≤ 1500000000) × (from + count < 41) × (Members (setBy (now set) layout) (now members)) × (Idle (setBy (now set) layout) (placeOf (now slots))) ⌝ }
-    ensures { λ r. ⌜ (Writes (blocksOf (setBy (now (set .entry)) layout) (listed points) step from count)
-        (now (out .entry)) (now (slots .entry)) n (now (out .exit)) (now (slots .exit)) r)
-        × (r ≤ n + 188928) ⌝ }
+    requires { ⌜ (n ≤ 1500000000) × (layout .threads ≤ 4) ⌝ }
+    ensures { λ r. ⌜ (Limits layout points (now (slots .entry)) n → Members (setBy (now (set .entry)) layout) (now (members .entry)) → Idle (setBy (now (set .entry)) layout) (placeOf (now (slots .entry)))
+        → Writes (blocksOf (setBy (now (set .entry)) layout) (listed points) step 5 5) (now (out .entry)) (now (slots .entry)) n (now (out .exit)) (now (slots .exit)) r)
+        × (r ≤ n + 23040) ⌝ }
 {
-    let mut next = n;
-    let mut i: u8 = 0;
-    while i < count {
-        next = block(
-            set,
-            layout,
-            points,
-            members,
-            slots,
-            out,
-            step,
-            from + i,
-            next,
-        );
-        i += 1;
-    }
-    next
+    let threads = layout.threads;
+    let choices = 2 * (threads as u16);
+    let held = marks::marks(set, layout, points, members, slots, out, step, HELD, n);
+    let waiting = marks::waits(set, layout, points, members, slots, out, step, held);
+    let may = may_block(slots, out, threads, step, waiting);
+    let none = bare_line(slots, out, threads, step, NONE, choices + 1, may);
+    bare_line(slots, out, threads, step, FIT, choices, none)
+}
+
+// What a step is decided by.
+fn deciding_kinds(
+    set: &[u8],
+    layout: Layout,
+    points: Points,
+    members: &[u8],
+    slots: &mut [u32],
+    out: &mut [u8],
+    step: u8,
+    n: u32,
+) -> u32
+    requires { ⌜ (n ≤ 1400000000) × (layout .threads ≤ 4) × (length (listed points) ≤ 8) ⌝ }
+    ensures { λ r. ⌜ (Limits layout points (now (slots .entry)) n → Members (setBy (now (set .entry)) layout) (now (members .entry)) → Idle (setBy (now (set .entry)) layout) (placeOf (now (slots .entry)))
+        → Writes (blocksOf (setBy (now (set .entry)) layout) (listed points) step 0 11) (now (out .entry)) (now (slots .entry)) n (now (out .exit)) (now (slots .exit)) r)
+        × (r ≤ n + 50688) ⌝ }
+{
+    let chosen = choice_kinds(set, layout, points, members, slots, out, step, n);
+    let permitted = permit_kinds(set, layout, points, members, slots, out, step, chosen);
+    single_block(slots, out, layout.threads, step, ONE, permitted)
+}
+
+// Of the statements: addresses, words loaded, swaps, results and tests.
+fn statement_kinds(
+    set: &[u8],
+    layout: Layout,
+    members: &[u8],
+    slots: &mut [u32],
+    out: &mut [u8],
+    n: u32,
+) -> u32
+    requires { ⌜ (n ≤ 1500000000) × (layout .threads ≤ 4) ⌝ }
+    ensures { λ r. ⌜ ((points : Points) (step : ℕ) → Limits layout points (now (slots .entry)) n → Members (setBy (now (set .entry)) layout) (now (members .entry)) → Idle (setBy (now (set .entry)) layout) (placeOf (now (slots .entry)))
+        → Writes (blocksOf (setBy (now (set .entry)) layout) (listed points) step 11 5) (now (out .entry)) (now (slots .entry)) n (now (out .exit)) (now (slots .exit)) r)
+        × (r ≤ n + 23040) ⌝ }
+{
+    let addresses = statement_block(set, layout, members, slots, out, ADDRESS, n);
+    let loaded = statement_block(set, layout, members, slots, out, LOADED, addresses);
+    let swaps = statement_block(set, layout, members, slots, out, SWAPS, loaded);
+    let results = statement_block(set, layout, members, slots, out, RESULT, swaps);
+    statement_block(set, layout, members, slots, out, TEST, results)
+}
+
+// Which tests do not hold, and the cell that is written: its address and its value.
+fn write_kinds(
+    set: &[u8],
+    layout: Layout,
+    members: &[u8],
+    slots: &mut [u32],
+    out: &mut [u8],
+    step: u8,
+    n: u32,
+) -> u32
+    requires { ⌜ (n ≤ 1500000000) × (layout .threads ≤ 4) ⌝ }
+    ensures { λ r. ⌜ ((points : Points) → Limits layout points (now (slots .entry)) n → Members (setBy (now (set .entry)) layout) (now (members .entry)) → Idle (setBy (now (set .entry)) layout) (placeOf (now (slots .entry)))
+        → Writes (blocksOf (setBy (now (set .entry)) layout) (listed points) step 16 5) (now (out .entry)) (now (slots .entry)) n (now (out .exit)) (now (slots .exit)) r)
+        × (r ≤ n + 23040) ⌝ }
+{
+    let threads = layout.threads;
+    let untests = statement_block(set, layout, members, slots, out, UNTEST, n);
+    let flush_to = single_block(slots, out, threads, step, FLUSH_TO, untests);
+    let write_to = running_block(members, slots, out, threads, step, WRITE_TO, flush_to);
+    let flush_value = single_block(slots, out, threads, step, FLUSH_VALUE, write_to);
+    running_block(members, slots, out, threads, step, WRITE_VALUE, flush_value)
+}
+
+// The marks before open checkpoints are cleared, the EXITs with their codes, the memory, and the words in the buffers.
+fn exit_kinds(
+    set: &[u8],
+    layout: Layout,
+    points: Points,
+    members: &[u8],
+    slots: &mut [u32],
+    out: &mut [u8],
+    step: u8,
+    n: u32,
+) -> u32
+    requires { ⌜ (n ≤ 1500000000) × (layout .threads ≤ 4) ⌝ }
+    ensures { λ r. ⌜ (Limits layout points (now (slots .entry)) n → Members (setBy (now (set .entry)) layout) (now (members .entry)) → Idle (setBy (now (set .entry)) layout) (placeOf (now (slots .entry)))
+        → Writes (blocksOf (setBy (now (set .entry)) layout) (listed points) step 21 5) (now (out .entry)) (now (slots .entry)) n (now (out .exit)) (now (slots .exit)) r)
+        × (r ≤ n + 23040) ⌝ }
+{
+    let threads = layout.threads;
+    let raised = marks::marks(set, layout, points, members, slots, out, step, RAISED, n);
+    let exits = running_block(members, slots, out, threads, step, EXITS, raised);
+    let codes = running_block(members, slots, out, threads, step, CODES, exits);
+    let heap = bare_entry(slots, out, threads, step, HEAP, 0, 0, codes);
+    register_block(members, slots, out, threads, step, VAL, heap)
+}
+
+// The other registers.
+fn register_kinds(
+    members: &[u8],
+    slots: &mut [u32],
+    out: &mut [u8],
+    threads: u8,
+    step: u8,
+    n: u32,
+) -> u32
+    requires { ⌜ (n ≤ 1500000000) × (threads ≤ 4) ⌝ }
+    ensures { λ r. ⌜ ((bytes : List ℕ) (layout : Layout) (points : Points) → layout .threads ≡ threads → Limits layout points (now (slots .entry)) n → Members (setBy bytes layout) (now (members .entry)) → Idle (setBy bytes layout) (placeOf (now (slots .entry)))
+        → Writes (blocksOf (setBy bytes layout) (listed points) step 26 5) (now (out .entry)) (now (slots .entry)) n (now (out .exit)) (now (slots .exit)) r)
+        × (r ≤ n + 23040) ⌝ }
+{
+    let adr = register_block(members, slots, out, threads, step, ADR, n);
+    let mem = register_block(members, slots, out, threads, step, MEM, adr);
+    let accu = register_block(members, slots, out, threads, step, ACCU, mem);
+    let full = register_block(members, slots, out, threads, step, FULL, accu);
+    register_block(members, slots, out, threads, step, HALTED, full)
+}
+
+// The flags, the marks, and whether and how the machine has ended.
+fn end_kinds(
+    set: &[u8],
+    layout: Layout,
+    points: Points,
+    members: &[u8],
+    slots: &mut [u32],
+    out: &mut [u8],
+    step: u8,
+    n: u32,
+) -> u32
+    requires { ⌜ (n ≤ 1500000000) × (layout .threads ≤ 4) ⌝ }
+    ensures { λ r. ⌜ (Limits layout points (now (slots .entry)) n → Members (setBy (now (set .entry)) layout) (now (members .entry)) → Idle (setBy (now (set .entry)) layout) (placeOf (now (slots .entry)))
+        → Writes (blocksOf (setBy (now (set .entry)) layout) (listed points) step 31 5) (now (out .entry)) (now (slots .entry)) n (now (out .exit)) (now (slots .exit)) r)
+        × (r ≤ n + 23040) ⌝ }
+{
+    let threads = layout.threads;
+    let flags = flag_block(set, layout, members, slots, out, n);
+    let marked = marks::marks(set, layout, points, members, slots, out, step, MARK, flags);
+    let halts = single_block(slots, out, threads, step, HALTS, marked);
+    let ended = bare_entry(slots, out, threads, step, ENDED, 0, 0, halts);
+    bare_entry(slots, out, threads, step, CODE, 0, 0, ended)
+}
+
+// What a step does.
+fn acting_kinds(
+    set: &[u8],
+    layout: Layout,
+    points: Points,
+    members: &[u8],
+    slots: &mut [u32],
+    out: &mut [u8],
+    step: u8,
+    n: u32,
+) -> u32
+    requires { ⌜ (n ≤ 1450000000) × (layout .threads ≤ 4) ⌝ }
+    ensures { λ r. ⌜ (Limits layout points (now (slots .entry)) n → Members (setBy (now (set .entry)) layout) (now (members .entry)) → Idle (setBy (now (set .entry)) layout) (placeOf (now (slots .entry)))
+        → Writes (blocksOf (setBy (now (set .entry)) layout) (listed points) step 11 25) (now (out .entry)) (now (slots .entry)) n (now (out .exit)) (now (slots .exit)) r)
+        × (r ≤ n + 115200) ⌝ }
+{
+    let statements = statement_kinds(set, layout, members, slots, out, n);
+    let written = write_kinds(set, layout, members, slots, out, step, statements);
+    let exits = exit_kinds(set, layout, points, members, slots, out, step, written);
+    let registers = register_kinds(members, slots, out, layout.threads, step, exits);
+    end_kinds(set, layout, points, members, slots, out, step, registers)
 }
 
 // ---- the parts of a table
@@ -584,9 +538,13 @@ fn one_step(
         (now (out .entry)) (now (slots .entry)) n (now (out .exit)) (now (slots .exit)) r)
         × (r ≤ n + 377858) ⌝ }
 {
-    let chosen = blocks(set, layout, points, members, slots, out, step, 0, 11, n);
-    let next = rule(layout, slots, out, chosen);
-    blocks(set, layout, points, members, slots, out, step, 11, 25, next)
+    // With the length known here, the compiler drops the tests of places.
+    if slots.len() != 2304 {
+        return n;
+    }
+    let decided = deciding_kinds(set, layout, points, members, slots, out, step, n);
+    let next = rule(layout, slots, out, decided);
+    acting_kinds(set, layout, points, members, slots, out, step, next)
 }
 
 // Writes the steps.
@@ -730,8 +688,8 @@ fn before_steps(
         (now (out .entry)) (now (slots .entry)) 4 (now (out .exit)) (now (slots .exit)) r)
         × (r ≤ 9860) ⌝ }
 {
-    let one = block(set, layout, points, members, slots, out, 0, UNIT, 4);
-    let all = block(set, layout, points, members, slots, out, 0, ARGUMENT, one);
+    let one = bare_entry(slots, out, layout.threads, 0, UNIT, 0, 0, 4);
+    let all = statement_block(set, layout, members, slots, out, ARGUMENT, one);
     demands(map, slots, out, all)
 }
 
@@ -938,7 +896,7 @@ fn write(set: &[u8], layout: Layout, points: Points, map: &[u8], bound: u8, tabl
 {
     let mut members = [0u8; 1452];
     links::members::make(set, layout, &mut members);
-    let mut slots = [0u32; 5248];
+    let mut slots = [0u32; 2304];
     firsts(table);
     let first = before_steps(set, layout, points, &members, map, &mut slots, table);
     let last = all_steps(

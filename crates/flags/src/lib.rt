@@ -205,7 +205,7 @@ pub fn flags(
     if 32 < count {
         return n;
     }
-    if slots.len() != 5248 {
+    if slots.len() != 2304 {
         return n;
     }
     if 1700000000 < n {

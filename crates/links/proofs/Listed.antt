@@ -1,5 +1,5 @@
 -- Laws of the members of a class: how many, in which order, what they are, and the chain over them. Assumes nothing.
-use Prim.Native.Nat.{ℕ, zero, suc, _+_, _-_, _≤_, _<_}
+use Prim.Native.Nat.{ℕ, zero, suc, _+_, _≤_, _<_}
 use mathlib.Core.Path.{_≡_, refl, ap, sym, _∙_, subst}
 use mathlib.Core.Bool.{Bool, true, false, cond, _&&_, true≢false}
 use mathlib.Core.List.{List, [], _∷_, _++_}
@@ -9,7 +9,7 @@ use native.Mathlib.Decide.{decLt, ℕ-discrete}
 use lib.ListN.{length, getD, length-append, List·getD-append}
 use lib.Seq.{getD-append-seam}
 use borrow.Author.Tests.{ne-eqb}
-use Rattle.base.proofs.Choice.{passed, refuted, and-false, and-right-false}
+use Rattle.base.proofs.Choice.{passed, and-false, and-right-false}
 use Rattle.records.specs.Sets.{Set}
 use Rattle.encoding.specs.Slots.{Term}
 use Rattle.encoding.specs.Steps.{Link, skip, linked, chain}
@@ -125,30 +125,6 @@ module _ (S : Set) (c t : ℕ) where
   unfolding members
   members-order zero = λ (p q : ℕ) (l : p < q) (h : q < 0). absurd (omega arith)
   members-order (suc k) = added-order (inClass c (S .statement t k .number)) (members S c t k) k (members-below k) (members-order k)
-
-  -- what stands after one member and before the next is not of the class
-  pub members-gap : (k q x : ℕ) → q ≤ length (members S c t k) → x < k → (0 < q → getD (members S c t k) (q - 1) 0 < x) →
-      (q < length (members S c t k) → x < getD (members S c t k) q 0) → inClass c (S .statement t x .number) ≡ false
-  members-gap k q x most below after before = refuted (inClass c (S .statement t x .number)) (λ e. none (members-at k x below e))
-    where
-      none : At (members S c t k) x → ⊥
-      none a =
-          let h = a .here in
-          let i = a .inside in
-          elim (decLt (a .place) q) [
-            | yes l ↦
-                let last = after (omega arith) in
-                elim (ℕ-discrete (a .place) (q - 1)) [
-                  | yes same ↦ let e : getD (members S c t k) (q - 1) 0 ≡ x = ap (λ (p : ℕ). getD (members S c t k) p 0) (sym same) ∙ h in omega arith
-                  | no other ↦ let o = members-order k (a .place) (q - 1) (omega arith) (omega arith) in omega arith
-                ]
-            | no l ↦
-                let next = before (omega arith) in
-                elim (ℕ-discrete (a .place) q) [
-                  | yes same ↦ let e : getD (members S c t k) q 0 ≡ x = ap (λ (p : ℕ). getD (members S c t k) p 0) (sym same) ∙ h in omega arith
-                  | no other ↦ let o = members-order k q (a .place) (omega arith) i in omega arith
-                ]
-          ]
 
 -- past the last class nothing is of a class
 pub class-past : (c n : ℕ) → 10 < c → inClass c n ≡ false

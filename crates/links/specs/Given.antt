@@ -1,7 +1,7 @@
 -- The chains over the statements of a thread: the link that a statement gives, by the kind's number and the statement's instruction. Assumes nothing.
 use Prim.Native.Nat.{ℕ, _<_}
 use mathlib.Core.Path.{_≡_}
-use mathlib.Core.Bool.{Bool, true, cond, _||_}
+use mathlib.Core.Bool.{Bool, true, cond}
 use mathlib.Core.List.{List}
 use lib.Dec.{eqb}
 use Rattle.records.specs.Instructions.{STORE, MEM, CAS, HALT, EXIT}
@@ -37,12 +37,6 @@ givenLink kind t i n =
 -- the links that the statements of thread t give to the chain of a kind
 abbrev pub givenBy : Set → (kind t i : ℕ) → Link
 givenBy S kind t i = givenLink kind t i (S .statement t i .number)
-
--- the kinds by number to which `givenLink` gives links: those of shape perThread, then those of shape beforeThread
-abbrev pub given : ℕ → Bool
-given kind =
-    eqb kind 4 || eqb kind 25 || eqb kind 26 || eqb kind 27 || eqb kind 28 || eqb kind 29 || eqb kind 30
-    || eqb kind 18 || eqb kind 20 || eqb kind 22 || eqb kind 23
 
 -- ---- the same by class
 

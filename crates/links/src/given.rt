@@ -125,7 +125,7 @@ fn fixed_links(
     if 4 <= t {
         return tree;
     }
-    if slots.len() != 5248 {
+    if slots.len() != 2304 {
         return tree;
     }
     if members.len() != 1452 {
@@ -180,7 +180,7 @@ fn own_links(
     if 4 <= t {
         return tree;
     }
-    if slots.len() != 5248 {
+    if slots.len() != 2304 {
         return tree;
     }
     if members.len() != 1452 {

@@ -1,18 +1,14 @@
-// The links of a table's chains, and what there is of each kind (crate encoding: `link`, `links`, `rows`, `columns`, `kept`).
+// The links of a table's chains, and chains written over a tree (crate encoding: `link`, `links`, `chain`).
 pub mod chains;
 pub mod checks;
 pub mod edges;
 mod given;
 pub mod members;
 mod parts;
-mod shapes;
 mod statements;
 mod written;
 
 pub use given::given_chain;
-pub use shapes::columns;
-pub use shapes::kept;
-pub use shapes::rows;
 pub use statements::count;
 pub use statements::first;
 pub use written::Root;

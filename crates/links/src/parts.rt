@@ -1,4 +1,4 @@
-// The links of a chain but those of flags: over statements, threads, checkpoints and choices.
+// The links of chains over threads, checkpoints and choices, and a statement's link to bit 1.
 ghost use mathlib.Core.Path.{_≡_};
 ghost use mathlib.Core.Bool.{cond};
 ghost use Prim.Native.Nat.{_+_};
@@ -69,24 +69,24 @@ fn thread_place(slots: &[u32], kind: u8, t: u16, b: u16, start: u64) -> u64
     start
 }
 
-// The record of the bit by which thread t flushes.
-fn flush_place(slots: &[u32], layout: Layout, t: u16) -> u64
-    ensures { λ r. ⌜ r ≡ placeFrom (now (slots .entry)) 0 0 (layout .threads + t) 0 ⌝ }
+// The record of the bit by which thread t, of so many threads, flushes.
+fn flush_place(slots: &[u32], threads: u8, t: u16) -> u64
+    ensures { λ r. ⌜ r ≡ placeFrom (now (slots .entry)) 0 0 (threads + t) 0 ⌝ }
 {
     if t < 32 {
-        return place(slots, kinds::CHOICE, 0, (layout.threads as u16) + t, BIT0);
+        return place(slots, kinds::CHOICE, 0, (threads as u16) + t, BIT0);
     }
     BIT0
 }
 
-// If thread t flushes then its word of kind `effect`.
-pub fn flushed(layout: Layout, slots: &[u32], effect: u8, t: u16) -> Link
-    ensures { λ r. ⌜ r ≡ ifLink 2 (placeFrom (now (slots .entry)) 0 0 (layout .threads + t) 0) (placeFrom (now (slots .entry)) effect t 0 2) ⌝ }
+// If thread t, of so many threads, flushes then its word of kind `effect`.
+pub fn flushed(threads: u8, slots: &[u32], effect: u8, t: u16) -> Link
+    ensures { λ r. ⌜ r ≡ ifLink 2 (placeFrom (now (slots .entry)) 0 0 (threads + t) 0) (placeFrom (now (slots .entry)) effect t 0 2) ⌝ }
 {
     Link {
         operation: IF,
         sort: WORD,
-        a: flush_place(slots, layout, t),
+        a: flush_place(slots, threads, t),
         b: thread_place(slots, effect, t, 0, WORD0),
     }
 }

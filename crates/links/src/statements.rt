@@ -1,8 +1,6 @@
 // Statements as the links of a table see them: how many a thread has, where they stand, and classes of instructions.
 ghost use mathlib.Core.Path.{_≡_};
-ghost use mathlib.Core.Bool.{cond};
-ghost use Prim.Native.Nat.{_-_, _<_};
-ghost use lib.Dec.{eqb};
+ghost use Prim.Native.Nat.{_<_};
 ghost use lib.ListN.{getD};
 ghost use Rattle.step.specs.Machine.{needsEmpty};
 ghost use Rattle.encoding.specs.Steps.{loads as loadsOf, setsAccu, isConditional, isPlain, rests as restsOf};
@@ -50,20 +48,6 @@ pub fn first(layout: Layout, t: u8) -> u32
     let thread = t as usize;
     if thread < 4 {
         return wide_word(layout.starts[thread]);
-    }
-    0
-}
-
-// How many statements the thread before t has, 0 where t is 0.
-pub fn count_before(layout: Layout, t: u16) -> u16
-    ensures { λ r. ⌜ r ≡ cond (eqb t 0) 0 (getD (layout .counts) (t - 1) 0) ⌝ }
-{
-    if t == 0 {
-        return 0;
-    }
-    let thread = (t - 1) as usize;
-    if thread < 4 {
-        return layout.counts[thread];
     }
     0
 }

@@ -1,116 +1,21 @@
--- Entries, lines and blocks: their number, what they depend on, and how they are written. Assumes nothing.
-use Prim.Native.Nat.{ℕ, _+_, _-_, _≤_, _<_}
+-- Entries and lines: what they depend on, and how they are written. Assumes nothing.
+use Prim.Native.Nat.{ℕ}
 use mathlib.Core.Path.{_≡_, refl, ap, sym, _∙_, subst}
-use mathlib.Core.Bool.{Bool, true, false, cond, not, _&&_, _||_, true≢false}
+use mathlib.Core.Bool.{true, false}
 use mathlib.Core.List.{List, [], _∷_}
-use native.Mathlib.Omega.{arith}
-use lib.Dec.{eqb}
 use lib.ListN.{length}
-use borrow.Author.Tests.{eqb-true}
-use Rattle.base.specs.Below.{every}
-use Rattle.base.proofs.Below.{every-at}
-use Rattle.base.proofs.Choice.{cond-both, chosen, passed, and-left, and-right}
+use Rattle.base.proofs.Choice.{chosen, passed}
 use Rattle.records.specs.Sets.{Set}
-use Rattle.table.specs.Programs.{next, Command, sets, put, compiled, nextAfter, placesAfter}
-use Rattle.encoding.specs.Slots.{Kind, choice, active, opening, shut, barred, held, waits, may, none, fit, one, address, loaded, swaps, result, test, untest, flushTo, writeTo, flushValue, writeValue, raised, exits, codes, heap, val, adr, mem, accu, full, halted, flag, mark, halts, ended, code, no, yes, nought, unit, argument, Slot, slot, same, Term, kinds, kindAt}
-use Rattle.encoding.specs.Steps.{Shape, perChoice, perThread, perStatement, perCheckpoint, perMark, beforeThread, beforeChoice, single, shape, chain, link, links, base, tree, rows, columns, kept, entry, line, leads}
+use Rattle.table.specs.Programs.{Command, sets, put, compiled, nextAfter, placesAfter}
+use Rattle.encoding.specs.Slots.{Kind, choice, active, opening, shut, barred, held, waits, may, none, fit, one, address, loaded, swaps, result, test, untest, flushTo, writeTo, flushValue, writeValue, raised, exits, codes, heap, val, adr, mem, accu, full, halted, flag, mark, halts, ended, code, no, yes, nought, unit, argument, Slot, slot, same, Term, kindAt}
+use Rattle.encoding.specs.Steps.{Shape, perChoice, perThread, perStatement, perCheckpoint, perMark, beforeThread, beforeChoice, single, shape, chain, link, links, base, tree, kept, entry, line}
 use Rattle.places.specs.Places.{placeOf}
 use Rattle.places.specs.Pieces.{Writes, WritesTree}
 use Rattle.places.proofs.Pieces.{writes-none}
 
--- ---- limits
-
-module _ (S : Set) (cs : List ℕ) (four : S .threads ≤ 4) (few : (t : ℕ) → S .count t ≤ 32) (points : length cs ≤ 8) where
-  before : (t : ℕ) → cond (eqb t 0) 0 (S .count (t - 1)) ≤ 32
-  before t = cond-both (λ (n : ℕ). n ≤ 32) (eqb t 0) (omega arith) (few (t - 1))
-
-  -- a chain has at most 32 links
-  pub links-most : (kind : Kind) (a b : ℕ) → links S cs 0 kind a b ≤ 32
-  links-most choice a b = omega arith
-  links-most active a b = omega arith
-  links-most opening a b = omega arith
-  links-most shut a b = omega arith
-  links-most barred a b = few a
-  links-most held a b = omega arith
-  links-most waits a b = omega arith
-  links-most may a b = omega arith
-  links-most none a b = omega arith
-  links-most fit a b = omega arith
-  links-most one a b = omega arith
-  links-most address a b = omega arith
-  links-most loaded a b = omega arith
-  links-most swaps a b = omega arith
-  links-most result a b = omega arith
-  links-most test a b = omega arith
-  links-most untest a b = omega arith
-  links-most flushTo a b = omega arith
-  links-most writeTo a b = before b
-  links-most flushValue a b = omega arith
-  links-most writeValue a b = before b
-  links-most raised a b = few a
-  links-most exits a b = before b
-  links-most codes a b = before b
-  links-most heap a b = omega arith
-  links-most val a b = few a
-  links-most adr a b = few a
-  links-most mem a b = few a
-  links-most accu a b = few a
-  links-most full a b = few a
-  links-most halted a b = few a
-  links-most flag a b = few a
-  links-most mark a b = omega arith
-  links-most halts a b = omega arith
-  links-most ended a b = omega arith
-  links-most code a b = omega arith
-  links-most no a b = omega arith
-  links-most yes a b = omega arith
-  links-most nought a b = omega arith
-  links-most unit a b = omega arith
-  links-most argument a b = omega arith
-
-  pub columns-most : (s : Shape) (a : ℕ) → columns S cs 0 s a ≤ 32
-  columns-most perChoice a = omega arith
-  columns-most perThread a = omega arith
-  columns-most perStatement a = few a
-  columns-most perCheckpoint a = omega arith
-  columns-most perMark a = omega arith
-  columns-most beforeThread a = omega arith
-  columns-most beforeChoice a = omega arith
-  columns-most single a = omega arith
-
-  pub rows-most : (s : Shape) → rows S cs 0 s ≤ 4
-  rows-most perChoice = omega arith
-  rows-most perThread = four
-  rows-most perStatement = four
-  rows-most perCheckpoint = omega arith
-  rows-most perMark = four
-  rows-most beforeThread = omega arith
-  rows-most beforeChoice = omega arith
-  rows-most single = omega arith
-
 -- ---- only a base depends on the step
 
 module _ (S : Set) (cs : List ℕ) (k : ℕ) where
-  pub rows-step : (s : Shape) → rows S cs 0 s ≡ rows S cs k s
-  rows-step perChoice = refl
-  rows-step perThread = refl
-  rows-step perStatement = refl
-  rows-step perCheckpoint = refl
-  rows-step perMark = refl
-  rows-step beforeThread = refl
-  rows-step beforeChoice = refl
-  rows-step single = refl
-
-  pub columns-step : (s : Shape) (a : ℕ) → columns S cs 0 s a ≡ columns S cs k s a
-  columns-step perChoice a = refl
-  columns-step perThread a = refl
-  columns-step perStatement a = refl
-  columns-step perCheckpoint a = refl
-  columns-step perMark a = refl
-  columns-step beforeThread a = refl
-  columns-step beforeChoice a = refl
-  columns-step single a = refl
-
   pub kept-step : (s : Shape) (a b : ℕ) → kept S cs 0 s a b ≡ kept S cs k s a b
   kept-step perChoice a b = refl
   kept-step perThread a b = refl

@@ -1,4 +1,5 @@
 -- Laws of places.
+pub mod Rows
 pub mod Stores
 pub mod Starts
 pub mod Pieces

@@ -12,7 +12,7 @@ use Rattle.places.proofs.Stores.{place-unset}
 
 module _ (slots : List ℕ) (zeros : (i : ℕ) → getD slots i 0 ≡ 0) where
   kept-zero : (kind a b : ℕ) → keptAt slots kind a b ≡ 0
-  kept-zero kind a b = go (fits a b)
+  kept-zero kind a b = go (fits kind a b)
     where
       go : (t : Bool) → cond t (getD slots (indexOf kind a b) 0) 0 ≡ 0
       go true = zeros (indexOf kind a b)

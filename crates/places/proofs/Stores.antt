@@ -11,7 +11,8 @@ use borrow.Author.Tests.{lt-ltb, le-ltb, ltb-true, eq-eqb, ne-eqb, eqb-true}
 use Rattle.base.proofs.Choice.{chosen, passed, and-true, and-false, and-right-false, and-left, and-right, clash}
 use Rattle.table.specs.Programs.{put}
 use Rattle.encoding.specs.Slots.{Kind, choice, kinds, kindAt, kindNumber, Slot, slot, same, startPlace}
-use Rattle.places.specs.Places.{indexOf, fits, keptAt, placeFrom, placeOf}
+use Rattle.places.specs.Places.{width, indexOf, fits, keptAt, placeFrom, placeOf}
+use Rattle.places.proofs.Rows.{same-kind, same-row-number, same-column-number}
 
 -- ---- kinds by number
 
@@ -37,14 +38,14 @@ pub past-take : (n : ℕ) (l : List ℕ) (i : ℕ) → n ≤ i → getD (take n 
 past-take n l i h = List·getD-eq-default (take n l) 0 (let e = length-take n l in omega arith)
 
 module _ (slots : List ℕ) (kind a b : ℕ) where
-  pub kept-in : a < 4 → b < 32 → keptAt slots kind a b ≡ getD slots (indexOf kind a b) 0
-  kept-in h k = chosen _ _ (and-true (lt-ltb a 4 h) (lt-ltb b 32 k))
+  pub kept-in : a < 4 → b < width kind → keptAt slots kind a b ≡ getD slots (indexOf kind a b) 0
+  kept-in h k = chosen _ _ (and-true (lt-ltb a 4 h) (lt-ltb b (width kind) k))
 
   pub kept-no-row : 4 ≤ a → keptAt slots kind a b ≡ 0
-  kept-no-row h = passed _ _ (and-false (ltb b 32) (le-ltb a 4 h))
+  kept-no-row h = passed _ _ (and-false (ltb b (width kind)) (le-ltb a 4 h))
 
-  pub kept-no-column : 32 ≤ b → keptAt slots kind a b ≡ 0
-  kept-no-column h = passed _ _ (and-right-false (ltb a 4) (le-ltb b 32 h))
+  pub kept-no-column : width kind ≤ b → keptAt slots kind a b ≡ 0
+  kept-no-column h = passed _ _ (and-right-false (ltb a 4) (le-ltb b (width kind) h))
 
   -- where a value lies that was not set, and one that was
   pub place-unset : (start : ℕ) → keptAt slots kind a b ≡ 0 → placeFrom slots kind a b start ≡ start
@@ -55,7 +56,7 @@ module _ (slots : List ℕ) (kind a b : ℕ) where
 
 -- ---- what a store changes
 
-module _ (slots : List ℕ) (kind a b index : ℕ) (row : a < 4) (column : b < 32) (room : indexOf kind a b < length slots) where
+module _ (slots : List ℕ) (kind a b index : ℕ) (row : a < 4) (column : b < width kind) (room : indexOf kind a b < length slots) where
   abbrev stored : List ℕ
   stored = set slots (indexOf kind a b) (index + 1)
 
@@ -69,14 +70,15 @@ module _ (slots : List ℕ) (kind a b index : ℕ) (row : a < 4) (column : b < 3
 
   -- every other one
   kept-elsewhere : (l c d : ℕ) → (l ≡ kind → c ≡ a → d ≡ b → ⊥) → keptAt stored l c d ≡ keptAt slots l c d
-  kept-elsewhere l c d f = go (fits c d) refl
+  kept-elsewhere l c d f = go (fits l c d) refl
     where
-      go : (t : Bool) → fits c d ≡ t → keptAt stored l c d ≡ keptAt slots l c d
+      go : (t : Bool) → fits l c d ≡ t → keptAt stored l c d ≡ keptAt slots l c d
       go true e =
           let p : c < 4 = ltb-true c 4 (and-left _ _ e) in
-          let q : d < 32 = ltb-true d 32 (and-right (ltb c 4) _ e) in
-          ap (λ (n : ℕ). cond (fits c d) n 0)
-          (getD-set-other slots (indexOf kind a b) (indexOf l c d) (index + 1) 0 (λ (i : indexOf l c d ≡ indexOf kind a b). f (omega arith) (omega arith) (omega arith)))
+          let q : d < width l = ltb-true d (width l) (and-right (ltb c 4) _ e) in
+          ap (λ (n : ℕ). cond (fits l c d) n 0)
+          (getD-set-other slots (indexOf kind a b) (indexOf l c d) (index + 1) 0
+          (λ (i : indexOf l c d ≡ indexOf kind a b). f (same-kind kind a b l c d row column p q i) (same-row-number kind a b l c d row column p q i) (same-column-number kind a b l c d row column p q i)))
       go false e = passed _ _ e ∙ sym (passed _ _ e)
 
   elsewhere : (l c d start : ℕ) → (l ≡ kind → c ≡ a → d ≡ b → ⊥) → placeFrom stored l c d start ≡ placeFrom slots l c d start

@@ -2,9 +2,10 @@
 ghost use mathlib.Core.Path.{_≡_};
 ghost use Prim.Native.Nat.{_<_};
 ghost use lib.ListN.{length, getD};
+ghost use Rattle.base.specs.Below.{number};
 ghost use Rattle.table.specs.Programs.{put};
 ghost use Rattle.encoding.specs.Slots.{slot, same, kindAt};
-ghost use Rattle.places.specs.Places.{keptAt, placeFrom, placeOf, listed, size};
+ghost use Rattle.places.specs.Places.{wide, width, begin, keptAt, placeFrom, placeOf, listed, size};
 
 pub mod kinds;
 
@@ -37,15 +38,70 @@ pub fn checkpoint(points: Points, p: u16) -> u16
     0
 }
 
+// Whether a kind has a value for each statement.
+fn wide(kind: u8) -> bool
+    ensures { λ r. ⌜ r ≡ wide kind ⌝ }
+{
+    (kind == kinds::ACTIVE)
+        | (kind == kinds::ADDRESS)
+        | (kind == kinds::LOADED)
+        | (kind == kinds::SWAPS)
+        | (kind == kinds::RESULT)
+        | (kind == kinds::TEST)
+        | (kind == kinds::UNTEST)
+        | (kind == kinds::FLAG)
+        | (kind == kinds::ARGUMENT)
+}
+
+// The length of a kind's rows.
+fn width(kind: u8) -> u16
+    ensures { λ r. ⌜ r ≡ width kind ⌝ }
+{
+    if wide(kind) {
+        return 32;
+    }
+    9
+}
+
+// How many kinds before this one have a value for each statement.
+fn wide_before(kind: u8) -> u8
+    ensures { λ r. ⌜ r ≡ number kind wide ⌝ }
+{
+    if kind <= kinds::ACTIVE {
+        return 0;
+    }
+    if kind <= kinds::ADDRESS {
+        return 1;
+    }
+    if kind <= kinds::FLUSH_TO {
+        return kind - kinds::ONE;
+    }
+    if kind <= kinds::FLAG {
+        return 7;
+    }
+    if kind <= kinds::ARGUMENT {
+        return 8;
+    }
+    9
+}
+
+// Where the rows of a kind begin, without a loop: a caller who names the kind has a constant once compiled.
+fn begin(kind: u8) -> usize
+    ensures { λ r. ⌜ r ≡ begin kind ⌝ }
+{
+    36 * (kind as usize) + 92 * (wide_before(kind) as usize)
+}
+
 // The number kept for a kind's value for a and b.
 fn kept(slots: &[u32], kind: u8, a: u8, b: u16) -> u32
     ensures { λ r. ⌜ r ≡ keptAt (now (slots .entry)) kind a b ⌝ }
 {
     if a < 4 {
-        if b < 32 {
-            let i = 128 * (kind as usize) + (32 * (a as usize) + (b as usize));
+        let length = width(kind);
+        if b < length {
+            let i = begin(kind) + ((length as usize) * (a as usize) + (b as usize));
             // A caller whose array has this length and who names the kind needs no test here once compiled.
-            if slots.len() == 5248 {
+            if slots.len() == 2304 {
                 if kind < 41 {
                     return slots[i];
                 }
@@ -73,13 +129,14 @@ pub fn place(slots: &[u32], kind: u8, a: u8, b: u16, start: u64) -> u64
 // Sets the record of a kind's value for a and b, if there is a place for it.
 pub fn set_place(slots: &mut [u32], kind: u8, a: u8, b: u16, index: u64)
     ensures { λ _. ⌜ (length (now (slots .exit)) ≡ length (now (slots .entry)))
-        × (length (now (slots .entry)) ≡ size → kind < 41 → a < 4 → b < 32 → index < 4294967295
+        × (length (now (slots .entry)) ≡ size → kind < 41 → a < 4 → b < width kind → index < 4294967295
         → placeOf (now (slots .exit)) ≡ put same (placeOf (now (slots .entry))) (slot (kindAt kind) a b) index) ⌝ }
 {
     if a < 4 {
-        if b < 32 {
-            let i = 128 * (kind as usize) + (32 * (a as usize) + (b as usize));
-            if slots.len() == 5248 {
+        let length = width(kind);
+        if b < length {
+            let i = begin(kind) + ((length as usize) * (a as usize) + (b as usize));
+            if slots.len() == 2304 {
                 if kind < 41 {
                     slots[i] = ((index % 4294967296 + 1) % 4294967296) as u32;
                 }

@@ -9,14 +9,14 @@ use native.Mathlib.Omega.{arith}
 use borrow.Author.Tests.{eqb-true, ne-eqb}
 use Rattle.base.specs.Below.{every}
 use Rattle.base.proofs.Below.{every-at}
-use Rattle.base.proofs.Choice.{and-left, and-right, and-false, or-false, passed, cond-both}
+use Rattle.base.proofs.Choice.{and-left, and-right, and-false, or-false, chosen, passed, cond-both}
 use Rattle.records.specs.declared.Layout.{Layout}
 use Rattle.records.specs.Sets.{Set, setBy}
 use Rattle.table.specs.Programs.{Command, upto, nextAfter, placesAfter}
 use Rattle.table.proofs.Sequences.{places-++}
 use Rattle.encoding.specs.Slots.{Kind, kindNumber, Slot, slot, same, Term, kinds, kindAt}
 use Rattle.encoding.specs.Steps.{Shape, perChoice, perThread, perStatement, perCheckpoint, perMark, beforeThread, beforeChoice, single, shape, chain, link, links, base, columns, kept, entry, line}
-use Rattle.places.specs.Places.{placeOf}
+use Rattle.places.specs.Places.{wide, width, placeOf}
 use Rattle.places.specs.Pieces.{Writes, WritesTree}
 use Rattle.places.proofs.Pieces.{below-after, writes-row, writes-more}
 use Rattle.places.proofs.Entries.{treeOf, line-at}
@@ -26,6 +26,14 @@ use Rattle.links.proofs.Held.{held}
 use Rattle.values.specs.Lines.{Stands, Line}
 
 -- ---- kinds of statements
+
+wide-tabled : every 41 (λ n. not (ofStatement n) || wide n) ≡ true
+unfolding every
+wide-tabled = refl
+
+-- their rows have room for every statement of a thread
+pub statement-width : (kind : ℕ) → kind < 41 → ofStatement kind ≡ true → width kind ≡ 32
+statement-width kind h of = chosen 32 9 (sym (ap (λ (t : Bool). not t || wide kind) of) ∙ every-at (λ n. not (ofStatement n) || wide n) 41 kind wide-tabled h)
 
 module _ (S : Set) (cs : List ℕ) (a b : ℕ) where
   -- no links, and a value for each statement

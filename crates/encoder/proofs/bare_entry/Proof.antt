@@ -7,7 +7,8 @@ use Rattle.records.specs.Sets.{Set}
 use Rattle.table.proofs.Sequences.{inside}
 use Rattle.encoding.specs.Slots.{kindAt}
 use Rattle.encoding.specs.Steps.{base}
-use Rattle.places.specs.Places.{placeOf}
+use Rattle.places.specs.Places.{placeOf, width}
+use Rattle.places.proofs.Rows.{width-least}
 use Rattle.places.proofs.Entries.{entry-kept}
 use Rattle.bases.proofs.Given.{put-written}
 use Rattle.encoder.proofs.Loops.{bare-written}
@@ -37,7 +38,8 @@ returns c =
     let g = c .before .before .before .before .before .before .before .put-base in
     let p = c .before .before .before .set-place .ensures in
     let room : a .n ≤ 2000000000 = let m = q .0 in omega arith in
-    let most = g .ensures .1 in (
+    let most = g .ensures .1 in
+    let column : a .b < width (a .kind) = let most = q .3 in let least = width-least (a .kind) in omega arith in (
       λ (S : Set) (cs : List ℕ) threads bare all below.
           let places = placeOf (now (a .slots)) in
           let t = base S cs (a .step) (kindAt (a .kind)) (a .a) (a .b) in
@@ -49,7 +51,7 @@ returns c =
           omega arith in
           entry-kept S cs (a .step) (kindAt (a .kind)) (a .a) (a .b) (now (a .out)) (now (a .slots)) (a .n) _ _ (a .n + g .result .count) (g .result .root) (bare .there)
           (bare-written S cs (a .step) (a .kind) (a .a) (a .b) bare places (now (a .out)) (a .n) _ _ _ (put-written (g .result) places (a .n) t (now (a .out)) _ put))
-          (p .1 all (q .1) (q .2) (q .3) small) (p .0),
+          (p .1 all (q .1) (q .2) column small) (p .0),
       omega arith,
     )
 

@@ -3,7 +3,6 @@ use borrow.Author.Needs.{needs}
 use lib.ListN.{length}
 use denote.Ref.{now}
 use native.Mathlib.Omega.{arith}
-use mathlib.Core.List.{List}
 use mathlib.Core.Path.{_≡_, refl, subst}
 use Prim.Native.Nat.{ℕ, _+_, _-_, _*_, _≤_}
 use Rattle.places.specs.Places.{listed}
@@ -14,6 +13,7 @@ use Rattle.table.specs.Programs.{upto}
 use Rattle.records.specs.Sets.{setBy}
 use Rattle.places.proofs.Pieces.{writes-row, writes-more, limits-after}
 use Rattle.places.specs.Pieces.{Writes, Limits}
+use Rattle.links.specs.Members.{Members}
 use Rattle.encoder.proofs.flag_block.Statement.{statement}
 use Rattle.encoder.proofs.flag_block.Tie as tie
 use Rattle.encoder.proofs.flag_block.Reads as reads
@@ -21,20 +21,25 @@ use Rattle.encoder.proofs.flag_block.Lts as lts
 use Rattle.flags.proofs.flags.Reads as flags-reads
 
 abbrev Inv-loop : tie.InvT-loop
-Inv-loop set layout members slots₀ out₀ step n threads next₀ t₀ slots out next t =
+Inv-loop set layout members slots₀ out₀ n threads next₀ t₀ slots out next t =
     (t ≤ threads) × (threads ≤ 4) × (next ≤ n + 1152 * t) × (length out ≡ length out₀) × (length slots ≡ length slots₀)
-    × ((points : Points) → Limits layout points slots₀ n → Limits layout points slots next)
-    × ((cs : List ℕ) → Writes (upto (line (setBy set layout) cs step flag) t) out₀ slots₀ n out slots next)
+    × ((points : Points) (step : ℕ) → Limits layout points slots₀ n → Members (setBy set layout) members
+    → (Writes (upto (line (setBy set layout) (listed points) step flag) t) out₀ slots₀ n out slots next) × (Limits layout points slots next))
 
 abbrev μ-loop : tie.MeasureT-loop
-μ-loop set layout members slots₀ out₀ step n threads next₀ t₀ slots out next t = threads - t
+μ-loop set layout members slots₀ out₀ n threads next₀ t₀ slots out next t = threads - t
 
 loop-holds : tie.Need-loop-holds Inv-loop μ-loop
 loop-holds c =
     let a = c .before .before .before .before .args in
-    let l = c .before .before .before .before .pre .0 in
-    let most = l .fourThreads in
-    (omega arith, l .fourThreads, omega arith, refl, refl, λ points h. h, λ cs. writes-row (line (setBy (now (a .set)) (a .layout)) cs (a .step) flag) (now (a .out)) (now (a .slots)) (a .n))
+    let most = c .before .before .before .before .pre .1 in (
+      omega arith,
+      omega arith,
+      omega arith,
+      refl,
+      refl,
+      λ (points : Points) (step : ℕ) limits members. (writes-row (line (setBy (now (a .set)) (a .layout)) (listed points) step flag) (now (a .out)) (now (a .slots)) (a .n), limits),
+    )
 
 flags-requires : tie.Need-flags-requires Inv-loop μ-loop
 flags-requires c κs = search needs
@@ -52,7 +57,7 @@ loop-again c =
     let l = c .before .before .before .before .before .before .before .before .loop in
     let r = c .before .before .before .before .flags in
     let S = setBy (now (a .set)) (a .layout) in
-    let here = l .inv .5 (a .points) (q .0) in
+    let little = q .0 in
     let few : l .next ≤ 1700000000 = omega arith in
     let last = r .ensures .1 few in (
       omega arith,
@@ -60,10 +65,12 @@ loop-again c =
       omega arith,
       search needs,
       search needs,
-      λ (points : Points) (h : Limits (a .layout) points (now (a .slots)) (a .n)).
-          limits-after (a .layout) points (line S (listed points) (a .step) flag (l .t)) _ _ _ _ _ _ (r .ensures .0 (listed points) (a .step) (omega arith) (here .fewStatements (l .t)) few (q .2) (here .allPlaces) (here .below)) (l .inv .5 points h),
-      λ (cs : List ℕ).
-          writes-more (line S cs (a .step) flag) (l .t) (now (a .out)) (now (a .slots)) (a .n) _ _ _ _ _ _ (l .inv .6 cs) (r .ensures .0 cs (a .step) (omega arith) (here .fewStatements (l .t)) few (q .2) (here .allPlaces) (here .below)),
+      λ (points : Points) (step : ℕ) limits members.
+          let f = line S (listed points) step flag in
+          let done = l .inv .5 points step limits members in
+          let here = done .1 in
+          let w = r .ensures .0 (listed points) step (omega arith) (here .fewStatements (l .t)) few members (here .allPlaces) (here .below) in
+          (writes-more f (l .t) (now (a .out)) (now (a .slots)) (a .n) _ _ _ _ _ _ (done .0) w, limits-after (a .layout) points (f (l .t)) _ _ _ _ _ _ w here),
     )
 
 same-length : tie.Need-same-length Inv-loop μ-loop
@@ -79,8 +86,9 @@ returns c =
     let l = c .before .loop in
     let S = setBy (now (a .set)) (a .layout) in
     let t-is : l .t ≡ a .layout .threads = omega arith in (
-      subst (λ (j : ℕ). Writes (upto (line S (listed (a .points)) (a .step) flag) j) (now (a .out)) (now (a .slots)) (a .n) (l .out) (l .slots) (l .next))
-          t-is (l .inv .6 (listed (a .points))),
+      λ (points : Points) (step : ℕ) limits members.
+          subst (λ (j : ℕ). Writes (upto (line S (listed points) step flag) j) (now (a .out)) (now (a .slots)) (a .n) (l .out) (l .slots) (l .next))
+          t-is (l .inv .5 points step limits members .0),
       omega arith,
     )
 

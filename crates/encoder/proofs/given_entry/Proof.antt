@@ -8,7 +8,8 @@ use Rattle.records.specs.Sets.{Set}
 use Rattle.table.proofs.Sequences.{inside}
 use Rattle.encoding.specs.Slots.{Term, kindAt}
 use Rattle.encoding.specs.Steps.{chain, base}
-use Rattle.places.specs.Places.{placeOf}
+use Rattle.places.specs.Places.{placeOf, width}
+use Rattle.places.proofs.Rows.{width-least}
 use Rattle.places.specs.Pieces.{WritesTree}
 use Rattle.places.proofs.Entries.{entry-kept, treeOf}
 use Rattle.bases.proofs.Given.{put-written}
@@ -45,7 +46,8 @@ returns c =
     let last = r .ensures .1 in
     let little = q .0 in
     let room : a .n ≤ 2000000000 = omega arith in
-    let few : a .n + b .result .count ≤ 1900000000 = omega arith in (
+    let few : a .n + b .result .count ≤ 1900000000 = omega arith in
+    let column : a .b < width (a .kind) = let most = q .2 in let least = width-least (a .kind) in omega arith in (
       λ (S : Set) (cs : List ℕ) threads e members all below.
           let places = placeOf (now (a .slots)) in
           let root = base S cs (a .step) (kindAt (a .kind)) (a .a) (a .b) in
@@ -59,7 +61,7 @@ returns c =
           let f = w .treeNext in
           omega arith in
           entry-kept S cs (a .step) (kindAt (a .kind)) (a .a) (a .b) (now (a .out)) (now (a .slots)) (a .n) _ _ (r .result .next) (r .result .at) (e .there) w
-          (p .1 all (e .known) (q .1) (q .2) small) (p .0),
+          (p .1 all (e .known) (q .1) column small) (p .0),
       omega arith,
     )
 

@@ -3,11 +3,11 @@ use borrow.Author.Needs.{needs}
 use lib.ListN.{length}
 use denote.Ref.{now}
 use native.Mathlib.Omega.{arith}
-use mathlib.Core.List.{List}
 use mathlib.Core.Path.{_≡_, refl, _∙_, subst}
 use Prim.Native.Nat.{ℕ, _+_, _-_, _*_, _≤_}
 use Rattle.places.specs.Places.{placeOf, listed}
 use Rattle.places.specs.Idle.{Idle}
+use Rattle.links.specs.Members.{Members}
 use Rattle.places.proofs.Idle.{idle-line, idle-written}
 use Rattle.places.specs.declared.Points.{Points}
 use Rattle.encoding.specs.Steps.{line}
@@ -24,21 +24,26 @@ use Rattle.encoder.proofs.statement_block.Lts as lts
 use Rattle.values.proofs.statement_line.Reads as statement-line-reads
 
 abbrev Inv-loop : tie.InvT-loop
-Inv-loop set layout members slots₀ out₀ step kind n threads next₀ t₀ slots out next t =
+Inv-loop set layout members slots₀ out₀ kind n threads next₀ t₀ slots out next t =
     (t ≤ threads) × (threads ≤ 4) × (next ≤ n + 1152 * t) × (length out ≡ length out₀) × (length slots ≡ length slots₀)
-    × ((points : Points) → Limits layout points slots₀ n → Limits layout points slots next)
-    × ((cs : List ℕ) → Writes (upto (line (setBy set layout) cs step (kindAt kind)) t) out₀ slots₀ n out slots next)
-    × (Idle (setBy set layout) (placeOf slots))
+    × ((points : Points) (step : ℕ) → Limits layout points slots₀ n → Members (setBy set layout) members → Idle (setBy set layout) (placeOf slots₀)
+    → (Writes (upto (line (setBy set layout) (listed points) step (kindAt kind)) t) out₀ slots₀ n out slots next) × (Limits layout points slots next) × (Idle (setBy set layout) (placeOf slots)))
 
 abbrev μ-loop : tie.MeasureT-loop
-μ-loop set layout members slots₀ out₀ step kind n threads next₀ t₀ slots out next t = threads - t
+μ-loop set layout members slots₀ out₀ kind n threads next₀ t₀ slots out next t = threads - t
 
 loop-holds : tie.Need-loop-holds Inv-loop μ-loop
 loop-holds c =
     let a = c .before .before .before .before .args in
-    let l = c .before .before .before .before .pre .0 in
-    let most = l .fourThreads in
-    (omega arith, l .fourThreads, omega arith, refl, refl, λ points h. h, λ cs. writes-row (line (setBy (now (a .set)) (a .layout)) cs (a .step) (kindAt (a .kind))) (now (a .out)) (now (a .slots)) (a .n), c .before .before .before .before .pre .5)
+    let most = c .before .before .before .before .pre .1 in (
+      omega arith,
+      omega arith,
+      omega arith,
+      refl,
+      refl,
+      λ (points : Points) (step : ℕ) limits members idle.
+          (writes-row (line (setBy (now (a .set)) (a .layout)) (listed points) step (kindAt (a .kind))) (now (a .out)) (now (a .slots)) (a .n), limits, idle),
+    )
 
 statement-line-requires : tie.Need-statement-line-requires Inv-loop μ-loop
 statement-line-requires c κs = search needs
@@ -56,7 +61,7 @@ loop-again c =
     let l = c .before .before .before .before .before .before .before .before .loop in
     let r = c .before .before .before .before .statement-line in
     let S = setBy (now (a .set)) (a .layout) in
-    let here = l .inv .5 (a .points) (q .0) in
+    let little = q .0 in
     let few : l .next ≤ 1700000000 = omega arith in
     let last = r .ensures .1 few in (
       omega arith,
@@ -64,12 +69,15 @@ loop-again c =
       omega arith,
       search needs,
       search needs,
-      λ (points : Points) (h : Limits (a .layout) points (now (a .slots)) (a .n)).
-          limits-after (a .layout) points (line S (listed points) (a .step) (kindAt (a .kind)) (l .t)) _ _ _ _ _ _ (r .ensures .0 (listed points) (a .step) (q .4) (omega arith) (here .fewStatements (l .t)) few (here .allPlaces) (q .3) (l .inv .7) (here .below)) (l .inv .5 points h),
-      λ (cs : List ℕ).
-          writes-more (line S cs (a .step) (kindAt (a .kind))) (l .t) (now (a .out)) (now (a .slots)) (a .n) _ _ _ _ _ _ (l .inv .6 cs) (r .ensures .0 cs (a .step) (q .4) (omega arith) (here .fewStatements (l .t)) few (here .allPlaces) (q .3) (l .inv .7) (here .below)),
-      idle-written S (line S (listed (a .points)) (a .step) (kindAt (a .kind)) (l .t)) (idle-line S (listed (a .points)) (a .step) (kindAt (a .kind)) (l .t)) _ _ _ _ _ _
-          (r .ensures .0 (listed (a .points)) (a .step) (q .4) (omega arith) (here .fewStatements (l .t)) few (here .allPlaces) (q .3) (l .inv .7) (here .below)) (l .inv .7),
+      λ (points : Points) (step : ℕ) limits members idle.
+          let f = line S (listed points) step (kindAt (a .kind)) in
+          let done = l .inv .5 points step limits members idle in
+          let here = done .1 in
+          let w = r .ensures .0 (listed points) step (q .3) (omega arith) (here .fewStatements (l .t)) few (here .allPlaces) members (done .2) (here .below) in (
+            writes-more f (l .t) (now (a .out)) (now (a .slots)) (a .n) _ _ _ _ _ _ (done .0) w,
+            limits-after (a .layout) points (f (l .t)) _ _ _ _ _ _ w here,
+            idle-written S (f (l .t)) (idle-line S (listed points) step (kindAt (a .kind)) (l .t)) _ _ _ _ _ _ w (done .2),
+          ),
     )
 
 same-length : tie.Need-same-length Inv-loop μ-loop
@@ -85,8 +93,9 @@ returns c =
     let l = c .before .loop in
     let S = setBy (now (a .set)) (a .layout) in
     let t-is : l .t ≡ a .layout .threads = omega arith in (
-      subst (λ (j : ℕ). Writes (upto (line S (listed (a .points)) (a .step) (kindAt (a .kind))) j) (now (a .out)) (now (a .slots)) (a .n) (l .out) (l .slots) (l .next))
-          (t-is ∙ statement-rows S (listed (a .points)) (a .step) (a .kind) (q .2) (q .4)) (l .inv .6 (listed (a .points))),
+      λ (points : Points) (step : ℕ) limits members idle.
+          subst (λ (j : ℕ). Writes (upto (line S (listed points) step (kindAt (a .kind))) j) (now (a .out)) (now (a .slots)) (a .n) (l .out) (l .slots) (l .next))
+          (t-is ∙ statement-rows S (listed points) step (a .kind) (q .2) (q .3)) (l .inv .5 points step limits members idle .0),
       omega arith,
     )
 

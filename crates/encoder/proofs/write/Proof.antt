@@ -37,7 +37,7 @@ before-steps-requires : tie.Need-before-steps-requires
 before-steps-requires c κs =
     let a = c .before .before .before .before .before .before .before .before .before .before .before .before .before .args in
     let p = c .before .before .before .before .before .before .before .before .before .before .before .before .before .pre in
-    (p .0, p .1, c .before .before .before .before .before .before .before .before .make .ensures .1 refl (λ t h. p .0 .fewStatements t), idle-start (setBy (now (a .set)) (a .layout)) 5248)
+    (p .0, p .1, c .before .before .before .before .before .before .before .before .make .ensures .1 refl (λ t h. p .0 .fewStatements t), idle-start (setBy (now (a .set)) (a .layout)) 2304)
 
 slice-aggregate-all-steps : tie.Need-slice-aggregate-all-steps
 slice-aggregate-all-steps c = search needs
@@ -58,7 +58,7 @@ all-steps-requires c κs =
       c .before .before .before .before .before .before .before .before .before .before .before .before .before .before .before .make .ensures .1 refl (λ t h. p .0 .fewStatements t),
       ended-room S cs (now (a .map)) (a .bound) (now (a .table)) _ _ _ _ (c .before .before .before .before .before .before .before .before .before .before .before .before .firsts .ensures) (w .0) (p .3),
       idle-written S (early S cs (now (a .map))) (idle-++ S (starting S cs) (upto (mapDemand (now (a .map))) (cells (now (a .map)))) (idle-++ S (block S cs 0 unit) (block S cs 0 argument) (idle-block S cs 0 unit) (idle-block S cs 0 argument))
-          (idle-upto S (mapDemand (now (a .map))) (λ j. idle-needs S _ [] (idle-none S)) (cells (now (a .map))))) _ _ _ _ _ _ (w .0) (idle-start S 5248),
+          (idle-upto S (mapDemand (now (a .map))) (λ j. idle-needs S _ [] (idle-none S)) (cells (now (a .map))))) _ _ _ _ _ _ (w .0) (idle-start S 2304),
     )
 
 goal-requires : tie.Need-goal-requires

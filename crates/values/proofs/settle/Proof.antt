@@ -8,7 +8,7 @@ use Rattle.encoding.specs.Steps.{base}
 use Rattle.places.specs.Places.{placeOf}
 use Rattle.places.proofs.Entries.{entry-kept}
 use Rattle.bases.proofs.Given.{put-written}
-use Rattle.values.proofs.Values.{statement-kept, statement-written}
+use Rattle.values.proofs.Values.{statement-width, statement-kept, statement-written}
 use borrow.Author.Needs.{needs}
 use Rattle.values.proofs.settle.Statement.{statement}
 use Rattle.values.proofs.settle.Tie as tie
@@ -29,6 +29,7 @@ returns c =
     let p = c .before .before .before .set-place .ensures in (
       (λ S cs k out after h of row column all below put.
           let places = placeOf (now (a .slots)) in
+          let wide = statement-width (a .kind) h of in
           let t = base S cs k (kindAt (a .kind)) (a .t) (a .i) in
           let small : a .tree .root < 4294967295 =
           let i = inside places t (a .n) below in

@@ -11,9 +11,6 @@ use Rattle.links.proofs.parts.flush_place.Reads as reads
 use Rattle.links.proofs.parts.flush_place.Lts as lts
 use Rattle.places.proofs.place.Reads as place-reads
 
-cast-place : tie.Need-cast-place
-cast-place c = search needs
-
 add-place : tie.Need-add-place
 add-place c = search needs
 
@@ -24,7 +21,7 @@ returns : tie.Need-returns
 returns c = search needs
 
 returns-2 : tie.Need-returns-2
-returns-2 c = let a = c .before .before .args in sym (column-past (now (a .slots)) 0 0 (a .layout .threads + a .t) 0 (omega arith))
+returns-2 c = let a = c .before .before .args in sym (column-past (now (a .slots)) 0 0 (a .threads + a .t) 0 (omega arith))
 
 pub flush-place-spec : {M : Type 1} → statement M
-flush-place-spec = tie.close (tie.spec cast-place add-place place-requires returns returns-2)
+flush-place-spec = tie.close (tie.spec add-place place-requires returns returns-2)

@@ -1,0 +1,152 @@
+-- `marks::entry` meets its contract. Assumes nothing.
+use Rattle.marks.specs.Marked.{marked}
+use Rattle.marks.proofs.Marked.{marked-known, marked-kept, raised-written, mark-written}
+use Rattle.places.specs.Pieces.{WritesTree, Limits}
+use Rattle.places.specs.Places.{placeOf, listed}
+use Rattle.places.proofs.Entries.{entry-none, entry-kept, treeOf}
+use Rattle.places.proofs.Rows.{width-least}
+use Rattle.links.specs.Members.{Members}
+use Rattle.bases.proofs.Given.{put-written}
+use Rattle.encoding.specs.Steps.{base, shape, kept}
+use Rattle.encoding.specs.Slots.{kindAt}
+use Rattle.table.proofs.Sequences.{inside}
+use Rattle.step.specs.Machine.{contains}
+use Rattle.records.specs.Sets.{setBy}
+use Prim.Native.Nat.{ℕ, _+_, _<_}
+use mathlib.Core.Bool.{true}
+use mathlib.Core.Path.{_≡_, refl, sym, ap, _∙_}
+use native.Mathlib.Omega.{arith}
+use denote.Ref.{now}
+use borrow.Author.Needs.{needs}
+use Rattle.marks.proofs.entry.Statement.{statement}
+use Rattle.marks.proofs.entry.Tie as tie
+
+-- whether there is a mark
+there : (c : tie.After-has) → let a = c .before .before .before .before .before .before .args in
+    marked (a .kind) ≡ true → Members (setBy (now (a .set)) (a .layout)) (now (a .members)) →
+    kept (setBy (now (a .set)) (a .layout)) (listed (a .points)) 0 (shape (kindAt (a .kind))) (a .t) (a .p) ≡ c .has .result
+there c is members =
+    let a = c .before .before .before .before .before .before .args in
+    let S = setBy (now (a .set)) (a .layout) in
+    marked-kept S (listed (a .points)) 0 (a .t) (a .p) (a .kind) is
+    ∙ sym (c .has .ensures members ∙ ap (λ (p : ℕ). contains S (a .t) p) (c .before .checkpoint .ensures))
+
+checkpoint-requires : tie.Need-checkpoint-requires
+checkpoint-requires c κs = search needs
+
+has-requires : tie.Need-has-requires
+has-requires c κs = search needs
+
+put-marked-requires : tie.Need-put-marked-requires
+put-marked-requires c κs = search needs
+
+add-next : tie.Need-add-next
+add-next c = search needs
+
+raised-chain-requires : tie.Need-raised-chain-requires
+raised-chain-requires c κs = search needs
+
+set-place-requires : tie.Need-set-place-requires
+set-place-requires c κs = search needs
+
+same-length : tie.Need-same-length
+same-length c = search needs
+
+same-length-2 : tie.Need-same-length-2
+same-length-2 c = search needs
+
+returns : tie.Need-returns
+returns c =
+    let a = c .before .before .before .before .before .before .before .before .before .before .before .before .before .before .before .before .before .before .before .before .before .before .before .args in
+    let q = c .before .before .before .before .before .before .before .before .before .before .before .before .before .before .before .before .before .before .before .before .before .before .before .pre in
+    let S = setBy (now (a .set)) (a .layout) in
+    let cs = listed (a .points) in
+    let places = placeOf (now (a .slots)) in
+    let limit = q .0 in
+    let column = q .2 in
+    let wide = width-least (a .kind) in
+    let g = c .before .before .before .before .before .before .before .before .before .before .before .before .before .put-marked in
+    let p = c .before .before .set-place .ensures in
+    let most = g .ensures .1 in
+    let r = c .before .before .before .before .before .before .raised-chain in
+    let links = r .ensures .1 in (
+      λ is (l : Limits (a .layout) (a .points) (now (a .slots)) (a .n)) members.
+          let bare = base S cs (a .step) (kindAt (a .kind)) (a .t) (a .p) in
+          let put = put-written (g .result) places (a .n) bare (now (a .out)) _ (g .ensures .0 S cs refl is (omega arith)) in
+          let w : WritesTree places (treeOf S cs (a .step) (kindAt (a .kind)) (a .t) (a .p)) (now (a .out)) (a .n) _ (r .result .next) (r .result .at) =
+          raised-written S cs (a .step) (a .t) (a .p) places (now (a .out)) (a .n) _ (r .result .next) (r .result .at) (a .kind) (c .before .before .before .before .before .before .before .before .before .if2 .taken)
+          (r .ensures .0 bare (now (a .out)) (a .n) (q .1) (omega arith) (l .allPlaces) members put) in
+          let small : r .result .at < 4294967295 =
+          let i = inside places (treeOf S cs (a .step) (kindAt (a .kind)) (a .t) (a .p)) (a .n) (l .below) in
+          let e = w .treeRoot in
+          let f = w .treeNext in
+          omega arith in
+          entry-kept S cs (a .step) (kindAt (a .kind)) (a .t) (a .p) (now (a .out)) (now (a .slots)) (a .n) _ _ (r .result .next) (r .result .at)
+          (there (c .before .before .before .before .before .before .before .before .before .before .before .before .before .before .before .before .before) is members ∙ c .before .before .before .before .before .before .before .before .before .before .before .before .before .before .before .before .if1 .taken) w (p .1 (l .allPlaces) (marked-known (a .kind) is) (q .1) (omega arith) small) (p .0),
+      omega arith,
+    )
+
+set-place-requires-2 : tie.Need-set-place-requires-2
+set-place-requires-2 c κs = search needs
+
+same-length-3 : tie.Need-same-length-3
+same-length-3 c = search needs
+
+same-length-4 : tie.Need-same-length-4
+same-length-4 c = search needs
+
+returns-2 : tie.Need-returns-2
+returns-2 c =
+    let a = c .before .before .before .before .before .before .before .before .before .before .before .before .before .before .before .before .before .before .args in
+    let q = c .before .before .before .before .before .before .before .before .before .before .before .before .before .before .before .before .before .before .pre in
+    let S = setBy (now (a .set)) (a .layout) in
+    let cs = listed (a .points) in
+    let places = placeOf (now (a .slots)) in
+    let limit = q .0 in
+    let column = q .2 in
+    let wide = width-least (a .kind) in
+    let g = c .before .before .before .before .before .before .before .before .put-marked in
+    let p = c .before .before .set-place2 .ensures in
+    let most = g .ensures .1 in (
+      λ is (l : Limits (a .layout) (a .points) (now (a .slots)) (a .n)) members.
+          let bare = base S cs (a .step) (kindAt (a .kind)) (a .t) (a .p) in
+          let put = put-written (g .result) places (a .n) bare (now (a .out)) _ (g .ensures .0 S cs refl is (omega arith)) in
+          let w : WritesTree places (treeOf S cs (a .step) (kindAt (a .kind)) (a .t) (a .p)) (now (a .out)) (a .n) _ (a .n + g .result .count) (g .result .root) =
+          mark-written S cs (a .step) (a .t) (a .p) places (now (a .out)) (a .n) _ (a .n + g .result .count) (g .result .root) (a .kind) is (c .before .before .before .before .if2 .left) put in
+          let small : g .result .root < 4294967295 =
+          let i = inside places (treeOf S cs (a .step) (kindAt (a .kind)) (a .t) (a .p)) (a .n) (l .below) in
+          let e = w .treeRoot in
+          let f = w .treeNext in
+          omega arith in
+          entry-kept S cs (a .step) (kindAt (a .kind)) (a .t) (a .p) (now (a .out)) (now (a .slots)) (a .n) _ _ (a .n + g .result .count) (g .result .root)
+          (there (c .before .before .before .before .before .before .before .before .before .before .before .before) is members ∙ c .before .before .before .before .before .before .before .before .before .before .before .if1 .taken) w (p .1 (l .allPlaces) (marked-known (a .kind) is) (q .1) (omega arith) small) (p .0),
+      omega arith,
+    )
+
+returns-3 : tie.Need-returns-3
+returns-3 c =
+    let a = c .before .before .before .before .before .before .before .args in (
+      λ is l members.
+          entry-none (setBy (now (a .set)) (a .layout)) (listed (a .points)) (a .step) (kindAt (a .kind)) (a .t) (a .p) (now (a .out)) (now (a .slots)) (a .n)
+          (there (c .before) is members ∙ c .if1 .left),
+      omega arith,
+    )
+
+pub entry-spec : {M : Type 1} → statement M
+entry-spec =
+    tie.close
+    (tie.spec
+    checkpoint-requires
+    has-requires
+    put-marked-requires
+    add-next
+    raised-chain-requires
+    set-place-requires
+    same-length
+    same-length-2
+    returns
+    set-place-requires-2
+    same-length-3
+    same-length-4
+    returns-2
+    returns-3)

@@ -1,0 +1,129 @@
+-- `marks::marks` meets its contract. Assumes nothing.
+use Rattle.places.specs.Pieces.{Writes, Limits}
+use Rattle.places.specs.Places.{listed}
+use Rattle.places.proofs.Pieces.{writes-row, writes-more, limits-after}
+use Rattle.links.specs.Members.{Members}
+use Rattle.marks.specs.Marked.{marked}
+use Rattle.marks.proofs.Marked.{marked-rows}
+use Rattle.encoding.specs.Steps.{line}
+use Rattle.encoding.specs.Slots.{kindAt}
+use Rattle.table.specs.Programs.{upto}
+use Rattle.records.specs.Sets.{setBy}
+use Prim.Native.Nat.{ℕ, _+_, _-_, _*_, _≤_}
+use mathlib.Core.Path.{_≡_, refl, sym, _∙_, subst}
+use mathlib.Core.Bool.{true}
+use native.Mathlib.Omega.{arith}
+use lib.ListN.{length}
+use denote.Ref.{now}
+use borrow.Author.Needs.{needs}
+use Rattle.marks.proofs.marks.Statement.{statement}
+use Rattle.marks.proofs.marks.Tie as tie
+
+abbrev Inv-loop : tie.InvT-loop
+Inv-loop set layout points members slots₀ out₀ step kind n many next₀ t₀ slots out next t =
+    (t ≤ many) × (many ≤ 4) × (n ≤ 1600000000) × (next ≤ n + 288 * t) × (length out ≡ length out₀) × (length slots ≡ length slots₀)
+    × (marked kind ≡ true → Limits layout points slots₀ n → Members (setBy set layout) members
+    → (Limits layout points slots next) × (Writes (upto (line (setBy set layout) (listed points) step (kindAt kind)) t) out₀ slots₀ n out slots next))
+
+abbrev μ-loop : tie.MeasureT-loop
+μ-loop set layout points members slots₀ out₀ step kind n many next₀ t₀ slots out next t = many - t
+
+returns : tie.Need-returns Inv-loop μ-loop
+returns c =
+    let a = c .before .before .before .before .before .args in
+    ((λ is l (room : a .n ≤ 1600000000) members. absurd (omega arith)), λ (room : a .n ≤ 1600000000). omega arith)
+
+returns-2 : tie.Need-returns-2 Inv-loop μ-loop
+returns-2 c =
+    let a = c .before .before .before .before .before .before .args in
+    ((λ is (l : Limits (a .layout) (a .points) (now (a .slots)) (a .n)) room members. absurd (c .if2 .taken (l .allPlaces))), λ room. omega arith)
+
+returns-3 : tie.Need-returns-3 Inv-loop μ-loop
+returns-3 c =
+    let a = c .before .before .before .before .before .before .before .before .args in
+    ((λ is (l : Limits (a .layout) (a .points) (now (a .slots)) (a .n)) room members. let four = l .fourThreads in absurd (omega arith)), λ room. omega arith)
+
+loop-holds : tie.Need-loop-holds Inv-loop μ-loop
+loop-holds c =
+    let a = c .before .before .before .before .before .before .before .before .args in
+    let room = c .before .before .before .if1 .left in
+    let four = c .if3 .left in
+    let S = setBy (now (a .set)) (a .layout) in
+    let f = line S (listed (a .points)) (a .step) (kindAt (a .kind)) in (
+      omega arith,
+      omega arith,
+      omega arith,
+      omega arith,
+      refl,
+      refl,
+      λ is l members. (l, writes-row f (now (a .out)) (now (a .slots)) (a .n)),
+    )
+
+line-requires : tie.Need-line-requires Inv-loop μ-loop
+line-requires c κs =
+    let l = c .before .before .before .loop in
+    (omega arith, omega arith)
+
+add-t : tie.Need-add-t Inv-loop μ-loop
+add-t c = search needs
+
+loop-less : tie.Need-loop-less Inv-loop μ-loop
+loop-less c = search needs
+
+loop-again : tie.Need-loop-again Inv-loop μ-loop
+loop-again c =
+    let a = c .before .before .before .before .before .before .before .before .before .before .before .before .before .before .before .before .before .args in
+    let l = c .before .before .before .before .before .before .before .before .loop in
+    let r = c .before .before .before .before .line in
+    let added = r .ensures .1 in
+    let S = setBy (now (a .set)) (a .layout) in
+    let cs = listed (a .points) in
+    let f = line S cs (a .step) (kindAt (a .kind)) in (
+      omega arith,
+      l .inv .1,
+      l .inv .2,
+      omega arith,
+      search needs,
+      search needs,
+      λ is (limits : Limits (a .layout) (a .points) (now (a .slots)) (a .n)) members.
+          let before = l .inv .6 is limits members in
+          let w = r .ensures .0 is (before .0) members in
+          (limits-after (a .layout) (a .points) (f (l .t)) _ _ _ _ _ _ w (before .0), writes-more f (l .t) (now (a .out)) (now (a .slots)) (a .n) _ _ _ _ _ _ (before .1) w),
+    )
+
+same-length : tie.Need-same-length Inv-loop μ-loop
+same-length c = search needs
+
+same-length-2 : tie.Need-same-length-2 Inv-loop μ-loop
+same-length-2 c = search needs
+
+returns-4 : tie.Need-returns-4 Inv-loop μ-loop
+returns-4 c =
+    let a = c .before .before .before .before .before .before .before .before .before .before .args in
+    let l = c .before .loop in
+    let S = setBy (now (a .set)) (a .layout) in
+    let cs = listed (a .points) in
+    let t-is : l .t ≡ a .layout .threads = omega arith in (
+      (λ is (limits : Limits (a .layout) (a .points) (now (a .slots)) (a .n)) room members.
+          subst (λ (j : ℕ). Writes (upto (line S cs (a .step) (kindAt (a .kind))) j) (now (a .out)) (now (a .slots)) (a .n) (l .out) (l .slots) (l .next))
+          (t-is ∙ sym (marked-rows S cs (a .step) (a .kind) is)) (l .inv .6 is limits members .1)),
+      λ room. omega arith,
+    )
+
+pub marks-spec : {M : Type 1} → statement M
+marks-spec =
+    tie.close
+    (tie.spec
+    Inv-loop
+    μ-loop
+    returns
+    returns-2
+    returns-3
+    loop-holds
+    line-requires
+    add-t
+    loop-less
+    loop-again
+    same-length
+    same-length-2
+    returns-4)

@@ -1,0 +1,2 @@
+-- The kinds of marks.
+pub mod Marked

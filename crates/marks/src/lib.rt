@@ -1,0 +1,307 @@
+// The values of checkpoints: which are open, which threads wait, and each thread's marks.
+ghost use mathlib.Core.Path.{_≡_};
+ghost use mathlib.Core.Bool.{true};
+ghost use mathlib.Core.List.{List};
+ghost use Prim.Native.Nat.{ℕ, _+_, _≤_, _<_};
+ghost use Rattle.records.specs.Sets.{Set, setBy};
+ghost use Rattle.encoding.specs.Slots.{kindAt, opening as openingKind, waits as waitsKind};
+ghost use Rattle.encoding.specs.Steps.{base as baseOf, entry as entryOf, line as lineOf, block as blockOf};
+ghost use Rattle.places.specs.Places.{placeOf, listed};
+ghost use Rattle.places.specs.Pieces.{Writes, Limits};
+ghost use Rattle.bases.specs.Fews.{Puts};
+ghost use Rattle.links.specs.Members.{Members};
+ghost use Rattle.marks.specs.Marked.{marked};
+use bases::Written;
+use places::Points;
+use places::kinds;
+use records::Layout;
+
+// Writes whether checkpoint p is open: whether every thread that contains it is marked there.
+fn opening(
+    set: &[u8],
+    layout: Layout,
+    points: Points,
+    members: &[u8],
+    slots: &mut [u32],
+    out: &mut [u8],
+    step: u8,
+    p: u16,
+    n: u32,
+) -> u32
+    requires { ⌜ (n ≤ 1800000000) × (p < 8) ⌝ }
+    ensures { λ r. ⌜ (Limits layout points (now (slots .entry)) n → Members (setBy (now (set .entry)) layout) (now (members .entry))
+        → Writes (entryOf (setBy (now (set .entry)) layout) (listed points) step openingKind 0 p) (now (out .entry)) (now (slots .entry)) n (now (out .exit)) (now (slots .exit)) r)
+        × (r ≤ n + 8) ⌝ }
+{
+    let base = bases::put_base(slots, out, layout.threads, step, kinds::OPENING, 0, p, n);
+    let next = n + base.count;
+    let tree = links::chains::opening_chain(
+        set,
+        layout,
+        points,
+        members,
+        slots,
+        out,
+        p,
+        next,
+        base.root,
+    );
+    places::set_place(slots, kinds::OPENING, 0, p, tree.at);
+    tree.next
+}
+
+// Writes for each checkpoint whether it is open.
+pub fn openings(
+    set: &[u8],
+    layout: Layout,
+    points: Points,
+    members: &[u8],
+    slots: &mut [u32],
+    out: &mut [u8],
+    step: u8,
+    n: u32,
+) -> u32
+    ensures { λ r. ⌜ (Limits layout points (now (slots .entry)) n → n ≤ 1600000000 → Members (setBy (now (set .entry)) layout) (now (members .entry))
+        → Writes (blockOf (setBy (now (set .entry)) layout) (listed points) step openingKind) (now (out .entry)) (now (slots .entry)) n (now (out .exit)) (now (slots .exit)) r)
+        × (n ≤ 1600000000 → r ≤ n + 4608) ⌝ }
+{
+    // With these known, the compiler drops the tests of places in the loop.
+    if 1600000000 < n {
+        return n;
+    }
+    if slots.len() != 2304 {
+        return n;
+    }
+    if 4 < layout.threads {
+        return n;
+    }
+    let many = places::points_count(points);
+    let mut next = n;
+    let mut p: u16 = 0;
+    while p < many {
+        next = opening(set, layout, points, members, slots, out, step, p, next);
+        p += 1;
+    }
+    next
+}
+
+// Writes whether thread t has halted or waits at a checkpoint.
+fn waiting(
+    set: &[u8],
+    layout: Layout,
+    points: Points,
+    members: &[u8],
+    slots: &mut [u32],
+    out: &mut [u8],
+    step: u8,
+    t: u8,
+    n: u32,
+) -> u32
+    requires { ⌜ (n ≤ 1800000000) × (t < 4) ⌝ }
+    ensures { λ r. ⌜ (Limits layout points (now (slots .entry)) n → Members (setBy (now (set .entry)) layout) (now (members .entry))
+        → Writes (entryOf (setBy (now (set .entry)) layout) (listed points) step waitsKind t 0) (now (out .entry)) (now (slots .entry)) n (now (out .exit)) (now (slots .exit)) r)
+        × (r ≤ n + 12) ⌝ }
+{
+    let base = bases::put_base(slots, out, layout.threads, step, kinds::WAITS, t, 0, n);
+    let next = n + base.count;
+    let tree = links::chains::waits_chain(
+        set,
+        layout,
+        points,
+        members,
+        slots,
+        out,
+        t,
+        next,
+        base.root,
+    );
+    places::set_place(slots, kinds::WAITS, t, 0, tree.at);
+    tree.next
+}
+
+// Writes for each thread whether it has halted or waits at a checkpoint.
+pub fn waits(
+    set: &[u8],
+    layout: Layout,
+    points: Points,
+    members: &[u8],
+    slots: &mut [u32],
+    out: &mut [u8],
+    step: u8,
+    n: u32,
+) -> u32
+    ensures { λ r. ⌜ (Limits layout points (now (slots .entry)) n → n ≤ 1600000000 → Members (setBy (now (set .entry)) layout) (now (members .entry))
+        → Writes (blockOf (setBy (now (set .entry)) layout) (listed points) step waitsKind) (now (out .entry)) (now (slots .entry)) n (now (out .exit)) (now (slots .exit)) r)
+        × (n ≤ 1600000000 → r ≤ n + 4608) ⌝ }
+{
+    // With these known, the compiler drops the tests of places in the loop.
+    if 1600000000 < n {
+        return n;
+    }
+    if slots.len() != 2304 {
+        return n;
+    }
+    if 4 < layout.threads {
+        return n;
+    }
+    let many = layout.threads;
+    let mut next = n;
+    let mut t: u8 = 0;
+    while t < many {
+        next = waiting(set, layout, points, members, slots, out, step, t, next);
+        t += 1;
+    }
+    next
+}
+
+// Writes the base of a mark of thread t at checkpoint p. Each kind is named, so that the compiler leaves out the tests of other kinds.
+fn put_marked(
+    slots: &[u32],
+    out: &mut [u8],
+    threads: u8,
+    step: u8,
+    kind: u8,
+    t: u8,
+    p: u16,
+    n: u32,
+) -> Written
+    ensures { λ r. ⌜ ((S : Set) (cs : List ℕ) → S .threads ≡ threads → marked kind ≡ true → n ≤ 2000000000
+        → Puts r (placeOf (now (slots .entry))) n (baseOf S cs step (kindAt kind) t p) (now (out .entry)) (now (out .exit))) × (r .count ≤ 4) ⌝ }
+{
+    match kind {
+        kinds::HELD => bases::put_base(slots, out, threads, step, kinds::HELD, t, p, n),
+        kinds::RAISED => bases::put_base(slots, out, threads, step, kinds::RAISED, t, p, n),
+        _ => bases::put_base(slots, out, threads, step, kinds::MARK, t, p, n),
+    }
+}
+
+// Writes the mark of thread t at checkpoint p, if the thread contains it.
+fn entry(
+    set: &[u8],
+    layout: Layout,
+    points: Points,
+    members: &[u8],
+    slots: &mut [u32],
+    out: &mut [u8],
+    step: u8,
+    kind: u8,
+    t: u8,
+    p: u16,
+    n: u32,
+) -> u32
+    requires { ⌜ (n ≤ 1800000000) × (t < 4) × (p < 8) ⌝ }
+    ensures { λ r. ⌜ (marked kind ≡ true → Limits layout points (now (slots .entry)) n → Members (setBy (now (set .entry)) layout) (now (members .entry))
+        → Writes (entryOf (setBy (now (set .entry)) layout) (listed points) step (kindAt kind) t p) (now (out .entry)) (now (slots .entry)) n (now (out .exit)) (now (slots .exit)) r)
+        × (r ≤ n + 36) ⌝ }
+{
+    if links::checks::has(set, layout, members, t, places::checkpoint(points, p)) {
+        let base = put_marked(slots, out, layout.threads, step, kind, t, p, n);
+        let next = n + base.count;
+        if kind == kinds::RAISED {
+            let tree = links::chains::raised_chain(
+                set,
+                layout,
+                points,
+                members,
+                slots,
+                out,
+                t,
+                p,
+                next,
+                base.root,
+            );
+            places::set_place(slots, kind, t, p, tree.at);
+            return tree.next;
+        }
+        places::set_place(slots, kind, t, p, base.root);
+        return next;
+    }
+    n
+}
+
+// Writes the marks of thread t.
+fn line(
+    set: &[u8],
+    layout: Layout,
+    points: Points,
+    members: &[u8],
+    slots: &mut [u32],
+    out: &mut [u8],
+    step: u8,
+    kind: u8,
+    t: u8,
+    n: u32,
+) -> u32
+    requires { ⌜ (n ≤ 1700000000) × (t < 4) ⌝ }
+    ensures { λ r. ⌜ (marked kind ≡ true → Limits layout points (now (slots .entry)) n → Members (setBy (now (set .entry)) layout) (now (members .entry))
+        → Writes (lineOf (setBy (now (set .entry)) layout) (listed points) step (kindAt kind) t) (now (out .entry)) (now (slots .entry)) n (now (out .exit)) (now (slots .exit)) r)
+        × (r ≤ n + 288) ⌝ }
+{
+    let many = places::points_count(points);
+    let mut next = n;
+    let mut p: u16 = 0;
+    while p < many {
+        next = entry(
+            set,
+            layout,
+            points,
+            members,
+            slots,
+            out,
+            step,
+            kind,
+            t,
+            p,
+            next,
+        );
+        p += 1;
+    }
+    next
+}
+
+// Writes the marks of each thread, of one of the kinds HELD, RAISED and MARK.
+pub fn marks(
+    set: &[u8],
+    layout: Layout,
+    points: Points,
+    members: &[u8],
+    slots: &mut [u32],
+    out: &mut [u8],
+    step: u8,
+    kind: u8,
+    n: u32,
+) -> u32
+    ensures { λ r. ⌜ (marked kind ≡ true → Limits layout points (now (slots .entry)) n → n ≤ 1600000000 → Members (setBy (now (set .entry)) layout) (now (members .entry))
+        → Writes (blockOf (setBy (now (set .entry)) layout) (listed points) step (kindAt kind)) (now (out .entry)) (now (slots .entry)) n (now (out .exit)) (now (slots .exit)) r)
+        × (n ≤ 1600000000 → r ≤ n + 4608) ⌝ }
+{
+    // With these known, the compiler drops the tests of places in the loops.
+    if 1600000000 < n {
+        return n;
+    }
+    if slots.len() != 2304 {
+        return n;
+    }
+    if 4 < layout.threads {
+        return n;
+    }
+    let many = layout.threads;
+    let mut next = n;
+    let mut t: u8 = 0;
+    while t < many {
+        next = line(
+            set,
+            layout,
+            points,
+            members,
+            slots,
+            out,
+            step,
+            kind,
+            t,
+            next,
+        );
+        t += 1;
+    }
+    next
+}
