@@ -54,8 +54,8 @@ fn points_of(set: &[u8], layout: Layout, t: u8, seen: Points) -> Points
     ensures { λ r. ⌜ ((before : List ℕ) → listed seen ≡ take 8 before
         → listed r ≡ take 8 (notedIn (setBy (now (set .entry)) layout) t before (getD (layout .counts) t 0))) ⌝ }
 {
-    let n = links::count(layout, t);
-    let first = links::first(layout, t);
+    let n = members::count(layout, t);
+    let first = members::first(layout, t);
     let mut points = seen;
     let mut i: u16 = 0;
     while i < n {

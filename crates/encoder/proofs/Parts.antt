@@ -1,31 +1,19 @@
--- The parts of a table as the code writes them: the constraint of a step, the constraint of a map cell, the goal. Assumes nothing.
+-- The parts of a table as the code writes them: the constraint of a map cell, the goal. Assumes nothing.
 use Prim.Native.Nat.{ℕ, suc, _+_}
 use mathlib.Core.Path.{_≡_, refl, _∙_}
 use mathlib.Core.List.{List, [], _∷_}
 use native.Mathlib.Omega.{arith}
 use Rattle.records.specs.Maps.{addressAt, valueAt}
-use Rattle.records.specs.Sets.{Set}
 use Rattle.table.specs.Formulas.{writtenAt}
-use Rattle.table.specs.Programs.{leafFormula, unaryFormula, binaryFormula, ternaryFormula, constraint, goal, constantWord, not1, equal2, read2, if3, next, root, records, needs, aims, compiled, nextAfter, placesAfter}
+use Rattle.table.specs.Programs.{leafFormula, unaryFormula, binaryFormula, constraint, goal, constantWord, not1, equal2, read2, next, root, records, aims, compiled, nextAfter, placesAfter}
 use Rattle.encoding.specs.Encodings.{mapDemand, goalTree}
-use Rattle.encoding.specs.Slots.{Slot, slot, same, none, one, ended, heap, code}
-use Rattle.encoding.specs.Steps.{only, word0, ruled}
+use Rattle.encoding.specs.Slots.{Slot, same, heap, code}
+use Rattle.encoding.specs.Steps.{only, word0}
 use Rattle.places.specs.Places.{placeOf}
 use Rattle.places.specs.Pieces.{Writes}
-use Rattle.bases.proofs.Records.{recordAt, written-2, written-3, written-5}
+use Rattle.bases.proofs.Records.{recordAt, written-3, written-5}
 
 module _ (out slots : List ℕ) (n : ℕ) where
-  pub rule-writes : (S : Set) (cs : List ℕ) (k : ℕ) (after : List ℕ) →
-      after ≡ recordAt (n + 1) (constraint n) (recordAt n (ternaryFormula (if3 1) (placeOf slots (only ended)) (placeOf slots (slot none 0 (S .threads + S .threads))) (placeOf slots (only one))) out) →
-      Writes (needs (ruled S cs k) ∷ []) out slots n after slots (n + 2)
-  unfolding compiled placesAfter nextAfter records root next
-  rule-writes S cs k after e = record {
-    written = e ∙ written-2 out n _ _;
-    places = refl;
-    next = omega arith;
-    slotsStay = refl;
-  }
-
   pub demand-writes : (map : List ℕ) (j : ℕ) (after : List ℕ) →
       after ≡ recordAt (n + 4) (constraint (n + 3)) (recordAt (n + 3) (binaryFormula equal2 (n + 1) (n + 2)) (recordAt (n + 2) (leafFormula (constantWord (valueAt map j)))
       (recordAt (n + 1) (binaryFormula read2 (placeOf slots (only heap)) n) (recordAt n (leafFormula (constantWord (addressAt map j))) out)))) →

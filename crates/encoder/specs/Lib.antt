@@ -1,4 +1,3 @@
 -- The calls of the encoder: their answers, and the lent output afterwards.
 pub mod Answers
-pub mod Entries
 pub mod Repeating

@@ -1,6 +1,6 @@
 // The encoder: the size of a table, and its bytes.
 ghost use mathlib.Core.Path.{_≡_};
-ghost use mathlib.Core.Bool.{true, false, cond};
+ghost use mathlib.Core.Bool.{true, cond};
 ghost use mathlib.Core.List.{List, [], _∷_, _++_};
 ghost use Prim.Native.Nat.{ℕ, _+_, _-_, _*_, _≤_, _<_};
 ghost use lib.Dec.{ltb};
@@ -9,56 +9,20 @@ ghost use Rattle.records.specs.Maps.{cells, mapAccepted};
 ghost use Rattle.records.specs.Sets.{Set, setBy, setAccepted, layoutOf};
 ghost use Rattle.table.specs.Formulas.{writtenAt};
 ghost use Rattle.table.specs.Repeats.{movedBy};
-ghost use Rattle.table.specs.Programs.{leafFormula, choiceBit, needs, aims, upto, compiled, nextAfter};
+ghost use Rattle.table.specs.Programs.{leafFormula, choiceBit, aims, upto, compiled, nextAfter};
 ghost use Rattle.encoding.specs.Encodings.{mapDemand, starting, goalTree, firsts as firstsOf, encoded as encodedOf};
-ghost use Rattle.encoding.specs.Slots.{Slot, same, kindAt, code as codeKind};
-ghost use Rattle.encoding.specs.Steps.{only, word0, single, shape, rows as rowsOf, columns as columnsOf, entry as entryOf, block as blockOf, blocks as blocksOf, ruled, step as stepOf};
+ghost use Rattle.encoding.specs.Slots.{Slot, same, code as codeKind};
+ghost use Rattle.encoding.specs.Steps.{only, word0, step as stepOf};
 ghost use Rattle.places.specs.Places.{placeOf, listed, size as placesCount};
-ghost use Rattle.bases.specs.Fews.{ofStatement};
-ghost use Rattle.links.specs.Chained.{chained};
-ghost use Rattle.links.specs.Members.{Members};
+ghost use Rattle.members.specs.Members.{Members};
 ghost use Rattle.encoder.specs.Answers.{sizeAnswer, encodeAnswer, tableOutput};
 ghost use Rattle.places.specs.Pieces.{Writes, Limits};
 ghost use Rattle.places.specs.Idle.{Idle};
-ghost use Rattle.encoder.specs.Entries.{BareEntry, GivenEntry, ByThread, AfterThread};
 ghost use Rattle.encoder.specs.Repeating.{Started, Stepped, Ended};
 use places::Points;
-use places::kinds::ACCU;
-use places::kinds::ACTIVE;
-use places::kinds::ADDRESS;
-use places::kinds::ADR;
-use places::kinds::ARGUMENT;
-use places::kinds::BARRED;
-use places::kinds::CHOICE;
 use places::kinds::CODE;
-use places::kinds::CODES;
-use places::kinds::ENDED;
-use places::kinds::EXITS;
-use places::kinds::FIT;
-use places::kinds::FLUSH_TO;
-use places::kinds::FLUSH_VALUE;
-use places::kinds::FULL;
-use places::kinds::HALTED;
-use places::kinds::HALTS;
 use places::kinds::HEAP;
-use places::kinds::HELD;
-use places::kinds::LOADED;
-use places::kinds::MARK;
-use places::kinds::MAY;
-use places::kinds::MEM;
-use places::kinds::NONE;
 use places::kinds::NOUGHT;
-use places::kinds::ONE;
-use places::kinds::RAISED;
-use places::kinds::RESULT;
-use places::kinds::SHUT;
-use places::kinds::SWAPS;
-use places::kinds::TEST;
-use places::kinds::UNIT;
-use places::kinds::UNTEST;
-use places::kinds::VAL;
-use places::kinds::WRITE_TO;
-use places::kinds::WRITE_VALUE;
 use records::Layout;
 use table::Formula;
 
@@ -68,484 +32,7 @@ pub enum Answer {
     Refused { number: u8, place: u32 },
 }
 
-// ---- trees
-
-// Writes the value of a kind for a and b, which is there and has no links.
-fn bare_entry(
-    slots: &mut [u32],
-    out: &mut [u8],
-    threads: u8,
-    step: u8,
-    kind: u8,
-    a: u8,
-    b: u16,
-    n: u32,
-) -> u32
-    requires { ⌜ (n ≤ 1800000000) × (kind < 41) × (a < 4) × (b < 9) × (ofStatement kind ≡ false) × (kind ≡ 31 → ⊥) ⌝ }
-    ensures { λ r. ⌜ ((S : Set) (cs : List ℕ) → S .threads ≡ threads → BareEntry S cs kind a b → length (now (slots .entry)) ≡ placesCount
-        → ((s : Slot) → placeOf (now (slots .entry)) s < n)
-        → Writes (entryOf S cs step (kindAt kind) a b) (now (out .entry)) (now (slots .entry)) n (now (out .exit)) (now (slots .exit)) r)
-        × (r ≤ n + 4) ⌝ }
-{
-    let base = bases::put_base(slots, out, threads, step, kind, a, b, n);
-    places::set_place(slots, kind, a, b, base.root);
-    n + base.count
-}
-
-// Writes the values of a kind that has one row and no links, at most nine of them.
-fn bare_line(
-    slots: &mut [u32],
-    out: &mut [u8],
-    threads: u8,
-    step: u8,
-    kind: u8,
-    columns: u16,
-    n: u32,
-) -> u32
-    requires { ⌜ (n ≤ 1600000000) × (kind < 41) × (columns ≤ 9) × (ofStatement kind ≡ false) × (kind ≡ 31 → ⊥) ⌝ }
-    ensures { λ r. ⌜ ((S : Set) (cs : List ℕ) → S .threads ≡ threads → ((b : ℕ) → BareEntry S cs kind 0 b) → rowsOf S cs step (shape (kindAt kind)) ≡ 1
-        → columns ≡ columnsOf S cs step (shape (kindAt kind)) 0 → length (now (slots .entry)) ≡ placesCount → ((s : Slot) → placeOf (now (slots .entry)) s < n)
-        → Writes (blockOf S cs step (kindAt kind)) (now (out .entry)) (now (slots .entry)) n (now (out .exit)) (now (slots .exit)) r)
-        × (r ≤ n + 36) ⌝ }
-{
-    let mut next = n;
-    let mut b: u16 = 0;
-    while b < columns {
-        next = bare_entry(slots, out, threads, step, kind, 0, b, next);
-        b += 1;
-    }
-    next
-}
-
-// Writes for each thread whether it may execute.
-fn may_block(slots: &mut [u32], out: &mut [u8], threads: u8, step: u8, n: u32) -> u32
-    requires { ⌜ (n ≤ 1600000000) × (threads ≤ 4) ⌝ }
-    ensures { λ r. ⌜ ((S : Set) (cs : List ℕ) → S .threads ≡ threads → length (now (slots .entry)) ≡ placesCount → ((s : Slot) → placeOf (now (slots .entry)) s < n)
-        → Writes (blockOf S cs step (kindAt 7)) (now (out .entry)) (now (slots .entry)) n (now (out .exit)) (now (slots .exit)) r)
-        × (r ≤ n + 16) ⌝ }
-{
-    let mut next = n;
-    let mut t: u8 = 0;
-    while t < threads {
-        next = bare_entry(slots, out, threads, step, MAY, t, 0, next);
-        t += 1;
-    }
-    next
-}
-
-// Writes a value that there is one of, whose links the choices or the threads give.
-fn single_block(slots: &mut [u32], out: &mut [u8], threads: u8, step: u8, kind: u8, n: u32) -> u32
-    requires { ⌜ (n ≤ 1600000000) × (threads ≤ 4) × (kind < 41) × (ofStatement kind ≡ false) × (kind ≡ 31 → ⊥) ⌝ }
-    ensures { λ r. ⌜ ((S : Set) (cs : List ℕ) → S .threads ≡ threads → chained kind ≡ true → shape (kindAt kind) ≡ single → length (now (slots .entry)) ≡ placesCount
-        → ((s : Slot) → placeOf (now (slots .entry)) s < n)
-        → Writes (blockOf S cs step (kindAt kind)) (now (out .entry)) (now (slots .entry)) n (now (out .exit)) (now (slots .exit)) r)
-        × (r ≤ n + 12) ⌝ }
-{
-    let base = bases::put_base(slots, out, threads, step, kind, 0, 0, n);
-    let next = n + base.count;
-    let tree = links::chains::single_chain(slots, out, threads, kind, next, base.root);
-    places::set_place(slots, kind, 0, 0, tree.at);
-    tree.next
-}
-
-// Writes the value of a kind for a and b, whose links the statements of thread t give.
-fn given_entry(
-    members: &[u8],
-    slots: &mut [u32],
-    out: &mut [u8],
-    threads: u8,
-    step: u8,
-    kind: u8,
-    a: u8,
-    b: u16,
-    t: u8,
-    n: u32,
-) -> u32
-    requires { ⌜ (n ≤ 1800000000) × (a < 4) × (b < 9) × (t < 4) ⌝ }
-    ensures { λ r. ⌜ ((S : Set) (cs : List ℕ) → S .threads ≡ threads → GivenEntry S cs kind a b t → Members S (now (members .entry)) → length (now (slots .entry)) ≡ placesCount
-        → ((s : Slot) → placeOf (now (slots .entry)) s < n)
-        → Writes (entryOf S cs step (kindAt kind) a b) (now (out .entry)) (now (slots .entry)) n (now (out .exit)) (now (slots .exit)) r)
-        × (r ≤ n + 36) ⌝ }
-{
-    let base = bases::put_base(slots, out, threads, step, kind, a, b, n);
-    let next = n + base.count;
-    let tree = links::given_chain(members, slots, out, kind, t, next, base.root);
-    places::set_place(slots, kind, a, b, tree.at);
-    tree.next
-}
-
-// Writes a register of each thread, or what else it has one value of, whose links its own statements give.
-fn register_block(
-    members: &[u8],
-    slots: &mut [u32],
-    out: &mut [u8],
-    threads: u8,
-    step: u8,
-    kind: u8,
-    n: u32,
-) -> u32
-    requires { ⌜ (n ≤ 1600000000) × (threads ≤ 4) ⌝ }
-    ensures { λ r. ⌜ ((S : Set) (cs : List ℕ) → S .threads ≡ threads → ByThread S cs kind → Members S (now (members .entry)) → length (now (slots .entry)) ≡ placesCount
-        → ((s : Slot) → placeOf (now (slots .entry)) s < n)
-        → Writes (blockOf S cs step (kindAt kind)) (now (out .entry)) (now (slots .entry)) n (now (out .exit)) (now (slots .exit)) r)
-        × (r ≤ n + 144) ⌝ }
-{
-    let mut next = n;
-    let mut t: u8 = 0;
-    while t < threads {
-        next = given_entry(members, slots, out, threads, step, kind, t, 0, t, next);
-        t += 1;
-    }
-    next
-}
-
-// Writes a value before the first thread, and one after each thread whose links its statements give.
-fn running_block(
-    members: &[u8],
-    slots: &mut [u32],
-    out: &mut [u8],
-    threads: u8,
-    step: u8,
-    kind: u8,
-    n: u32,
-) -> u32
-    requires { ⌜ (n ≤ 1600000000) × (threads ≤ 4) × (kind < 41) × (ofStatement kind ≡ false) × (kind ≡ 31 → ⊥) ⌝ }
-    ensures { λ r. ⌜ ((S : Set) (cs : List ℕ) → S .threads ≡ threads → AfterThread S cs kind → Members S (now (members .entry)) → length (now (slots .entry)) ≡ placesCount
-        → ((s : Slot) → placeOf (now (slots .entry)) s < n)
-        → Writes (blockOf S cs step (kindAt kind)) (now (out .entry)) (now (slots .entry)) n (now (out .exit)) (now (slots .exit)) r)
-        × (r ≤ n + 148) ⌝ }
-{
-    let mut next = bare_entry(slots, out, threads, step, kind, 0, 0, n);
-    let mut t: u8 = 0;
-    while t < threads {
-        let b = (t as u16) + 1;
-        next = given_entry(members, slots, out, threads, step, kind, 0, b, t, next);
-        t += 1;
-    }
-    next
-}
-
-// Writes the values that each statement has of a kind.
-fn statement_block(
-    set: &[u8],
-    layout: Layout,
-    members: &[u8],
-    slots: &mut [u32],
-    out: &mut [u8],
-    kind: u8,
-    n: u32,
-) -> u32
-    requires { ⌜ (n ≤ 1600000000) × (layout .threads ≤ 4) × (kind < 41) × (ofStatement kind ≡ true) ⌝ }
-    ensures { λ r. ⌜ ((points : Points) (step : ℕ) → Limits layout points (now (slots .entry)) n → Members (setBy (now (set .entry)) layout) (now (members .entry)) → Idle (setBy (now (set .entry)) layout) (placeOf (now (slots .entry)))
-        → Writes (blockOf (setBy (now (set .entry)) layout) (listed points) step (kindAt kind)) (now (out .entry)) (now (slots .entry)) n (now (out .exit)) (now (slots .exit)) r)
-        × (r ≤ n + 4608) ⌝ }
-{
-    let threads = layout.threads;
-    let mut next = n;
-    let mut t: u8 = 0;
-    while t < threads {
-        next = values::statement_line(set, layout, members, slots, out, kind, t, next);
-        t += 1;
-    }
-    next
-}
-
-// Writes the flags.
-fn flag_block(
-    set: &[u8],
-    layout: Layout,
-    members: &[u8],
-    slots: &mut [u32],
-    out: &mut [u8],
-    n: u32,
-) -> u32
-    requires { ⌜ (n ≤ 1600000000) × (layout .threads ≤ 4) ⌝ }
-    ensures { λ r. ⌜ ((points : Points) (step : ℕ) → Limits layout points (now (slots .entry)) n → Members (setBy (now (set .entry)) layout) (now (members .entry))
-        → Writes (blockOf (setBy (now (set .entry)) layout) (listed points) step (kindAt 31)) (now (out .entry)) (now (slots .entry)) n (now (out .exit)) (now (slots .exit)) r)
-        × (r ≤ n + 4608) ⌝ }
-{
-    let threads = layout.threads;
-    let mut next = n;
-    let mut t: u8 = 0;
-    while t < threads {
-        next = flags::flags(set, layout, members, slots, out, t, next);
-        t += 1;
-    }
-    next
-}
-
-// ---- the kinds of a step, five at a time
-
-// The choice bits, which statements execute, which checkpoints are open and which are not, and which threads need an empty buffer.
-fn choice_kinds(
-    set: &[u8],
-    layout: Layout,
-    points: Points,
-    members: &[u8],
-    slots: &mut [u32],
-    out: &mut [u8],
-    step: u8,
-    n: u32,
-) -> u32
-    requires { ⌜ (n ≤ 1500000000) × (layout .threads ≤ 4) × (length (listed points) ≤ 8) ⌝ }
-    ensures { λ r. ⌜ (Limits layout points (now (slots .entry)) n → Members (setBy (now (set .entry)) layout) (now (members .entry)) → Idle (setBy (now (set .entry)) layout) (placeOf (now (slots .entry)))
-        → Writes (blocksOf (setBy (now (set .entry)) layout) (listed points) step 0 5) (now (out .entry)) (now (slots .entry)) n (now (out .exit)) (now (slots .exit)) r)
-        × (r ≤ n + 23040) ⌝ }
-{
-    let threads = layout.threads;
-    let choices = 2 * (threads as u16);
-    let taken = bare_line(slots, out, threads, step, CHOICE, choices, n);
-    let active = statement_block(set, layout, members, slots, out, ACTIVE, taken);
-    let open = marks::openings(set, layout, points, members, slots, out, step, active);
-    let shut = bare_line(
-        slots,
-        out,
-        threads,
-        step,
-        SHUT,
-        places::points_count(points),
-        open,
-    );
-    register_block(members, slots, out, threads, step, BARRED, shut)
-}
-
-// Which marks hold a thread up, which threads wait, which may execute; what comes before each choice, and which choices are permitted.
-fn permit_kinds(
-    set: &[u8],
-    layout: Layout,
-    points: Points,
-    members: &[u8],
-    slots: &mut [u32],
-    out: &mut [u8],
-    step: u8,
-    n: u32,
-) -> u32
-    requires { ⌜ (n ≤ 1500000000) × (layout .threads ≤ 4) ⌝ }
-    ensures { λ r. ⌜ (Limits layout points (now (slots .entry)) n → Members (setBy (now (set .entry)) layout) (now (members .entry)) → Idle (setBy (now (set .entry)) layout) (placeOf (now (slots .entry)))
-        → Writes (blocksOf (setBy (now (set .entry)) layout) (listed points) step 5 5) (now (out .entry)) (now (slots .entry)) n (now (out .exit)) (now (slots .exit)) r)
-        × (r ≤ n + 23040) ⌝ }
-{
-    let threads = layout.threads;
-    let choices = 2 * (threads as u16);
-    let held = marks::marks(set, layout, points, members, slots, out, step, HELD, n);
-    let waiting = marks::waits(set, layout, points, members, slots, out, step, held);
-    let may = may_block(slots, out, threads, step, waiting);
-    let none = bare_line(slots, out, threads, step, NONE, choices + 1, may);
-    bare_line(slots, out, threads, step, FIT, choices, none)
-}
-
-// What a step is decided by.
-fn deciding_kinds(
-    set: &[u8],
-    layout: Layout,
-    points: Points,
-    members: &[u8],
-    slots: &mut [u32],
-    out: &mut [u8],
-    step: u8,
-    n: u32,
-) -> u32
-    requires { ⌜ (n ≤ 1400000000) × (layout .threads ≤ 4) × (length (listed points) ≤ 8) ⌝ }
-    ensures { λ r. ⌜ (Limits layout points (now (slots .entry)) n → Members (setBy (now (set .entry)) layout) (now (members .entry)) → Idle (setBy (now (set .entry)) layout) (placeOf (now (slots .entry)))
-        → Writes (blocksOf (setBy (now (set .entry)) layout) (listed points) step 0 11) (now (out .entry)) (now (slots .entry)) n (now (out .exit)) (now (slots .exit)) r)
-        × (r ≤ n + 50688) ⌝ }
-{
-    let chosen = choice_kinds(set, layout, points, members, slots, out, step, n);
-    let permitted = permit_kinds(set, layout, points, members, slots, out, step, chosen);
-    single_block(slots, out, layout.threads, step, ONE, permitted)
-}
-
-// Of the statements: addresses, words loaded, swaps, results and tests.
-fn statement_kinds(
-    set: &[u8],
-    layout: Layout,
-    members: &[u8],
-    slots: &mut [u32],
-    out: &mut [u8],
-    n: u32,
-) -> u32
-    requires { ⌜ (n ≤ 1500000000) × (layout .threads ≤ 4) ⌝ }
-    ensures { λ r. ⌜ ((points : Points) (step : ℕ) → Limits layout points (now (slots .entry)) n → Members (setBy (now (set .entry)) layout) (now (members .entry)) → Idle (setBy (now (set .entry)) layout) (placeOf (now (slots .entry)))
-        → Writes (blocksOf (setBy (now (set .entry)) layout) (listed points) step 11 5) (now (out .entry)) (now (slots .entry)) n (now (out .exit)) (now (slots .exit)) r)
-        × (r ≤ n + 23040) ⌝ }
-{
-    let addresses = statement_block(set, layout, members, slots, out, ADDRESS, n);
-    let loaded = statement_block(set, layout, members, slots, out, LOADED, addresses);
-    let swaps = statement_block(set, layout, members, slots, out, SWAPS, loaded);
-    let results = statement_block(set, layout, members, slots, out, RESULT, swaps);
-    statement_block(set, layout, members, slots, out, TEST, results)
-}
-
-// Which tests do not hold, and the cell that is written: its address and its value.
-fn write_kinds(
-    set: &[u8],
-    layout: Layout,
-    members: &[u8],
-    slots: &mut [u32],
-    out: &mut [u8],
-    step: u8,
-    n: u32,
-) -> u32
-    requires { ⌜ (n ≤ 1500000000) × (layout .threads ≤ 4) ⌝ }
-    ensures { λ r. ⌜ ((points : Points) → Limits layout points (now (slots .entry)) n → Members (setBy (now (set .entry)) layout) (now (members .entry)) → Idle (setBy (now (set .entry)) layout) (placeOf (now (slots .entry)))
-        → Writes (blocksOf (setBy (now (set .entry)) layout) (listed points) step 16 5) (now (out .entry)) (now (slots .entry)) n (now (out .exit)) (now (slots .exit)) r)
-        × (r ≤ n + 23040) ⌝ }
-{
-    let threads = layout.threads;
-    let untests = statement_block(set, layout, members, slots, out, UNTEST, n);
-    let flush_to = single_block(slots, out, threads, step, FLUSH_TO, untests);
-    let write_to = running_block(members, slots, out, threads, step, WRITE_TO, flush_to);
-    let flush_value = single_block(slots, out, threads, step, FLUSH_VALUE, write_to);
-    running_block(members, slots, out, threads, step, WRITE_VALUE, flush_value)
-}
-
-// The marks before open checkpoints are cleared, the EXITs with their codes, the memory, and the words in the buffers.
-fn exit_kinds(
-    set: &[u8],
-    layout: Layout,
-    points: Points,
-    members: &[u8],
-    slots: &mut [u32],
-    out: &mut [u8],
-    step: u8,
-    n: u32,
-) -> u32
-    requires { ⌜ (n ≤ 1500000000) × (layout .threads ≤ 4) ⌝ }
-    ensures { λ r. ⌜ (Limits layout points (now (slots .entry)) n → Members (setBy (now (set .entry)) layout) (now (members .entry)) → Idle (setBy (now (set .entry)) layout) (placeOf (now (slots .entry)))
-        → Writes (blocksOf (setBy (now (set .entry)) layout) (listed points) step 21 5) (now (out .entry)) (now (slots .entry)) n (now (out .exit)) (now (slots .exit)) r)
-        × (r ≤ n + 23040) ⌝ }
-{
-    let threads = layout.threads;
-    let raised = marks::marks(set, layout, points, members, slots, out, step, RAISED, n);
-    let exits = running_block(members, slots, out, threads, step, EXITS, raised);
-    let codes = running_block(members, slots, out, threads, step, CODES, exits);
-    let heap = bare_entry(slots, out, threads, step, HEAP, 0, 0, codes);
-    register_block(members, slots, out, threads, step, VAL, heap)
-}
-
-// The other registers.
-fn register_kinds(
-    members: &[u8],
-    slots: &mut [u32],
-    out: &mut [u8],
-    threads: u8,
-    step: u8,
-    n: u32,
-) -> u32
-    requires { ⌜ (n ≤ 1500000000) × (threads ≤ 4) ⌝ }
-    ensures { λ r. ⌜ ((bytes : List ℕ) (layout : Layout) (points : Points) → layout .threads ≡ threads → Limits layout points (now (slots .entry)) n → Members (setBy bytes layout) (now (members .entry)) → Idle (setBy bytes layout) (placeOf (now (slots .entry)))
-        → Writes (blocksOf (setBy bytes layout) (listed points) step 26 5) (now (out .entry)) (now (slots .entry)) n (now (out .exit)) (now (slots .exit)) r)
-        × (r ≤ n + 23040) ⌝ }
-{
-    let adr = register_block(members, slots, out, threads, step, ADR, n);
-    let mem = register_block(members, slots, out, threads, step, MEM, adr);
-    let accu = register_block(members, slots, out, threads, step, ACCU, mem);
-    let full = register_block(members, slots, out, threads, step, FULL, accu);
-    register_block(members, slots, out, threads, step, HALTED, full)
-}
-
-// The flags, the marks, and whether and how the machine has ended.
-fn end_kinds(
-    set: &[u8],
-    layout: Layout,
-    points: Points,
-    members: &[u8],
-    slots: &mut [u32],
-    out: &mut [u8],
-    step: u8,
-    n: u32,
-) -> u32
-    requires { ⌜ (n ≤ 1500000000) × (layout .threads ≤ 4) ⌝ }
-    ensures { λ r. ⌜ (Limits layout points (now (slots .entry)) n → Members (setBy (now (set .entry)) layout) (now (members .entry)) → Idle (setBy (now (set .entry)) layout) (placeOf (now (slots .entry)))
-        → Writes (blocksOf (setBy (now (set .entry)) layout) (listed points) step 31 5) (now (out .entry)) (now (slots .entry)) n (now (out .exit)) (now (slots .exit)) r)
-        × (r ≤ n + 23040) ⌝ }
-{
-    let threads = layout.threads;
-    let flags = flag_block(set, layout, members, slots, out, n);
-    let marked = marks::marks(set, layout, points, members, slots, out, step, MARK, flags);
-    let halts = single_block(slots, out, threads, step, HALTS, marked);
-    let ended = bare_entry(slots, out, threads, step, ENDED, 0, 0, halts);
-    bare_entry(slots, out, threads, step, CODE, 0, 0, ended)
-}
-
-// What a step does.
-fn acting_kinds(
-    set: &[u8],
-    layout: Layout,
-    points: Points,
-    members: &[u8],
-    slots: &mut [u32],
-    out: &mut [u8],
-    step: u8,
-    n: u32,
-) -> u32
-    requires { ⌜ (n ≤ 1450000000) × (layout .threads ≤ 4) ⌝ }
-    ensures { λ r. ⌜ (Limits layout points (now (slots .entry)) n → Members (setBy (now (set .entry)) layout) (now (members .entry)) → Idle (setBy (now (set .entry)) layout) (placeOf (now (slots .entry)))
-        → Writes (blocksOf (setBy (now (set .entry)) layout) (listed points) step 11 25) (now (out .entry)) (now (slots .entry)) n (now (out .exit)) (now (slots .exit)) r)
-        × (r ≤ n + 115200) ⌝ }
-{
-    let statements = statement_kinds(set, layout, members, slots, out, n);
-    let written = write_kinds(set, layout, members, slots, out, step, statements);
-    let exits = exit_kinds(set, layout, points, members, slots, out, step, written);
-    let registers = register_kinds(members, slots, out, layout.threads, step, exits);
-    end_kinds(set, layout, points, members, slots, out, step, registers)
-}
-
 // ---- the parts of a table
-
-// Writes the constraint of a step: before the end exactly one choice, and it permitted; none after.
-fn rule(layout: Layout, slots: &[u32], out: &mut [u8], n: u32) -> u32
-    requires { ⌜ (n ≤ 2000000000) × (layout .threads ≤ 4) ⌝ }
-    ensures { λ r. ⌜ ((bytes cs : List ℕ) (step : ℕ) → Writes (needs (ruled (setBy bytes layout) cs step) ∷ [])
-        (now (out .entry)) (now (slots .entry)) n (now (out .exit)) (now (slots .entry)) r)
-        × (r ≡ n + 2) ⌝ }
-{
-    let choices = 2 * (layout.threads as u16);
-    let test = Formula {
-        operation: 8,
-        sort: 1,
-        constant: 0,
-        a: places::place(slots, ENDED, 0, 0, 0),
-        b: places::place(slots, NONE, 0, choices, 0),
-        c: places::place(slots, ONE, 0, 0, 0),
-    };
-    table::put(out, n, test);
-    let constraint = Formula {
-        operation: 15,
-        sort: 0,
-        constant: 0,
-        a: n as u64,
-        b: 0,
-        c: 0,
-    };
-    table::put(out, n + 1, constraint);
-    n + 2
-}
-
-// Writes a step.
-fn one_step(
-    set: &[u8],
-    layout: Layout,
-    points: Points,
-    members: &[u8],
-    slots: &mut [u32],
-    out: &mut [u8],
-    step: u8,
-    n: u32,
-) -> u32
-    requires { ⌜ (Limits layout points (now slots) n) × (n ≤ 1400000000) × (Members (setBy (now set) layout) (now members)) × (Idle (setBy (now set) layout) (placeOf (now slots))) ⌝ }
-    ensures { λ r. ⌜ (Writes (stepOf (setBy (now (set .entry)) layout) (listed points) step)
-        (now (out .entry)) (now (slots .entry)) n (now (out .exit)) (now (slots .exit)) r)
-        × (r ≤ n + 377858) ⌝ }
-{
-    // With the length known here, the compiler drops the tests of places.
-    if slots.len() != 2304 {
-        return n;
-    }
-    let decided = deciding_kinds(set, layout, points, members, slots, out, step, n);
-    let next = rule(layout, slots, out, decided);
-    acting_kinds(set, layout, points, members, slots, out, step, next)
-}
 
 // Writes the steps.
 fn steps(
@@ -566,7 +53,7 @@ fn steps(
     let mut next = n;
     let mut k: u8 = 0;
     while k < bound {
-        next = one_step(set, layout, points, members, slots, out, k, next);
+        next = blocks::one_step(set, layout, points, members, slots, out, k, next);
         k += 1;
     }
     next
@@ -688,8 +175,7 @@ fn before_steps(
         (now (out .entry)) (now (slots .entry)) 4 (now (out .exit)) (now (slots .exit)) r)
         × (r ≤ 9860) ⌝ }
 {
-    let one = bare_entry(slots, out, layout.threads, 0, UNIT, 0, 0, 4);
-    let all = statement_block(set, layout, members, slots, out, ARGUMENT, one);
+    let all = blocks::shared(set, layout, members, slots, out, 4);
     demands(map, slots, out, all)
 }
 
@@ -895,7 +381,7 @@ fn write(set: &[u8], layout: Layout, points: Points, map: &[u8], bound: u8, tabl
     ensures { λ _. ⌜ now (table .exit) ≡ writtenAt (now (table .entry)) 0 (encodedOf (setBy (now (set .entry)) layout) (listed points) (now (map .entry)) bound) ⌝ }
 {
     let mut members = [0u8; 1452];
-    links::members::make(set, layout, &mut members);
+    members::make(set, layout, &mut members);
     let mut slots = [0u32; 2304];
     firsts(table);
     let first = before_steps(set, layout, points, &members, map, &mut slots, table);

@@ -10,7 +10,7 @@ use Rattle.encoding.specs.Slots.{flag, Slot, Term}
 use Rattle.encoding.specs.Steps.{Link as ChainLink, skip, linked, chain, base, leads}
 use Rattle.places.specs.Pieces.{WritesTree}
 use Rattle.places.proofs.Entries.{treeOf}
-use Rattle.links.specs.Members.{namesTarget}
+use Rattle.members.specs.Members.{namesTarget}
 use Rattle.links.proofs.Leads.{leads-elsewhere}
 use Rattle.links.proofs.Trees.{chain-none, chain-more, chain-to}
 

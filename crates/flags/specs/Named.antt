@@ -5,7 +5,7 @@ use mathlib.Core.Bool.{false}
 use mathlib.Core.List.{List}
 use lib.ListN.{getD}
 use Rattle.records.specs.Sets.{Set}
-use Rattle.links.specs.Members.{namesTarget}
+use Rattle.members.specs.Members.{namesTarget}
 
 -- where `named` has 0 for statement j, none of the first `count` statements of thread t is a jump to j
 abbrev pub Unnamed : Set → (t count j : ℕ) → List ℕ → Type 0

@@ -11,15 +11,15 @@ ghost use Rattle.encoding.specs.Slots.{Slot, Term, flag as flagKind};
 ghost use Rattle.encoding.specs.Steps.{chain as chainOf, leads as leadsOf, entry as entryOf, line as lineOf};
 ghost use Rattle.places.specs.Places.{placeOf, size};
 ghost use Rattle.places.specs.Pieces.{Writes, WritesTree};
-ghost use Rattle.links.specs.Held.{Held};
-ghost use Rattle.links.specs.Members.{Members};
+ghost use Rattle.members.specs.Held.{Held};
+ghost use Rattle.members.specs.Members.{Members};
 ghost use Rattle.flags.specs.Named.{Unnamed};
 use links::Root;
 use links::edges;
-use links::members::IS_JUMP;
-use links::members::count_of;
-use links::members::member;
 use links::put_link;
+use members::IS_JUMP;
+use members::count_of;
+use members::member;
 use places::kinds::FLAG;
 use records::Layout;
 
@@ -211,6 +211,6 @@ pub fn flags(
     if 1700000000 < n {
         return n;
     }
-    let first = links::first(layout, t);
+    let first = members::first(layout, t);
     each_flag(set, first, members, slots, out, t, count, n)
 }

@@ -11,10 +11,10 @@ use Rattle.encoding.specs.Slots.{Term}
 use Rattle.encoding.specs.Steps.{chain}
 use Rattle.places.specs.Places.{placeFrom, placeOf}
 use Rattle.links.specs.Given.{Gives, givenBy}
-use Rattle.links.specs.Members.{ofClass}
+use Rattle.members.specs.Members.{ofClass}
 use Rattle.links.specs.Placed.{placedLink, ifLink}
 use Rattle.links.specs.declared.given.Giver.{Giver}
-use Rattle.links.proofs.Listed.{chain-same}
+use Rattle.members.proofs.Listed.{chain-same}
 
 module _ (kind : ℕ) (g : Giver) (gives : Gives kind g) (t : ℕ) where
   module _ (slots : List ℕ) (inside : g .class < 11) (i : ℕ) where

@@ -13,7 +13,7 @@ use Rattle.records.specs.declared.Statement.{Statement}
 use Rattle.table.specs.Formulas.{bitSort, AND, OR}
 use Rattle.encoding.specs.Slots.{Kind, active, test, untest, yes, Slot, slot}
 use Rattle.encoding.specs.Steps.{Link as ChainLink, skip, ifThen, andWith, orWith, only, isConditional, isPlain, rests, leads}
-use Rattle.links.specs.Members.{namesTarget}
+use Rattle.members.specs.Members.{namesTarget}
 use Rattle.links.specs.Placed.{placedLink, noLink, ifLink, bitLink}
 
 -- a link that is there where a test holds

@@ -11,7 +11,7 @@ use Rattle.table.specs.Formulas.{bitSort, wordSort}
 use Rattle.encoding.specs.Slots.{Kind, Slot, slot, active, swaps, address, loaded, result, accu, yes, argument}
 use Rattle.encoding.specs.Steps.{Link, skip, ifThen, only, setsAccu}
 use Rattle.places.specs.Places.{placeFrom, placeOf}
-use Rattle.links.specs.Members.{inClass}
+use Rattle.members.specs.Members.{inClass}
 use Rattle.links.specs.Placed.{placedLink, ifLink}
 use Rattle.links.specs.declared.given.Giver.{Giver}
 

@@ -1,16 +1,11 @@
 // The links of a table's chains, and chains written over a tree (crate encoding: `link`, `links`, `chain`).
 pub mod chains;
-pub mod checks;
 pub mod edges;
 mod given;
-pub mod members;
 mod parts;
-mod statements;
 mod written;
 
 pub use given::given_chain;
-pub use statements::count;
-pub use statements::first;
 pub use written::Root;
 pub use written::put_link;
 

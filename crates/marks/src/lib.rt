@@ -9,7 +9,7 @@ ghost use Rattle.encoding.specs.Steps.{base as baseOf, entry as entryOf, line a
 ghost use Rattle.places.specs.Places.{placeOf, listed};
 ghost use Rattle.places.specs.Pieces.{Writes, Limits};
 ghost use Rattle.bases.specs.Fews.{Puts};
-ghost use Rattle.links.specs.Members.{Members};
+ghost use Rattle.members.specs.Members.{Members};
 ghost use Rattle.marks.specs.Marked.{marked};
 use bases::Written;
 use places::Points;
@@ -194,7 +194,7 @@ fn entry(
         → Writes (entryOf (setBy (now (set .entry)) layout) (listed points) step (kindAt kind) t p) (now (out .entry)) (now (slots .entry)) n (now (out .exit)) (now (slots .exit)) r)
         × (r ≤ n + 36) ⌝ }
 {
-    if links::checks::has(set, layout, members, t, places::checkpoint(points, p)) {
+    if members::checks::has(set, layout, members, t, places::checkpoint(points, p)) {
         let base = put_marked(slots, out, layout.threads, step, kind, t, p, n);
         let next = n + base.count;
         if kind == kinds::RAISED {

@@ -128,7 +128,7 @@ fn statements(set: &[u8], layout: Layout, points: Points, t: u8, count: u16) -> 
     requires { ⌜ count ≡ getD (layout .counts) t 0 ⌝ }
     ensures { λ r. ⌜ (r ≡ total (λ i. statementRecords (listed points) count i (setBy (now (set .entry)) layout .statement t i)) count) × (r ≤ 24 * count) ⌝ }
 {
-    let first = links::first(layout, t);
+    let first = members::first(layout, t);
     let mut n: u64 = 0;
     let mut i: u16 = 0;
     while i < count {
@@ -160,7 +160,7 @@ fn marks(set: &[u8], layout: Layout, points: Points, t: u8) -> u64
 fn thread(set: &[u8], layout: Layout, points: Points, t: u8) -> u64
     ensures { λ r. ⌜ (r ≡ threadRecords (setBy (now (set .entry)) layout) (listed points) t) × (r ≤ 24 * getD (layout .counts) t 0 + 47) × (r ≤ 1572887) ⌝ }
 {
-    let count = links::count(layout, t);
+    let count = members::count(layout, t);
     statements(set, layout, points, t, count) + 4 * marks(set, layout, points, t) + 15
 }
 
@@ -192,7 +192,7 @@ fn all_statements(layout: Layout) -> u64
     let mut n: u64 = 0;
     let mut t: u8 = 0;
     while t < threads {
-        n += links::count(layout, t) as u64;
+        n += members::count(layout, t) as u64;
         t += 1;
     }
     n

@@ -18,8 +18,8 @@ use Rattle.places.proofs.Pieces.{writes-row, writes-more, below-after}
 use Rattle.places.proofs.Entries.{line-at}
 use Rattle.places.proofs.Idle.{idle-entry, idle-written, no-load, no-swap, no-test, no-untest}
 use Rattle.bases.specs.Fews.{ofStatement}
-use Rattle.links.specs.Members.{members, membersOf, Members}
-use Rattle.links.proofs.Listed.{members-below}
+use Rattle.members.specs.Members.{members, membersOf, Members}
+use Rattle.members.proofs.Listed.{members-below}
 use Rattle.values.specs.Lines.{Stands, Listed}
 use Rattle.values.proofs.Values.{Others, entry-apart, statement-columns, stands-by}
 use Rattle.values.proofs.Members.{belongs, members-none, members-in, members-out, member-at}

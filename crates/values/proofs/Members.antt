@@ -8,7 +8,7 @@ use native.Mathlib.Decide.{ℕ-discrete}
 use lib.ListN.{length, getD, length-append, List·getD-append}
 use lib.Seq.{getD-append-seam}
 use Rattle.records.specs.Sets.{Set}
-use Rattle.links.specs.Members.{inClass, added, members}
+use Rattle.members.specs.Members.{inClass, added, members}
 
 -- ---- one number more at the end, or not
 

@@ -22,7 +22,7 @@ use Rattle.places.proofs.Pieces.{below-after, writes-row, writes-more}
 use Rattle.places.proofs.Entries.{treeOf, line-at}
 use Rattle.bases.specs.Fews.{ofStatement}
 use Rattle.bases.proofs.Given.{Apart}
-use Rattle.links.proofs.Held.{held}
+use Rattle.members.proofs.Held.{held}
 use Rattle.values.specs.Lines.{Stands, Line}
 
 -- ---- kinds of statements

@@ -8,8 +8,8 @@ use Rattle.encoding.specs.Steps.{line as lineOf}
 use Rattle.places.specs.Places.{placeOf}
 use Rattle.places.specs.Pieces.{Writes}
 use Rattle.places.specs.Idle.{Idle}
-use Rattle.links.specs.Held.{Held}
-use Rattle.links.specs.Members.{Members}
+use Rattle.members.specs.Held.{Held}
+use Rattle.members.specs.Members.{Members}
 
 -- thread t has `count` statements, and they are the records from `first` on
 pub record Stands (S : Set) (set : List ℕ) (first count t : ℕ) : Type 0 where

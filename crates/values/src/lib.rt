@@ -12,10 +12,9 @@ ghost use Rattle.places.specs.Places.{placeOf, size};
 ghost use Rattle.places.specs.Pieces.{Writes};
 ghost use Rattle.places.specs.Idle.{Idle};
 ghost use Rattle.bases.specs.Fews.{Puts, ofStatement};
-ghost use Rattle.links.specs.Members.{Members};
+ghost use Rattle.members.specs.Members.{Members};
 ghost use Rattle.values.specs.Lines.{Line, Listed};
 use bases::Written;
-use links::members;
 use places::kinds;
 use records::Layout;
 

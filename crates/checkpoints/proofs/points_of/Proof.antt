@@ -11,8 +11,8 @@ use Rattle.encoding.specs.Checkpoints.{noted, notedIn}
 use Rattle.records.specs.declared.Statement.{Statement}
 use Rattle.records.specs.Sets.{Set, setBy}
 use Rattle.checkpoints.proofs.Noted.{noted-start, noted-more}
-use Rattle.links.specs.Held.{Held}
-use Rattle.links.proofs.Held.{held as held-by}
+use Rattle.members.specs.Held.{Held}
+use Rattle.members.proofs.Held.{held as held-by}
 use Rattle.checkpoints.proofs.points_of.Statement.{statement}
 use Rattle.checkpoints.proofs.points_of.Tie as tie
 

@@ -33,9 +33,7 @@ loop-holds c =
     (omega arith, omega arith, omega arith, refl, refl, l, writes-row (step (setBy (now (a .set)) (a .layout)) (listed (a .points))) (now (a .out)) (now (a .slots)) (a .n), c .before .before .before .before .pre .4)
 
 one-step-requires : tie.Need-one-step-requires Inv-loop μ-loop
-one-step-requires c κs =
-    let l = c .before .before .before .loop in
-    (l .inv .5, omega arith, c .before .before .before .before .before .before .before .before .pre .3, l .inv .7)
+one-step-requires c κs = search needs
 
 add-k : tie.Need-add-k Inv-loop μ-loop
 add-k c = search needs
@@ -48,15 +46,22 @@ loop-again c =
     let a = c .before .before .before .before .before .before .before .before .before .before .before .before .before .args in
     let l = c .before .before .before .before .before .before .before .before .loop in
     let r = c .before .before .before .before .one-step in
-    let f = step (setBy (now (a .set)) (a .layout)) (listed (a .points)) in (
+    let f = step (setBy (now (a .set)) (a .layout)) (listed (a .points)) in
+    let q = c .before .before .before .before .before .before .before .before .before .before .before .before .before .pre in
+    let little = q .1 in
+    let most = l .inv .1 in
+    let so-far = l .inv .2 in
+    let room : l .next ≤ 1400000000 = omega arith in
+    let more = r .ensures .1 room in
+    let w = r .ensures .0 (l .inv .5) room (q .3) (l .inv .7) in (
       omega arith,
       l .inv .1,
       omega arith,
       search needs,
       search needs,
-      limits-after (a .layout) (a .points) (f (l .k)) _ _ _ _ _ _ (r .ensures .0) (l .inv .5),
-      writes-more f (l .k) (now (a .out)) (now (a .slots)) (a .n) _ _ _ _ _ _ (l .inv .6) (r .ensures .0),
-      idle-written (setBy (now (a .set)) (a .layout)) (f (l .k)) (idle-step (setBy (now (a .set)) (a .layout)) (listed (a .points)) (l .k)) _ _ _ _ _ _ (r .ensures .0) (l .inv .7),
+      limits-after (a .layout) (a .points) (f (l .k)) _ _ _ _ _ _ w (l .inv .5),
+      writes-more f (l .k) (now (a .out)) (now (a .slots)) (a .n) _ _ _ _ _ _ (l .inv .6) w,
+      idle-written (setBy (now (a .set)) (a .layout)) (f (l .k)) (idle-step (setBy (now (a .set)) (a .layout)) (listed (a .points)) (l .k)) _ _ _ _ _ _ w (l .inv .7),
     )
 
 same-length : tie.Need-same-length Inv-loop μ-loop

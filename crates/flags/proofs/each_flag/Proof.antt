@@ -1,6 +1,6 @@
 -- `flags::each_flag` meets its contract. Assumes nothing.
-use Rattle.links.specs.Held.{Held}
-use Rattle.links.specs.Members.{Members}
+use Rattle.members.specs.Held.{Held}
+use Rattle.members.specs.Members.{Members}
 use Rattle.flags.specs.Named.{Unnamed}
 use Rattle.places.proofs.Pieces.{writes-row, writes-more, below-after}
 use Rattle.places.specs.Pieces.{Writes}

@@ -8,7 +8,7 @@ use native.Mathlib.Omega.{arith}
 use denote.Ref.{now}
 use lib.ListN.{length, getD}
 use borrow.Author.Needs.{needs}
-use Rattle.links.proofs.Held.{held}
+use Rattle.members.proofs.Held.{held}
 use Rattle.flags.proofs.flags.Statement.{statement}
 use Rattle.flags.proofs.flags.Tie as tie
 

@@ -1,7 +1,7 @@
 -- `flags::jump_links` meets its contract. Assumes nothing.
 use Rattle.links.proofs.Trees.{chain-none, chain-more, chain-to}
-use Rattle.links.specs.Held.{Held}
-use Rattle.links.specs.Members.{Members}
+use Rattle.members.specs.Held.{Held}
+use Rattle.members.specs.Members.{Members}
 use Rattle.places.specs.Pieces.{WritesTree}
 use Rattle.places.specs.Places.{placeOf}
 use Rattle.encoding.specs.Steps.{chain, leads}

@@ -11,9 +11,9 @@ use Rattle.base.proofs.Choice.{and-false, and-right-false}
 use Rattle.records.specs.Instructions.{isJump}
 use Rattle.records.specs.Sets.{Set, statementAt}
 use Rattle.records.specs.declared.Statement.{Statement}
-use Rattle.links.specs.Held.{Held}
-use Rattle.links.specs.Members.{Members, membersOf, namesTarget}
-use Rattle.links.proofs.Listed.{members-below, members-at}
+use Rattle.members.specs.Held.{Held}
+use Rattle.members.specs.Members.{Members, membersOf, namesTarget}
+use Rattle.members.proofs.Listed.{members-below, members-at}
 use borrow.Author.Needs.{needs}
 use Rattle.flags.proofs.name_targets.Statement.{statement}
 use Rattle.flags.proofs.name_targets.Tie as tie

@@ -5,7 +5,7 @@ use Rattle.places.specs.Pieces.{WritesTree, Limits}
 use Rattle.places.specs.Places.{placeOf, listed}
 use Rattle.places.proofs.Entries.{entry-none, entry-kept, treeOf}
 use Rattle.places.proofs.Rows.{width-least}
-use Rattle.links.specs.Members.{Members}
+use Rattle.members.specs.Members.{Members}
 use Rattle.bases.proofs.Given.{put-written}
 use Rattle.encoding.specs.Steps.{base, shape, kept}
 use Rattle.encoding.specs.Slots.{kindAt}

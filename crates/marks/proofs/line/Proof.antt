@@ -2,7 +2,7 @@
 use Rattle.places.specs.Pieces.{Writes, Limits}
 use Rattle.places.specs.Places.{listed}
 use Rattle.places.proofs.Pieces.{writes-row, writes-more, limits-after}
-use Rattle.links.specs.Members.{Members}
+use Rattle.members.specs.Members.{Members}
 use Rattle.links.proofs.Points.{listed-most}
 use Rattle.marks.specs.Marked.{marked}
 use Rattle.marks.proofs.Marked.{marked-columns}

@@ -7,7 +7,7 @@ use Rattle.encoding.specs.Slots.{Term, slot, active, raised, yes}
 use Rattle.encoding.specs.Steps.{skip, ifThen, only, link}
 use Rattle.places.specs.Places.{placeOf, listed}
 use Rattle.links.proofs.Leads.{if-placed}
-use Rattle.links.proofs.Listed.{over, chain-same, members-chain}
+use Rattle.members.proofs.Listed.{over, chain-same, members-chain}
 use Rattle.links.proofs.Trees.{chain-none, chain-more}
 use Rattle.links.specs.Placed.{placedLink}
 use native.Mathlib.Omega.{arith}
@@ -17,10 +17,10 @@ use mathlib.Core.List.{List}
 use Prim.Native.Nat.{ℕ, _+_, _-_, _≤_, _<_}
 use lib.ListN.{length, getD}
 use Rattle.places.specs.Pieces.{WritesTree}
-use Rattle.links.specs.Members.{membersOf, ofClass, Members}
-use Rattle.links.specs.Held.{Held}
-use Rattle.links.proofs.Held.{held, held-member}
-use Rattle.links.proofs.Contains.{checks, raised-checks}
+use Rattle.members.specs.Members.{membersOf, ofClass, Members}
+use Rattle.members.specs.Held.{Held}
+use Rattle.members.proofs.Held.{held, held-member}
+use Rattle.members.proofs.Contains.{checks, raised-checks}
 use borrow.Author.Needs.{needs}
 use Rattle.links.proofs.chains.raised_chain.Statement.{statement}
 use Rattle.links.proofs.chains.raised_chain.Tie as tie

@@ -1,5 +1,5 @@
 -- `links::chains::waits_chain` meets its contract. Assumes nothing.
-use Rattle.links.specs.Members.{Members}
+use Rattle.members.specs.Members.{Members}
 use Rattle.links.proofs.Leads.{or-placed}
 use Rattle.links.proofs.Points.{listed-most}
 use Rattle.step.specs.Machine.{contains}

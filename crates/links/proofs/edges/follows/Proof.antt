@@ -1,6 +1,6 @@
 -- `links::edges::follows` meets its contract. Assumes nothing.
 use Rattle.links.proofs.Leads.{leads-rests, follows-jump, follows-test, follows-on, contrary, tested, leads-by}
-use Rattle.links.specs.Members.{namesTarget}
+use Rattle.members.specs.Members.{namesTarget}
 use Rattle.places.specs.Places.{placeOf}
 use Rattle.encoding.specs.Steps.{isConditional, isPlain, rests}
 use Rattle.encoding.specs.Slots.{slot, active, yes, test, untest}
@@ -14,14 +14,6 @@ use denote.Ref.{now}
 use borrow.Author.Needs.{needs}
 use Rattle.links.proofs.edges.follows.Statement.{statement}
 use Rattle.links.proofs.edges.follows.Tie as tie
-use Rattle.links.proofs.edges.follows.Reads as reads
-use Rattle.links.proofs.edges.follows.Lts as lts
-use Rattle.links.proofs.edges.by_test.Reads as by-test-reads
-use Rattle.links.proofs.parts.bit_if.Reads as bit-if-reads
-use Rattle.links.proofs.parts.none.Reads as none-reads
-use Rattle.links.proofs.statements.is_conditional.Reads as is-conditional-reads
-use Rattle.links.proofs.statements.is_plain.Reads as is-plain-reads
-use Rattle.links.proofs.statements.rests.Reads as rests-reads
 
 rests-requires : tie.Need-rests-requires
 rests-requires c κs = search needs

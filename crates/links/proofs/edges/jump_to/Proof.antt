@@ -3,7 +3,7 @@ use Rattle.records.specs.declared.Statement.{Statement}
 use Rattle.records.specs.Sets.{Set, statementAt}
 use borrow.Author.Tests.{leb-true, ltb-true, le-leb, lt-ltb}
 use Rattle.base.proofs.Choice.{and-left, and-right, and-yes}
-use Rattle.links.proofs.Listed.{members-miss}
+use Rattle.members.proofs.Listed.{members-miss}
 use native.Mathlib.Omega.{arith}
 use denote.Ref.{now}
 use mathlib.Core.Path.{_≡_, sym, ap, _∙_}
@@ -12,8 +12,8 @@ use Prim.Native.Nat.{ℕ, _+_, _-_, _≤_, _<_}
 use lib.Dec.{eqb, leb, ltb}
 use lib.ListN.{length, getD}
 use native.Mathlib.Decide.{decLt, ℕ-discrete}
-use Rattle.links.specs.Members.{membersOf, Members}
-use Rattle.links.specs.Held.{Held}
+use Rattle.members.specs.Members.{membersOf, Members}
+use Rattle.members.specs.Held.{Held}
 use borrow.Author.Needs.{needs}
 use Rattle.links.proofs.edges.jump_to.Statement.{statement}
 use Rattle.links.proofs.edges.jump_to.Tie as tie

@@ -1,7 +1,7 @@
 -- `links::edges::leading` meets its contract. Assumes nothing.
-use Rattle.links.specs.Held.{Held}
+use Rattle.members.specs.Held.{Held}
 use Rattle.links.proofs.Leads.{leads-elsewhere}
-use Rattle.links.specs.Members.{Members}
+use Rattle.members.specs.Members.{Members}
 use Rattle.encoding.specs.Steps.{skip, leads}
 use Rattle.records.specs.Sets.{Set}
 use denote.Ref.{now}

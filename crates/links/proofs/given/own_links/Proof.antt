@@ -12,8 +12,8 @@ use Rattle.encoding.specs.Steps.{Link, skip}
 use Rattle.places.specs.Pieces.{WritesTree}
 use Rattle.places.specs.Places.{placeOf, placeFrom}
 use Rattle.links.specs.Placed.{placedLink, ifLink}
-use Rattle.links.specs.Members.{membersOf, ofClass, Members}
-use Rattle.links.proofs.Listed.{over, class-past, members-chain}
+use Rattle.members.specs.Members.{membersOf, ofClass, Members}
+use Rattle.members.proofs.Listed.{over, class-past, members-chain}
 use Rattle.links.proofs.Trees.{chain-none, chain-more, chain-to}
 use borrow.Author.Needs.{needs}
 use Rattle.links.proofs.given.own_links.Statement.{statement}

@@ -1,6 +1,6 @@
 -- `links::parts::contained` meets its contract. Assumes nothing.
-use Rattle.links.specs.Members.{Members}
-use Rattle.links.proofs.Threads.{contains-past}
+use Rattle.members.specs.Members.{Members}
+use Rattle.members.proofs.Past.{contains-past}
 use Rattle.links.specs.Placed.{bitLink}
 use Rattle.places.specs.Places.{listed}
 use Rattle.step.specs.Machine.{contains}

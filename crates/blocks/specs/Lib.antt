@@ -1,0 +1,2 @@
+-- What the values of a kind have for links.
+pub mod Entries

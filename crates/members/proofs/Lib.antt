@@ -1,0 +1,6 @@
+-- Laws of the members of classes, of a thread's statements and of its checkpoints.
+pub mod Contains
+pub mod Filling
+pub mod Held
+pub mod Listed
+pub mod Past
