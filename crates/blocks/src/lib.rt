@@ -14,6 +14,7 @@ ghost use Rattle.places.specs.Pieces.{Writes, Limits};
 ghost use Rattle.places.specs.Idle.{Idle};
 ghost use Rattle.bases.specs.Fews.{ofStatement};
 ghost use Rattle.links.specs.Chained.{chained};
+ghost use Rattle.links.specs.Contained.{Contained};
 ghost use Rattle.members.specs.Members.{Members};
 ghost use Rattle.blocks.specs.Entries.{BareEntry, GivenEntry, ByThread, AfterThread};
 use places::Points;
@@ -269,30 +270,24 @@ fn choice_kinds(
     layout: Layout,
     points: Points,
     members: &[u8],
+    contained: &[u8],
     slots: &mut [u32],
     out: &mut [u8],
     step: u8,
     n: u32,
 ) -> u32
     requires { ⌜ (n ≤ 1500000000) × (layout .threads ≤ 4) × (length (listed points) ≤ 8) ⌝ }
-    ensures { λ r. ⌜ (Limits layout points (now (slots .entry)) n → Members (setBy (now (set .entry)) layout) (now (members .entry)) → Idle (setBy (now (set .entry)) layout) (placeOf (now (slots .entry)))
+    ensures { λ r. ⌜ (Limits layout points (now (slots .entry)) n → Members (setBy (now (set .entry)) layout) (now (members .entry)) → Contained (setBy (now (set .entry)) layout) (listed points) (now (contained .entry)) → Idle (setBy (now (set .entry)) layout) (placeOf (now (slots .entry)))
         → Writes (blocksOf (setBy (now (set .entry)) layout) (listed points) step 0 5) (now (out .entry)) (now (slots .entry)) n (now (out .exit)) (now (slots .exit)) r)
         × (r ≤ n + 23040) ⌝ }
 {
     let threads = layout.threads;
     let choices = 2 * (threads as u16);
+    let checkpoints = places::points_count(points);
     let taken = bare_line(slots, out, threads, step, CHOICE, choices, n);
     let active = statement_block(set, layout, members, slots, out, ACTIVE, taken);
-    let open = marks::openings(set, layout, points, members, slots, out, step, active);
-    let shut = bare_line(
-        slots,
-        out,
-        threads,
-        step,
-        SHUT,
-        places::points_count(points),
-        open,
-    );
+    let open = marks::openings(contained, slots, out, threads, checkpoints, step, active);
+    let shut = bare_line(slots, out, threads, step, SHUT, checkpoints, open);
     register_block(members, slots, out, threads, step, BARRED, shut)
 }
 
@@ -302,20 +297,33 @@ fn permit_kinds(
     layout: Layout,
     points: Points,
     members: &[u8],
+    contained: &[u8],
     slots: &mut [u32],
     out: &mut [u8],
     step: u8,
     n: u32,
 ) -> u32
     requires { ⌜ (n ≤ 1500000000) × (layout .threads ≤ 4) ⌝ }
-    ensures { λ r. ⌜ (Limits layout points (now (slots .entry)) n → Members (setBy (now (set .entry)) layout) (now (members .entry)) → Idle (setBy (now (set .entry)) layout) (placeOf (now (slots .entry)))
+    ensures { λ r. ⌜ (Limits layout points (now (slots .entry)) n → Members (setBy (now (set .entry)) layout) (now (members .entry)) → Contained (setBy (now (set .entry)) layout) (listed points) (now (contained .entry)) → Idle (setBy (now (set .entry)) layout) (placeOf (now (slots .entry)))
         → Writes (blocksOf (setBy (now (set .entry)) layout) (listed points) step 5 5) (now (out .entry)) (now (slots .entry)) n (now (out .exit)) (now (slots .exit)) r)
         × (r ≤ n + 23040) ⌝ }
 {
     let threads = layout.threads;
     let choices = 2 * (threads as u16);
-    let held = marks::marks(set, layout, points, members, slots, out, step, HELD, n);
-    let waiting = marks::waits(set, layout, points, members, slots, out, step, held);
+    let checkpoints = places::points_count(points);
+    let held = marks::marks(
+        set,
+        layout,
+        points,
+        members,
+        contained,
+        slots,
+        out,
+        step,
+        HELD,
+        n,
+    );
+    let waiting = marks::waits(contained, slots, out, threads, checkpoints, step, held);
     let may = may_block(slots, out, threads, step, waiting);
     let none = bare_line(slots, out, threads, step, NONE, choices + 1, may);
     bare_line(slots, out, threads, step, FIT, choices, none)
@@ -327,18 +335,29 @@ fn deciding_kinds(
     layout: Layout,
     points: Points,
     members: &[u8],
+    contained: &[u8],
     slots: &mut [u32],
     out: &mut [u8],
     step: u8,
     n: u32,
 ) -> u32
     requires { ⌜ (n ≤ 1400000000) × (layout .threads ≤ 4) × (length (listed points) ≤ 8) ⌝ }
-    ensures { λ r. ⌜ (Limits layout points (now (slots .entry)) n → Members (setBy (now (set .entry)) layout) (now (members .entry)) → Idle (setBy (now (set .entry)) layout) (placeOf (now (slots .entry)))
+    ensures { λ r. ⌜ (Limits layout points (now (slots .entry)) n → Members (setBy (now (set .entry)) layout) (now (members .entry)) → Contained (setBy (now (set .entry)) layout) (listed points) (now (contained .entry)) → Idle (setBy (now (set .entry)) layout) (placeOf (now (slots .entry)))
         → Writes (blocksOf (setBy (now (set .entry)) layout) (listed points) step 0 11) (now (out .entry)) (now (slots .entry)) n (now (out .exit)) (now (slots .exit)) r)
         × (r ≤ n + 50688) ⌝ }
 {
-    let chosen = choice_kinds(set, layout, points, members, slots, out, step, n);
-    let permitted = permit_kinds(set, layout, points, members, slots, out, step, chosen);
+    let chosen = choice_kinds(set, layout, points, members, contained, slots, out, step, n);
+    let permitted = permit_kinds(
+        set,
+        layout,
+        points,
+        members,
+        contained,
+        slots,
+        out,
+        step,
+        chosen,
+    );
     single_block(slots, out, layout.threads, step, ONE, permitted)
 }
 
@@ -392,18 +411,30 @@ fn exit_kinds(
     layout: Layout,
     points: Points,
     members: &[u8],
+    contained: &[u8],
     slots: &mut [u32],
     out: &mut [u8],
     step: u8,
     n: u32,
 ) -> u32
     requires { ⌜ (n ≤ 1500000000) × (layout .threads ≤ 4) ⌝ }
-    ensures { λ r. ⌜ (Limits layout points (now (slots .entry)) n → Members (setBy (now (set .entry)) layout) (now (members .entry)) → Idle (setBy (now (set .entry)) layout) (placeOf (now (slots .entry)))
+    ensures { λ r. ⌜ (Limits layout points (now (slots .entry)) n → Members (setBy (now (set .entry)) layout) (now (members .entry)) → Contained (setBy (now (set .entry)) layout) (listed points) (now (contained .entry)) → Idle (setBy (now (set .entry)) layout) (placeOf (now (slots .entry)))
         → Writes (blocksOf (setBy (now (set .entry)) layout) (listed points) step 21 5) (now (out .entry)) (now (slots .entry)) n (now (out .exit)) (now (slots .exit)) r)
         × (r ≤ n + 23040) ⌝ }
 {
     let threads = layout.threads;
-    let raised = marks::marks(set, layout, points, members, slots, out, step, RAISED, n);
+    let raised = marks::marks(
+        set,
+        layout,
+        points,
+        members,
+        contained,
+        slots,
+        out,
+        step,
+        RAISED,
+        n,
+    );
     let exits = running_block(members, slots, out, threads, step, EXITS, raised);
     let codes = running_block(members, slots, out, threads, step, CODES, exits);
     let heap = bare_entry(slots, out, threads, step, HEAP, 0, 0, codes);
@@ -437,19 +468,31 @@ fn end_kinds(
     layout: Layout,
     points: Points,
     members: &[u8],
+    contained: &[u8],
     slots: &mut [u32],
     out: &mut [u8],
     step: u8,
     n: u32,
 ) -> u32
     requires { ⌜ (n ≤ 1500000000) × (layout .threads ≤ 4) ⌝ }
-    ensures { λ r. ⌜ (Limits layout points (now (slots .entry)) n → Members (setBy (now (set .entry)) layout) (now (members .entry)) → Idle (setBy (now (set .entry)) layout) (placeOf (now (slots .entry)))
+    ensures { λ r. ⌜ (Limits layout points (now (slots .entry)) n → Members (setBy (now (set .entry)) layout) (now (members .entry)) → Contained (setBy (now (set .entry)) layout) (listed points) (now (contained .entry)) → Idle (setBy (now (set .entry)) layout) (placeOf (now (slots .entry)))
         → Writes (blocksOf (setBy (now (set .entry)) layout) (listed points) step 31 5) (now (out .entry)) (now (slots .entry)) n (now (out .exit)) (now (slots .exit)) r)
         × (r ≤ n + 23040) ⌝ }
 {
     let threads = layout.threads;
     let flags = flag_block(set, layout, members, slots, out, n);
-    let marked = marks::marks(set, layout, points, members, slots, out, step, MARK, flags);
+    let marked = marks::marks(
+        set,
+        layout,
+        points,
+        members,
+        contained,
+        slots,
+        out,
+        step,
+        MARK,
+        flags,
+    );
     let halts = single_block(slots, out, threads, step, HALTS, marked);
     let ended = bare_entry(slots, out, threads, step, ENDED, 0, 0, halts);
     bare_entry(slots, out, threads, step, CODE, 0, 0, ended)
@@ -461,21 +504,42 @@ fn acting_kinds(
     layout: Layout,
     points: Points,
     members: &[u8],
+    contained: &[u8],
     slots: &mut [u32],
     out: &mut [u8],
     step: u8,
     n: u32,
 ) -> u32
     requires { ⌜ (n ≤ 1450000000) × (layout .threads ≤ 4) ⌝ }
-    ensures { λ r. ⌜ (Limits layout points (now (slots .entry)) n → Members (setBy (now (set .entry)) layout) (now (members .entry)) → Idle (setBy (now (set .entry)) layout) (placeOf (now (slots .entry)))
+    ensures { λ r. ⌜ (Limits layout points (now (slots .entry)) n → Members (setBy (now (set .entry)) layout) (now (members .entry)) → Contained (setBy (now (set .entry)) layout) (listed points) (now (contained .entry)) → Idle (setBy (now (set .entry)) layout) (placeOf (now (slots .entry)))
         → Writes (blocksOf (setBy (now (set .entry)) layout) (listed points) step 11 25) (now (out .entry)) (now (slots .entry)) n (now (out .exit)) (now (slots .exit)) r)
         × (r ≤ n + 115200) ⌝ }
 {
     let statements = statement_kinds(set, layout, members, slots, out, n);
     let written = write_kinds(set, layout, members, slots, out, step, statements);
-    let exits = exit_kinds(set, layout, points, members, slots, out, step, written);
+    let exits = exit_kinds(
+        set,
+        layout,
+        points,
+        members,
+        contained,
+        slots,
+        out,
+        step,
+        written,
+    );
     let registers = register_kinds(members, slots, out, layout.threads, step, exits);
-    end_kinds(set, layout, points, members, slots, out, step, registers)
+    end_kinds(
+        set,
+        layout,
+        points,
+        members,
+        contained,
+        slots,
+        out,
+        step,
+        registers,
+    )
 }
 
 // ---- steps
@@ -515,12 +579,13 @@ pub fn one_step(
     layout: Layout,
     points: Points,
     members: &[u8],
+    contained: &[u8],
     slots: &mut [u32],
     out: &mut [u8],
     step: u8,
     n: u32,
 ) -> u32
-    ensures { λ r. ⌜ (Limits layout points (now (slots .entry)) n → n ≤ 1400000000 → Members (setBy (now (set .entry)) layout) (now (members .entry)) → Idle (setBy (now (set .entry)) layout) (placeOf (now (slots .entry)))
+    ensures { λ r. ⌜ (Limits layout points (now (slots .entry)) n → n ≤ 1400000000 → Members (setBy (now (set .entry)) layout) (now (members .entry)) → Contained (setBy (now (set .entry)) layout) (listed points) (now (contained .entry)) → Idle (setBy (now (set .entry)) layout) (placeOf (now (slots .entry)))
         → Writes (stepOf (setBy (now (set .entry)) layout) (listed points) step) (now (out .entry)) (now (slots .entry)) n (now (out .exit)) (now (slots .exit)) r)
         × (n ≤ 1400000000 → r ≤ n + 377858) ⌝ }
 {
@@ -533,9 +598,19 @@ pub fn one_step(
     if 4 < layout.threads {
         return n;
     }
-    let decided = deciding_kinds(set, layout, points, members, slots, out, step, n);
+    let decided = deciding_kinds(set, layout, points, members, contained, slots, out, step, n);
     let next = rule(layout, slots, out, decided);
-    acting_kinds(set, layout, points, members, slots, out, step, next)
+    acting_kinds(
+        set,
+        layout,
+        points,
+        members,
+        contained,
+        slots,
+        out,
+        step,
+        next,
+    )
 }
 
 // Writes what the steps share, from index n on: the word 1, and the argument of each statement.

@@ -14,6 +14,7 @@ ghost use Rattle.encoding.specs.Encodings.{mapDemand, starting, goalTree, first
 ghost use Rattle.encoding.specs.Slots.{Slot, same, code as codeKind};
 ghost use Rattle.encoding.specs.Steps.{only, word0, step as stepOf};
 ghost use Rattle.places.specs.Places.{placeOf, listed, size as placesCount};
+ghost use Rattle.links.specs.Contained.{Contained};
 ghost use Rattle.members.specs.Members.{Members};
 ghost use Rattle.encoder.specs.Answers.{sizeAnswer, encodeAnswer, tableOutput};
 ghost use Rattle.places.specs.Pieces.{Writes, Limits};
@@ -40,12 +41,13 @@ fn steps(
     layout: Layout,
     points: Points,
     members: &[u8],
+    contained: &[u8],
     slots: &mut [u32],
     out: &mut [u8],
     bound: u8,
     n: u32,
 ) -> u32
-    requires { ⌜ (Limits layout points (now slots) n) × (n ≤ 1000000) × (bound ≤ 64) × (Members (setBy (now set) layout) (now members)) × (Idle (setBy (now set) layout) (placeOf (now slots))) ⌝ }
+    requires { ⌜ (Limits layout points (now slots) n) × (n ≤ 1000000) × (bound ≤ 64) × (Members (setBy (now set) layout) (now members)) × (Contained (setBy (now set) layout) (listed points) (now contained)) × (Idle (setBy (now set) layout) (placeOf (now slots))) ⌝ }
     ensures { λ r. ⌜ (Writes (upto (stepOf (setBy (now (set .entry)) layout) (listed points)) bound)
         (now (out .entry)) (now (slots .entry)) n (now (out .exit)) (now (slots .exit)) r)
         × (r ≤ n + 24182912) ⌝ }
@@ -53,7 +55,7 @@ fn steps(
     let mut next = n;
     let mut k: u8 = 0;
     while k < bound {
-        next = blocks::one_step(set, layout, points, members, slots, out, k, next);
+        next = blocks::one_step(set, layout, points, members, contained, slots, out, k, next);
         k += 1;
     }
     next
@@ -310,17 +312,28 @@ fn few_steps(
     layout: Layout,
     points: Points,
     members: &[u8],
+    contained: &[u8],
     slots: &mut [u32],
     out: &mut [u8],
     bound: u8,
     first: u32,
 ) -> Last
-    requires { ⌜ (Limits layout points (now slots) first) × (first ≤ 10000) × (bound ≤ 64) × (Members (setBy (now set) layout) (now members)) × (Idle (setBy (now set) layout) (placeOf (now slots))) ⌝ }
+    requires { ⌜ (Limits layout points (now slots) first) × (first ≤ 10000) × (bound ≤ 64) × (Members (setBy (now set) layout) (now members)) × (Contained (setBy (now set) layout) (listed points) (now contained)) × (Idle (setBy (now set) layout) (placeOf (now slots))) ⌝ }
     ensures { λ r. ⌜ (Ended (setBy (now (set .entry)) layout) (listed points) (placeOf (now (slots .entry))) first bound
         (now (out .entry)) (now (out .exit)) (r .next) (r .code) (r .nought))
         × (r .next ≤ 25000000) ⌝ }
 {
-    let next = steps(set, layout, points, members, slots, out, bound, first);
+    let next = steps(
+        set,
+        layout,
+        points,
+        members,
+        contained,
+        slots,
+        out,
+        bound,
+        first,
+    );
     Last {
         next,
         code: places::place(slots, CODE, 0, 0, 2),
@@ -354,21 +367,42 @@ fn all_steps(
     layout: Layout,
     points: Points,
     members: &[u8],
+    contained: &[u8],
     slots: &mut [u32],
     out: &mut [u8],
     bound: u8,
     first: u32,
 ) -> Last
-    requires { ⌜ (Limits layout points (now slots) first) × (first ≤ 10000) × (bound ≤ 64) × (Members (setBy (now set) layout) (now members))
+    requires { ⌜ (Limits layout points (now slots) first) × (first ≤ 10000) × (bound ≤ 64) × (Members (setBy (now set) layout) (now members)) × (Contained (setBy (now set) layout) (listed points) (now contained))
         × (16 * nextAfter same first (upto (stepOf (setBy (now set) layout) (listed points)) bound) ≤ length (now out)) × (Idle (setBy (now set) layout) (placeOf (now slots))) ⌝ }
     ensures { λ r. ⌜ (Ended (setBy (now (set .entry)) layout) (listed points) (placeOf (now (slots .entry))) first bound
         (now (out .entry)) (now (out .exit)) (r .next) (r .code) (r .nought))
         × (r .next ≤ 900000000) ⌝ }
 {
     if bound <= 2 {
-        return few_steps(set, layout, points, members, slots, out, bound, first);
+        return few_steps(
+            set,
+            layout,
+            points,
+            members,
+            contained,
+            slots,
+            out,
+            bound,
+            first,
+        );
     }
-    let second = few_steps(set, layout, points, members, slots, out, 2, first);
+    let second = few_steps(
+        set,
+        layout,
+        points,
+        members,
+        contained,
+        slots,
+        out,
+        2,
+        first,
+    );
     later_steps(layout.threads, out, bound, first, second)
 }
 
@@ -382,6 +416,8 @@ fn write(set: &[u8], layout: Layout, points: Points, map: &[u8], bound: u8, tabl
 {
     let mut members = [0u8; 1452];
     members::make(set, layout, &mut members);
+    let mut contained = [0u8; 32];
+    links::contained::make(set, layout, points, &members, &mut contained);
     let mut slots = [0u32; 2304];
     firsts(table);
     let first = before_steps(set, layout, points, &members, map, &mut slots, table);
@@ -390,6 +426,7 @@ fn write(set: &[u8], layout: Layout, points: Points, map: &[u8], bound: u8, tabl
         layout,
         points,
         &members,
+        &contained,
         &mut slots,
         table,
         bound,

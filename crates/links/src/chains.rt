@@ -10,6 +10,7 @@ ghost use Rattle.encoding.specs.Steps.{link as linkOf, links as linksOf, chain 
 ghost use Rattle.places.specs.Pieces.{WritesTree};
 ghost use Rattle.places.specs.Places.{placeOf, listed, size};
 ghost use Rattle.links.specs.Chained.{chained};
+ghost use Rattle.links.specs.Contained.{Contained};
 ghost use Rattle.members.specs.Members.{Members};
 ghost use Rattle.links.specs.Placed.{placedLink};
 use crate::Link;
@@ -128,22 +129,18 @@ pub fn single_chain(slots: &[u32], out: &mut [u8], threads: u8, kind: u8, n: u32
 
 // Writes the links of the chain of OPENING for checkpoint p: the marks of the threads that contain it.
 pub fn opening_chain(
-    set: &[u8],
-    layout: Layout,
-    points: Points,
-    members: &[u8],
+    table: &[u8],
     slots: &[u32],
     out: &mut [u8],
+    threads: u8,
     p: u16,
     n: u32,
     base: u64,
 ) -> Root
-    ensures { λ r. ⌜ ((tree : Term) (start : List ℕ) (m : ℕ) → layout .threads ≤ 4 → n ≤ 1900000000 → length (now (slots .entry)) ≡ size
-        → Members (setBy (now (set .entry)) layout) (now (members .entry))
+    ensures { λ r. ⌜ ((S : Set) (cs : List ℕ) (tree : Term) (start : List ℕ) (m : ℕ) → S .threads ≡ threads → p < length cs → n ≤ 1900000000 → length (now (slots .entry)) ≡ size
+        → Contained S cs (now (table .entry))
         → WritesTree (placeOf (now (slots .entry))) tree start m (now (out .entry)) n base
-        → WritesTree (placeOf (now (slots .entry)))
-        (chainOf (linkOf (setBy (now (set .entry)) layout) (listed points) 0 opening 0 p) (layout .threads) tree)
-        start m (now (out .exit)) (r .next) (r .at))
+        → WritesTree (placeOf (now (slots .entry))) (chainOf (linkOf S cs 0 opening 0 p) (S .threads) tree) start m (now (out .exit)) (r .next) (r .at))
         × (r .next ≤ n + 4) ⌝ }
 {
     let mut tree = Root { next: n, at: base };
@@ -151,13 +148,15 @@ pub fn opening_chain(
     if slots.len() != 2304 {
         return tree;
     }
-    if 4 < layout.threads {
+    if table.len() != 32 {
         return tree;
     }
-    let many = layout.threads as u16;
-    let mut t: u16 = 0;
-    while t < many {
-        let link = contained(set, layout, points, members, slots, AND, kinds::MARK, t, p);
+    if 4 < threads {
+        return tree;
+    }
+    let mut t: u8 = 0;
+    while t < threads {
+        let link = contained(table, slots, AND, kinds::MARK, t, p);
         tree = put_link(out, tree.next, tree.at, link);
         t += 1;
     }
@@ -166,43 +165,34 @@ pub fn opening_chain(
 
 // Writes the links of the chain of WAITS for thread t: whether it is marked at a checkpoint that is not open.
 pub fn waits_chain(
-    set: &[u8],
-    layout: Layout,
-    points: Points,
-    members: &[u8],
+    table: &[u8],
     slots: &[u32],
     out: &mut [u8],
+    count: u16,
     t: u8,
     n: u32,
     base: u64,
 ) -> Root
-    ensures { λ r. ⌜ ((tree : Term) (start : List ℕ) (m : ℕ) → n ≤ 1900000000 → length (now (slots .entry)) ≡ size
-        → Members (setBy (now (set .entry)) layout) (now (members .entry))
+    ensures { λ r. ⌜ ((S : Set) (cs : List ℕ) (tree : Term) (start : List ℕ) (m : ℕ) → length cs ≡ count → t < S .threads → n ≤ 1900000000 → length (now (slots .entry)) ≡ size
+        → Contained S cs (now (table .entry))
         → WritesTree (placeOf (now (slots .entry))) tree start m (now (out .entry)) n base
-        → WritesTree (placeOf (now (slots .entry)))
-        (chainOf (linkOf (setBy (now (set .entry)) layout) (listed points) 0 waits t 0) (length (listed points)) tree)
-        start m (now (out .exit)) (r .next) (r .at))
+        → WritesTree (placeOf (now (slots .entry))) (chainOf (linkOf S cs 0 waits t 0) (length cs) tree) start m (now (out .exit)) (r .next) (r .at))
         × (r .next ≤ n + 8) ⌝ }
 {
     let mut tree = Root { next: n, at: base };
-    // With this known, the compiler drops the tests of places in the loop.
+    // With these known, the compiler drops the tests of places in the loop.
     if slots.len() != 2304 {
         return tree;
     }
-    let many = places::points_count(points);
+    if table.len() != 32 {
+        return tree;
+    }
+    if 8 < count {
+        return tree;
+    }
     let mut p: u16 = 0;
-    while p < many {
-        let link = contained(
-            set,
-            layout,
-            points,
-            members,
-            slots,
-            OR,
-            kinds::HELD,
-            t as u16,
-            p,
-        );
+    while p < count {
+        let link = contained(table, slots, OR, kinds::HELD, t, p);
         tree = put_link(out, tree.next, tree.at, link);
         p += 1;
     }

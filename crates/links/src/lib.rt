@@ -1,5 +1,6 @@
 // The links of a table's chains, and chains written over a tree (crate encoding: `link`, `links`, `chain`).
 pub mod chains;
+pub mod contained;
 pub mod edges;
 mod given;
 mod parts;

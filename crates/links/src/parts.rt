@@ -1,19 +1,18 @@
 // The links of chains over threads, checkpoints and choices, and a statement's link to bit 1.
 ghost use mathlib.Core.Path.{_≡_};
 ghost use mathlib.Core.Bool.{cond};
-ghost use Prim.Native.Nat.{_+_};
-ghost use lib.ListN.{getD};
-ghost use Rattle.records.specs.Sets.{setBy};
-ghost use Rattle.step.specs.Machine.{contains};
-ghost use Rattle.places.specs.Places.{placeFrom, listed};
-ghost use Rattle.members.specs.Members.{Members};
+ghost use mathlib.Core.List.{List};
+ghost use Prim.Native.Nat.{ℕ, _+_, _<_};
+ghost use lib.ListN.{length, getD};
+ghost use Rattle.records.specs.Sets.{Set};
+ghost use Rattle.step.specs.Machine.{contains as containsOf};
+ghost use Rattle.places.specs.Places.{placeFrom};
+ghost use Rattle.links.specs.Contained.{Contained};
 ghost use Rattle.links.specs.Placed.{noLink, ifLink, bitLink};
 use crate::Link;
-use members::checks::has;
-use places::Points;
+use crate::contained::contains;
 use places::kinds;
 use places::place;
-use records::Layout;
 
 pub const BIT: u8 = 1;
 
@@ -91,30 +90,16 @@ pub fn flushed(threads: u8, slots: &[u32], effect: u8, t: u16) -> Link
     }
 }
 
-// Where thread t contains checkpoint p: the operation with its bit of a kind for p.
-pub fn contained(
-    set: &[u8],
-    layout: Layout,
-    points: Points,
-    members: &[u8],
-    slots: &[u32],
-    operation: u8,
-    kind: u8,
-    t: u16,
-    p: u16,
-) -> Link
-    ensures { λ r. ⌜ (Members (setBy (now (set .entry)) layout) (now (members .entry))
-        → r ≡ cond (contains (setBy (now (set .entry)) layout) t (getD (listed points) p 0)) (bitLink operation (placeFrom (now (slots .entry)) kind t p 0)) noLink) ⌝ }
+// Where thread t contains checkpoint p, by the table: the operation with its bit of a kind for p.
+pub fn contained(table: &[u8], slots: &[u32], operation: u8, kind: u8, t: u8, p: u16) -> Link
+    ensures { λ r. ⌜ ((S : Set) (cs : List ℕ) → Contained S cs (now (table .entry)) → t < S .threads → p < length cs
+        → r ≡ cond (containsOf S t (getD cs p 0)) (bitLink operation (placeFrom (now (slots .entry)) kind t p 0)) noLink) ⌝ }
 {
-    if 4 <= t {
-        return none();
-    }
-    let thread = t as u8;
-    if has(set, layout, members, thread, places::checkpoint(points, p)) {
+    if contains(table, t, p) {
         return Link {
             operation: operation,
             sort: BIT,
-            a: place(slots, kind, thread, p, BIT0),
+            a: place(slots, kind, t, p, BIT0),
             b: 0,
         };
     }

@@ -3,13 +3,15 @@ ghost use mathlib.Core.Path.{_≡_};
 ghost use mathlib.Core.Bool.{true};
 ghost use mathlib.Core.List.{List};
 ghost use Prim.Native.Nat.{ℕ, _+_, _≤_, _<_};
+ghost use lib.ListN.{length};
 ghost use Rattle.records.specs.Sets.{Set, setBy};
-ghost use Rattle.encoding.specs.Slots.{kindAt, opening as openingKind, waits as waitsKind};
+ghost use Rattle.encoding.specs.Slots.{Slot, kindAt, opening as openingKind, waits as waitsKind};
 ghost use Rattle.encoding.specs.Steps.{base as baseOf, entry as entryOf, line as lineOf, block as blockOf};
-ghost use Rattle.places.specs.Places.{placeOf, listed};
+ghost use Rattle.places.specs.Places.{placeOf, listed, size};
 ghost use Rattle.places.specs.Pieces.{Writes, Limits};
 ghost use Rattle.bases.specs.Fews.{Puts};
 ghost use Rattle.members.specs.Members.{Members};
+ghost use Rattle.links.specs.Contained.{Contained};
 ghost use Rattle.marks.specs.Marked.{marked};
 use bases::Written;
 use places::Points;
@@ -18,51 +20,39 @@ use records::Layout;
 
 // Writes whether checkpoint p is open: whether every thread that contains it is marked there.
 fn opening(
-    set: &[u8],
-    layout: Layout,
-    points: Points,
-    members: &[u8],
+    table: &[u8],
     slots: &mut [u32],
     out: &mut [u8],
+    threads: u8,
     step: u8,
     p: u16,
     n: u32,
 ) -> u32
     requires { ⌜ (n ≤ 1800000000) × (p < 8) ⌝ }
-    ensures { λ r. ⌜ (Limits layout points (now (slots .entry)) n → Members (setBy (now (set .entry)) layout) (now (members .entry))
-        → Writes (entryOf (setBy (now (set .entry)) layout) (listed points) step openingKind 0 p) (now (out .entry)) (now (slots .entry)) n (now (out .exit)) (now (slots .exit)) r)
+    ensures { λ r. ⌜ ((S : Set) (cs : List ℕ) → S .threads ≡ threads → p < length cs → Contained S cs (now (table .entry)) → length (now (slots .entry)) ≡ size
+        → ((s : Slot) → placeOf (now (slots .entry)) s < n)
+        → Writes (entryOf S cs step openingKind 0 p) (now (out .entry)) (now (slots .entry)) n (now (out .exit)) (now (slots .exit)) r)
         × (r ≤ n + 8) ⌝ }
 {
-    let base = bases::put_base(slots, out, layout.threads, step, kinds::OPENING, 0, p, n);
+    let base = bases::put_base(slots, out, threads, step, kinds::OPENING, 0, p, n);
     let next = n + base.count;
-    let tree = links::chains::opening_chain(
-        set,
-        layout,
-        points,
-        members,
-        slots,
-        out,
-        p,
-        next,
-        base.root,
-    );
+    let tree = links::chains::opening_chain(table, slots, out, threads, p, next, base.root);
     places::set_place(slots, kinds::OPENING, 0, p, tree.at);
     tree.next
 }
 
 // Writes for each checkpoint whether it is open.
 pub fn openings(
-    set: &[u8],
-    layout: Layout,
-    points: Points,
-    members: &[u8],
+    table: &[u8],
     slots: &mut [u32],
     out: &mut [u8],
+    threads: u8,
+    count: u16,
     step: u8,
     n: u32,
 ) -> u32
-    ensures { λ r. ⌜ (Limits layout points (now (slots .entry)) n → n ≤ 1600000000 → Members (setBy (now (set .entry)) layout) (now (members .entry))
-        → Writes (blockOf (setBy (now (set .entry)) layout) (listed points) step openingKind) (now (out .entry)) (now (slots .entry)) n (now (out .exit)) (now (slots .exit)) r)
+    ensures { λ r. ⌜ ((S : Set) (cs : List ℕ) → S .threads ≡ threads → length cs ≡ count → Contained S cs (now (table .entry)) → length (now (slots .entry)) ≡ size → ((s : Slot) → placeOf (now (slots .entry)) s < n) → n ≤ 1600000000
+        → Writes (blockOf S cs step openingKind) (now (out .entry)) (now (slots .entry)) n (now (out .exit)) (now (slots .exit)) r)
         × (n ≤ 1600000000 → r ≤ n + 4608) ⌝ }
 {
     // With these known, the compiler drops the tests of places in the loop.
@@ -72,14 +62,19 @@ pub fn openings(
     if slots.len() != 2304 {
         return n;
     }
-    if 4 < layout.threads {
+    if table.len() != 32 {
         return n;
     }
-    let many = places::points_count(points);
+    if 4 < threads {
+        return n;
+    }
+    if 8 < count {
+        return n;
+    }
     let mut next = n;
     let mut p: u16 = 0;
-    while p < many {
-        next = opening(set, layout, points, members, slots, out, step, p, next);
+    while p < count {
+        next = opening(table, slots, out, threads, step, p, next);
         p += 1;
     }
     next
@@ -87,51 +82,40 @@ pub fn openings(
 
 // Writes whether thread t has halted or waits at a checkpoint.
 fn waiting(
-    set: &[u8],
-    layout: Layout,
-    points: Points,
-    members: &[u8],
+    table: &[u8],
     slots: &mut [u32],
     out: &mut [u8],
+    threads: u8,
+    count: u16,
     step: u8,
     t: u8,
     n: u32,
 ) -> u32
     requires { ⌜ (n ≤ 1800000000) × (t < 4) ⌝ }
-    ensures { λ r. ⌜ (Limits layout points (now (slots .entry)) n → Members (setBy (now (set .entry)) layout) (now (members .entry))
-        → Writes (entryOf (setBy (now (set .entry)) layout) (listed points) step waitsKind t 0) (now (out .entry)) (now (slots .entry)) n (now (out .exit)) (now (slots .exit)) r)
+    ensures { λ r. ⌜ ((S : Set) (cs : List ℕ) → S .threads ≡ threads → length cs ≡ count → t < S .threads → Contained S cs (now (table .entry)) → length (now (slots .entry)) ≡ size
+        → ((s : Slot) → placeOf (now (slots .entry)) s < n)
+        → Writes (entryOf S cs step waitsKind t 0) (now (out .entry)) (now (slots .entry)) n (now (out .exit)) (now (slots .exit)) r)
         × (r ≤ n + 12) ⌝ }
 {
-    let base = bases::put_base(slots, out, layout.threads, step, kinds::WAITS, t, 0, n);
+    let base = bases::put_base(slots, out, threads, step, kinds::WAITS, t, 0, n);
     let next = n + base.count;
-    let tree = links::chains::waits_chain(
-        set,
-        layout,
-        points,
-        members,
-        slots,
-        out,
-        t,
-        next,
-        base.root,
-    );
+    let tree = links::chains::waits_chain(table, slots, out, count, t, next, base.root);
     places::set_place(slots, kinds::WAITS, t, 0, tree.at);
     tree.next
 }
 
 // Writes for each thread whether it has halted or waits at a checkpoint.
 pub fn waits(
-    set: &[u8],
-    layout: Layout,
-    points: Points,
-    members: &[u8],
+    table: &[u8],
     slots: &mut [u32],
     out: &mut [u8],
+    threads: u8,
+    count: u16,
     step: u8,
     n: u32,
 ) -> u32
-    ensures { λ r. ⌜ (Limits layout points (now (slots .entry)) n → n ≤ 1600000000 → Members (setBy (now (set .entry)) layout) (now (members .entry))
-        → Writes (blockOf (setBy (now (set .entry)) layout) (listed points) step waitsKind) (now (out .entry)) (now (slots .entry)) n (now (out .exit)) (now (slots .exit)) r)
+    ensures { λ r. ⌜ ((S : Set) (cs : List ℕ) → S .threads ≡ threads → length cs ≡ count → Contained S cs (now (table .entry)) → length (now (slots .entry)) ≡ size → ((s : Slot) → placeOf (now (slots .entry)) s < n) → n ≤ 1600000000
+        → Writes (blockOf S cs step waitsKind) (now (out .entry)) (now (slots .entry)) n (now (out .exit)) (now (slots .exit)) r)
         × (n ≤ 1600000000 → r ≤ n + 4608) ⌝ }
 {
     // With these known, the compiler drops the tests of places in the loop.
@@ -141,14 +125,19 @@ pub fn waits(
     if slots.len() != 2304 {
         return n;
     }
-    if 4 < layout.threads {
+    if table.len() != 32 {
         return n;
     }
-    let many = layout.threads;
+    if 4 < threads {
+        return n;
+    }
+    if 8 < count {
+        return n;
+    }
     let mut next = n;
     let mut t: u8 = 0;
-    while t < many {
-        next = waiting(set, layout, points, members, slots, out, step, t, next);
+    while t < threads {
+        next = waiting(table, slots, out, threads, count, step, t, next);
         t += 1;
     }
     next
@@ -181,6 +170,7 @@ fn entry(
     layout: Layout,
     points: Points,
     members: &[u8],
+    table: &[u8],
     slots: &mut [u32],
     out: &mut [u8],
     step: u8,
@@ -191,10 +181,11 @@ fn entry(
 ) -> u32
     requires { ⌜ (n ≤ 1800000000) × (t < 4) × (p < 8) ⌝ }
     ensures { λ r. ⌜ (marked kind ≡ true → Limits layout points (now (slots .entry)) n → Members (setBy (now (set .entry)) layout) (now (members .entry))
+        → Contained (setBy (now (set .entry)) layout) (listed points) (now (table .entry)) → t < layout .threads → p < length (listed points)
         → Writes (entryOf (setBy (now (set .entry)) layout) (listed points) step (kindAt kind) t p) (now (out .entry)) (now (slots .entry)) n (now (out .exit)) (now (slots .exit)) r)
         × (r ≤ n + 36) ⌝ }
 {
-    if members::checks::has(set, layout, members, t, places::checkpoint(points, p)) {
+    if links::contained::contains(table, t, p) {
         let base = put_marked(slots, out, layout.threads, step, kind, t, p, n);
         let next = n + base.count;
         if kind == kinds::RAISED {
@@ -225,6 +216,7 @@ fn line(
     layout: Layout,
     points: Points,
     members: &[u8],
+    table: &[u8],
     slots: &mut [u32],
     out: &mut [u8],
     step: u8,
@@ -234,6 +226,7 @@ fn line(
 ) -> u32
     requires { ⌜ (n ≤ 1700000000) × (t < 4) ⌝ }
     ensures { λ r. ⌜ (marked kind ≡ true → Limits layout points (now (slots .entry)) n → Members (setBy (now (set .entry)) layout) (now (members .entry))
+        → Contained (setBy (now (set .entry)) layout) (listed points) (now (table .entry)) → t < layout .threads
         → Writes (lineOf (setBy (now (set .entry)) layout) (listed points) step (kindAt kind) t) (now (out .entry)) (now (slots .entry)) n (now (out .exit)) (now (slots .exit)) r)
         × (r ≤ n + 288) ⌝ }
 {
@@ -246,6 +239,7 @@ fn line(
             layout,
             points,
             members,
+            table,
             slots,
             out,
             step,
@@ -265,13 +259,14 @@ pub fn marks(
     layout: Layout,
     points: Points,
     members: &[u8],
+    table: &[u8],
     slots: &mut [u32],
     out: &mut [u8],
     step: u8,
     kind: u8,
     n: u32,
 ) -> u32
-    ensures { λ r. ⌜ (marked kind ≡ true → Limits layout points (now (slots .entry)) n → n ≤ 1600000000 → Members (setBy (now (set .entry)) layout) (now (members .entry))
+    ensures { λ r. ⌜ (marked kind ≡ true → Limits layout points (now (slots .entry)) n → n ≤ 1600000000 → Members (setBy (now (set .entry)) layout) (now (members .entry)) → Contained (setBy (now (set .entry)) layout) (listed points) (now (table .entry))
         → Writes (blockOf (setBy (now (set .entry)) layout) (listed points) step (kindAt kind)) (now (out .entry)) (now (slots .entry)) n (now (out .exit)) (now (slots .exit)) r)
         × (n ≤ 1600000000 → r ≤ n + 4608) ⌝ }
 {
@@ -280,6 +275,9 @@ pub fn marks(
         return n;
     }
     if slots.len() != 2304 {
+        return n;
+    }
+    if table.len() != 32 {
         return n;
     }
     if 4 < layout.threads {
@@ -294,6 +292,7 @@ pub fn marks(
             layout,
             points,
             members,
+            table,
             slots,
             out,
             step,

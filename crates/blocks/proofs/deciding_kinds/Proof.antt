@@ -28,7 +28,7 @@ same-length-2 c = search needs
 returns : tie.Need-returns
 unfolding kinds
 returns c =
-    let a = c .before .before .before .before .before .before .before .before .before .before .before .before .before .before .before .before .before .before .before .before .before .before .before .before .before .args in
+    let a = c .before .before .before .before .before .before .before .before .before .before .before .before .before .before .before .before .before .before .before .before .before .before .before .before .before .before .args in
     let r1 = c .before .before .before .before .before .before .before .before .before .before .before .before .before .before .before .before .before .before .choice-kinds in
     let r2 = c .before .before .before .before .before .before .before .before .before .before .before .permit-kinds in
     let r3 = c .before .before .before .before .single-block in
@@ -38,11 +38,11 @@ returns c =
     let S = setBy (now (a .set)) (a .layout) in
     let cs = listed (a .points) in
     let k = a .step in (
-      λ limits members idle.
+      λ limits members contained idle.
           let s0 : Ready (a .layout) (a .points) (now (a .set)) k (now (a .slots)) (a .n) = record { limits = limits; idle = idle } in
-          let w1 = r1 .ensures .0 limits members idle in
+          let w1 = r1 .ensures .0 limits members contained idle in
           let s1 = ready-blocks (a .layout) (a .points) (now (a .set)) k 0 5 w1 s0 in
-          let w2 = blocks-more (a .layout) (a .points) (now (a .set)) k 0 5 5 w1 (r2 .ensures .0 (s1 .limits) members (s1 .idle)) in
+          let w2 = blocks-more (a .layout) (a .points) (now (a .set)) k 0 5 5 w1 (r2 .ensures .0 (s1 .limits) members contained (s1 .idle)) in
           let s2 = ready-blocks (a .layout) (a .points) (now (a .set)) k 0 10 w2 s0 in
           block-more (a .layout) (a .points) (now (a .set)) k 0 10 w2 (r3 .ensures .0 S cs refl refl refl (s2 .limits .allPlaces) (s2 .limits .below)),
       omega arith,

@@ -19,7 +19,7 @@ marks-requires c κs = search needs
 
 running-block-requires : tie.Need-running-block-requires
 running-block-requires c κs =
-    let q = c .before .before .before .before .before .before .before .before .before .before .before .before .before .pre in
+    let q = c .before .before .before .before .before .before .before .before .before .before .before .before .before .before .pre in
     let p0 = q .0 in
     let p1 = q .1 in
     let m1 = c .before .before .before .before .before .before .marks .ensures .1 (omega arith) in
@@ -27,7 +27,7 @@ running-block-requires c κs =
 
 running-block-requires-2 : tie.Need-running-block-requires-2
 running-block-requires-2 c κs =
-    let q = c .before .before .before .before .before .before .before .before .before .before .before .before .before .before .before .before .before .before .before .before .pre in
+    let q = c .before .before .before .before .before .before .before .before .before .before .before .before .before .before .before .before .before .before .before .before .before .pre in
     let p0 = q .0 in
     let p1 = q .1 in
     let m1 = c .before .before .before .before .before .before .before .before .before .before .before .before .before .marks .ensures .1 (omega arith) in
@@ -36,7 +36,7 @@ running-block-requires-2 c κs =
 
 bare-entry-requires : tie.Need-bare-entry-requires
 bare-entry-requires c κs =
-    let q = c .before .before .before .before .before .before .before .before .before .before .before .before .before .before .before .before .before .before .before .before .before .before .before .before .before .before .before .pre in
+    let q = c .before .before .before .before .before .before .before .before .before .before .before .before .before .before .before .before .before .before .before .before .before .before .before .before .before .before .before .before .pre in
     let p0 = q .0 in
     let p1 = q .1 in
     let m1 = c .before .before .before .before .before .before .before .before .before .before .before .before .before .before .before .before .before .before .before .before .marks .ensures .1 (omega arith) in
@@ -46,7 +46,7 @@ bare-entry-requires c κs =
 
 register-block-requires : tie.Need-register-block-requires
 register-block-requires c κs =
-    let q = c .before .before .before .before .before .before .before .before .before .before .before .before .before .before .before .before .before .before .before .before .before .before .before .before .before .before .before .before .before .before .before .before .before .before .pre in
+    let q = c .before .before .before .before .before .before .before .before .before .before .before .before .before .before .before .before .before .before .before .before .before .before .before .before .before .before .before .before .before .before .before .before .before .before .before .pre in
     let p0 = q .0 in
     let p1 = q .1 in
     let m1 = c .before .before .before .before .before .before .before .before .before .before .before .before .before .before .before .before .before .before .before .before .before .before .before .before .before .before .before .marks .ensures .1 (omega arith) in
@@ -62,8 +62,8 @@ same-length c =
     let r3 = c .before .before .before .before .before .before .before .before .before .before .before .before .before .before .before .before .before .before .running-block2 in
     let r4 = c .before .before .before .before .before .before .before .before .before .before .before .bare-entry in
     let r5 = c .before .before .before .before .register-block in
-    let e1 : length (r1 .last .1 .1 .1 .1 .0) ≡ length (now (c .before .before .before .before .before .before .before .before .before .before .before .before .before .before .before .before .before .before .before .before .before .before .before .before .before .before .before .before .before .before .before .before .before .before .before .before .before .before .before .args .slots)) = r1 .kept .1 .1 .1 .1 .0 in
-    let e2 : length (r2 .last .1 .0) ≡ length (r1 .last .1 .1 .1 .1 .0) = r2 .kept .1 .0 in
+    let e1 : length (r1 .last .1 .1 .1 .1 .1 .0) ≡ length (now (c .before .before .before .before .before .before .before .before .before .before .before .before .before .before .before .before .before .before .before .before .before .before .before .before .before .before .before .before .before .before .before .before .before .before .before .before .before .before .before .before .args .slots)) = r1 .kept .1 .1 .1 .1 .1 .0 in
+    let e2 : length (r2 .last .1 .0) ≡ length (r1 .last .1 .1 .1 .1 .1 .0) = r2 .kept .1 .0 in
     let e3 : length (r3 .last .1 .0) ≡ length (r2 .last .1 .0) = r3 .kept .1 .0 in
     let e4 : length (r4 .last .0) ≡ length (r3 .last .1 .0) = r4 .kept .0 in
     let e5 : length (r5 .last .1 .0) ≡ length (r4 .last .0) = r5 .kept .1 .0 in
@@ -76,8 +76,8 @@ same-length-2 c =
     let r3 = c .before .before .before .before .before .before .before .before .before .before .before .before .before .before .before .before .before .before .running-block2 in
     let r4 = c .before .before .before .before .before .before .before .before .before .before .before .bare-entry in
     let r5 = c .before .before .before .before .register-block in
-    let e1 : length (r1 .last .1 .1 .1 .1 .1 .0) ≡ length (now (c .before .before .before .before .before .before .before .before .before .before .before .before .before .before .before .before .before .before .before .before .before .before .before .before .before .before .before .before .before .before .before .before .before .before .before .before .before .before .before .args .out)) = r1 .kept .1 .1 .1 .1 .1 .0 in
-    let e2 : length (r2 .last .1 .1 .0) ≡ length (r1 .last .1 .1 .1 .1 .1 .0) = r2 .kept .1 .1 .0 in
+    let e1 : length (r1 .last .1 .1 .1 .1 .1 .1 .0) ≡ length (now (c .before .before .before .before .before .before .before .before .before .before .before .before .before .before .before .before .before .before .before .before .before .before .before .before .before .before .before .before .before .before .before .before .before .before .before .before .before .before .before .before .args .out)) = r1 .kept .1 .1 .1 .1 .1 .1 .0 in
+    let e2 : length (r2 .last .1 .1 .0) ≡ length (r1 .last .1 .1 .1 .1 .1 .1 .0) = r2 .kept .1 .1 .0 in
     let e3 : length (r3 .last .1 .1 .0) ≡ length (r2 .last .1 .1 .0) = r3 .kept .1 .1 .0 in
     let e4 : length (r4 .last .1 .0) ≡ length (r3 .last .1 .1 .0) = r4 .kept .1 .0 in
     let e5 : length (r5 .last .1 .1 .0) ≡ length (r4 .last .1 .0) = r5 .kept .1 .1 .0 in
@@ -86,8 +86,8 @@ same-length-2 c =
 returns : tie.Need-returns
 unfolding kinds
 returns c =
-    let a = c .before .before .before .before .before .before .before .before .before .before .before .before .before .before .before .before .before .before .before .before .before .before .before .before .before .before .before .before .before .before .before .before .before .before .before .before .before .before .before .args in
-    let q = c .before .before .before .before .before .before .before .before .before .before .before .before .before .before .before .before .before .before .before .before .before .before .before .before .before .before .before .before .before .before .before .before .before .before .before .before .before .before .before .pre in
+    let a = c .before .before .before .before .before .before .before .before .before .before .before .before .before .before .before .before .before .before .before .before .before .before .before .before .before .before .before .before .before .before .before .before .before .before .before .before .before .before .before .before .args in
+    let q = c .before .before .before .before .before .before .before .before .before .before .before .before .before .before .before .before .before .before .before .before .before .before .before .before .before .before .before .before .before .before .before .before .before .before .before .before .before .before .before .before .pre in
     let p0 = q .0 in
     let p1 = q .1 in
     let r1 = c .before .before .before .before .before .before .before .before .before .before .before .before .before .before .before .before .before .before .before .before .before .before .before .before .before .before .before .before .before .before .before .before .marks in
@@ -101,11 +101,11 @@ returns c =
     let m3 = r3 .ensures .1 in
     let m4 = r4 .ensures .1 in
     let m5 = r5 .ensures .1 in (
-      λ limits members idle.
+      λ limits members contained idle.
           let S = setBy (now (a .set)) (a .layout) in
           let cs = listed (a .points) in
           let s0 : Ready (a .layout) (a .points) (now (a .set)) (a .step) (now (a .slots)) (a .n) = record { limits = limits; idle = idle } in
-          let w1 = r1 .ensures .0 refl (s0 .limits) room1 members in
+          let w1 = r1 .ensures .0 refl (s0 .limits) room1 members contained in
           let s1 = ready-block (a .layout) (a .points) (now (a .set)) (a .step) 21 w1 s0 in
           let w2 = r2 .ensures .0 S cs refl (of-exits S cs) members (s1 .limits .allPlaces) (s1 .limits .below) in
           let s2 = ready-block (a .layout) (a .points) (now (a .set)) (a .step) 22 w2 s1 in

@@ -19,24 +19,24 @@ use Rattle.blocks.proofs.one_step.Tie as tie
 
 returns : tie.Need-returns
 returns c =
-    let a = c .before .before .before .before .before .args in
-    (λ limits room members idle. absurd (c .if1 .taken (limits .allPlaces)), λ room. omega arith)
+    let a = c .before .before .before .before .before .before .args in
+    (λ limits room members contained idle. absurd (c .if1 .taken (limits .allPlaces)), λ room. omega arith)
 
 returns-2 : tie.Need-returns-2
 returns-2 c =
-    let a = c .before .before .before .before .before .before .args in
+    let a = c .before .before .before .before .before .before .before .args in
     let past = c .if2 .taken in
-    (λ limits (room : a .n ≤ 1400000000) members idle. absurd (omega arith), λ room. omega arith)
+    (λ limits (room : a .n ≤ 1400000000) members contained idle. absurd (omega arith), λ room. omega arith)
 
 returns-3 : tie.Need-returns-3
 returns-3 c =
-    let a = c .before .before .before .before .before .before .before .before .args in
+    let a = c .before .before .before .before .before .before .before .before .before .args in
     let past = c .if3 .taken in
-    (λ limits room members idle. absurd (let four = limits .fourThreads in omega arith), λ room. omega arith)
+    (λ limits room members contained idle. absurd (let four = limits .fourThreads in omega arith), λ room. omega arith)
 
 deciding-kinds-requires : tie.Need-deciding-kinds-requires
 deciding-kinds-requires c κs =
-    let a = c .before .before .before .before .before .before .before .before .before .before .args in
+    let a = c .before .before .before .before .before .before .before .before .before .before .before .args in
     let eight : length (a .points .numbers) ≡ 8 = search needs in
     (omega arith, omega arith, listed-most (a .points) eight)
 
@@ -55,7 +55,7 @@ same-length-2 c = search needs
 returns-4 : tie.Need-returns-4
 unfolding step
 returns-4 c =
-    let a = c .before .before .before .before .before .before .before .before .before .before .before .before .before .before .before .before .before .before .before .before .before .before .before .before .before .before .before .args in
+    let a = c .before .before .before .before .before .before .before .before .before .before .before .before .before .before .before .before .before .before .before .before .before .before .before .before .before .before .before .before .args in
     let r1 = c .before .before .before .before .before .before .before .before .before .before .before .before .before .before .before .before .deciding-kinds in
     let r2 = c .before .before .before .before .before .before .before .before .before .rule in
     let r3 = c .before .before .before .before .acting-kinds in
@@ -66,11 +66,11 @@ returns-4 c =
     let cs = listed (a .points) in
     let k = a .step in
     let rules = demanded (ruled S cs k) ∷ [] in (
-      λ limits room members idle.
-          let w1 = r1 .ensures .0 limits members idle in
+      λ limits room members contained idle.
+          let w1 = r1 .ensures .0 limits members contained idle in
           let s1 = ready-blocks (a .layout) (a .points) (now (a .set)) k 0 11 w1 (record { limits = limits; idle = idle }) in
           let w2 = r2 .ensures .0 (now (a .set)) cs k in
-          let w3 = r3 .ensures .0 (limits-after (a .layout) (a .points) rules _ _ _ _ _ _ w2 (s1 .limits)) members
+          let w3 = r3 .ensures .0 (limits-after (a .layout) (a .points) rules _ _ _ _ _ _ w2 (s1 .limits)) members contained
           (idle-written S rules (idle-needs S (ruled S cs k) [] (idle-none S)) _ _ _ _ _ _ w2 (s1 .idle)) in
           writes-++ (blocks S cs k 0 11) (demanded (ruled S cs k) ∷ blocks S cs k 11 25) (now (a .out)) (now (a .slots)) (a .n) _ _ _ _ _ _ w1
           (writes-++ rules (blocks S cs k 11 25) _ _ _ _ _ _ _ _ _ w2 w3),

@@ -30,8 +30,8 @@ few-steps-requires-2 c κs = search needs
 
 later-steps-requires : tie.Need-later-steps-requires
 later-steps-requires c κs =
-    let a = c .before .before .before .before .before .before .before .before .before .before .before .before .before .args in
-    let p = c .before .before .before .before .before .before .before .before .before .before .before .before .before .pre in
+    let a = c .before .before .before .before .before .before .before .before .before .before .before .before .before .before .args in
+    let p = c .before .before .before .before .before .before .before .before .before .before .before .before .before .before .pre in
     let S = setBy (now (a .set)) (a .layout) in
     let cs = listed (a .points) in
     let start = placeOf (now (a .slots)) in
@@ -57,10 +57,10 @@ same-length-4 c = search needs
 
 returns-2 : tie.Need-returns-2
 returns-2 c =
-    let a = c .before .before .before .before .before .before .before .before .before .before .before .before .before .before .before .before .args in
-    let p = c .before .before .before .before .before .before .before .before .before .before .before .before .before .before .before .before .pre in
+    let a = c .before .before .before .before .before .before .before .before .before .before .before .before .before .before .before .before .before .args in
+    let p = c .before .before .before .before .before .before .before .before .before .before .before .before .before .before .before .before .before .pre in
     let l = c .before .before .later-steps .ensures in
-    (l .0 (setBy (now (a .set)) (a .layout)) (listed (a .points)) (placeOf (now (a .slots))) (now (a .out)) refl (p .0 .below) (p .4) (c .before .before .before .before .before .before .before .before .few-steps2 .ensures .0), l .1)
+    (l .0 (setBy (now (a .set)) (a .layout)) (listed (a .points)) (placeOf (now (a .slots))) (now (a .out)) refl (p .0 .below) (p .5) (c .before .before .before .before .before .before .before .before .few-steps2 .ensures .0), l .1)
 
 pub all-steps-spec : {M : Type 1} → statement M
 all-steps-spec =

@@ -28,7 +28,7 @@ returns c =
     let r = c .before .before .before .before .before .before .before .before .steps in
     let w = r .ensures .0 in
     let few = r .ensures .1 in
-    let p = c .before .before .before .before .before .before .before .before .before .before .before .before .before .before .before .pre .1 in (
+    let p = c .before .before .before .before .before .before .before .before .before .before .before .before .before .before .before .before .pre .1 in (
       record {
         stepped = record { written = w .written; next = w .next };
         codeIs = c .before .before .place .ensures ∙ ap (λ (f : Slot → ℕ). f (only code)) (w .places);

@@ -17,20 +17,20 @@ use Rattle.encoder.proofs.steps.Statement.{statement}
 use Rattle.encoder.proofs.steps.Tie as tie
 
 abbrev Inv-loop : tie.InvT-loop
-Inv-loop set layout points members slots₀ out₀ bound n next₀ k₀ slots out next k =
+Inv-loop set layout points members contained slots₀ out₀ bound n next₀ k₀ slots out next k =
     (k ≤ bound) × (bound ≤ 64) × (next ≤ n + 377858 * k) × (length out ≡ length out₀) × (length slots ≡ length slots₀)
     × (Limits layout points slots next)
     × (Writes (upto (step (setBy set layout) (listed points)) k) out₀ slots₀ n out slots next)
     × (Idle (setBy set layout) (placeOf slots))
 
 abbrev μ-loop : tie.MeasureT-loop
-μ-loop set layout points members slots₀ out₀ bound n next₀ k₀ slots out next k = bound - k
+μ-loop set layout points members contained slots₀ out₀ bound n next₀ k₀ slots out next k = bound - k
 
 loop-holds : tie.Need-loop-holds Inv-loop μ-loop
 loop-holds c =
-    let a = c .before .before .before .before .args in
-    let l = c .before .before .before .before .pre .0 in
-    (omega arith, omega arith, omega arith, refl, refl, l, writes-row (step (setBy (now (a .set)) (a .layout)) (listed (a .points))) (now (a .out)) (now (a .slots)) (a .n), c .before .before .before .before .pre .4)
+    let a = c .before .before .before .before .before .args in
+    let l = c .before .before .before .before .before .pre .0 in
+    (omega arith, omega arith, omega arith, refl, refl, l, writes-row (step (setBy (now (a .set)) (a .layout)) (listed (a .points))) (now (a .out)) (now (a .slots)) (a .n), c .before .before .before .before .before .pre .5)
 
 one-step-requires : tie.Need-one-step-requires Inv-loop μ-loop
 one-step-requires c κs = search needs
@@ -43,17 +43,17 @@ loop-less c = search needs
 
 loop-again : tie.Need-loop-again Inv-loop μ-loop
 loop-again c =
-    let a = c .before .before .before .before .before .before .before .before .before .before .before .before .before .args in
+    let a = c .before .before .before .before .before .before .before .before .before .before .before .before .before .before .args in
     let l = c .before .before .before .before .before .before .before .before .loop in
     let r = c .before .before .before .before .one-step in
     let f = step (setBy (now (a .set)) (a .layout)) (listed (a .points)) in
-    let q = c .before .before .before .before .before .before .before .before .before .before .before .before .before .pre in
+    let q = c .before .before .before .before .before .before .before .before .before .before .before .before .before .before .pre in
     let little = q .1 in
     let most = l .inv .1 in
     let so-far = l .inv .2 in
     let room : l .next ≤ 1400000000 = omega arith in
     let more = r .ensures .1 room in
-    let w = r .ensures .0 (l .inv .5) room (q .3) (l .inv .7) in (
+    let w = r .ensures .0 (l .inv .5) room (q .3) (q .4) (l .inv .7) in (
       omega arith,
       l .inv .1,
       omega arith,
@@ -72,7 +72,7 @@ same-length-2 c = search needs
 
 returns : tie.Need-returns Inv-loop μ-loop
 returns c =
-    let a = c .before .before .before .before .before .before .args in
+    let a = c .before .before .before .before .before .before .before .args in
     let l = c .before .loop in
     let k-is : l .k ≡ a .bound = omega arith in (
       subst (λ (j : ℕ). Writes (upto (step (setBy (now (a .set)) (a .layout)) (listed (a .points))) j) (now (a .out)) (now (a .slots)) (a .n) (l .out) (l .slots) (l .next)) k-is (l .inv .6),

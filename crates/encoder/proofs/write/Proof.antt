@@ -24,6 +24,15 @@ slice-aggregate-make c = search needs
 make-requires : tie.Need-make-requires
 make-requires c κs = search needs
 
+slice-aggregate-make-2 : tie.Need-slice-aggregate-make-2
+slice-aggregate-make-2 c = search needs
+
+slice-aggregate-make-3 : tie.Need-slice-aggregate-make-3
+slice-aggregate-make-3 c = search needs
+
+make-requires-2 : tie.Need-make-requires-2
+make-requires-2 c κs = search needs
+
 firsts-requires : tie.Need-firsts-requires
 firsts-requires c κs = search needs
 
@@ -35,9 +44,9 @@ slice-aggregate-before-steps-2 c = search needs
 
 before-steps-requires : tie.Need-before-steps-requires
 before-steps-requires c κs =
-    let a = c .before .before .before .before .before .before .before .before .before .before .before .before .before .args in
-    let p = c .before .before .before .before .before .before .before .before .before .before .before .before .before .pre in
-    (p .0, p .1, c .before .before .before .before .before .before .before .before .make .ensures .1 refl (λ t h. p .0 .fewStatements t), idle-start (setBy (now (a .set)) (a .layout)) 2304)
+    let a = c .before .before .before .before .before .before .before .before .before .before .before .before .before .before .before .before .before .args in
+    let p = c .before .before .before .before .before .before .before .before .before .before .before .before .before .before .before .before .before .pre in
+    (p .0, p .1, c .before .before .before .before .before .before .before .before .before .before .before .before .make .ensures .1 refl (λ t h. p .0 .fewStatements t), idle-start (setBy (now (a .set)) (a .layout)) 2304)
 
 slice-aggregate-all-steps : tie.Need-slice-aggregate-all-steps
 slice-aggregate-all-steps c = search needs
@@ -45,18 +54,23 @@ slice-aggregate-all-steps c = search needs
 slice-aggregate-all-steps-2 : tie.Need-slice-aggregate-all-steps-2
 slice-aggregate-all-steps-2 c = search needs
 
+slice-aggregate-all-steps-3 : tie.Need-slice-aggregate-all-steps-3
+slice-aggregate-all-steps-3 c = search needs
+
 all-steps-requires : tie.Need-all-steps-requires
 all-steps-requires c κs =
-    let a = c .before .before .before .before .before .before .before .before .before .before .before .before .before .before .before .before .before .before .before .before .args in
-    let p = c .before .before .before .before .before .before .before .before .before .before .before .before .before .before .before .before .before .before .before .before .pre in
+    let a = c .before .before .before .before .before .before .before .before .before .before .before .before .before .before .before .before .before .before .before .before .before .before .before .before .before .args in
+    let p = c .before .before .before .before .before .before .before .before .before .before .before .before .before .before .before .before .before .before .before .before .before .before .before .before .before .pre in
     let S = setBy (now (a .set)) (a .layout) in
     let cs = listed (a .points) in
-    let w = c .before .before .before .before .before .before .before-steps .ensures in (
+    let members = c .before .before .before .before .before .before .before .before .before .before .before .before .before .before .before .before .before .before .before .before .make .ensures .1 refl (λ t h. p .0 .fewStatements t) in
+    let w = c .before .before .before .before .before .before .before .before-steps .ensures in (
       limits-after (a .layout) (a .points) (early S cs (now (a .map))) _ _ _ _ _ _ (w .0) (p .0),
       (let l = w .1 in omega arith),
       p .2,
-      c .before .before .before .before .before .before .before .before .before .before .before .before .before .before .before .make .ensures .1 refl (λ t h. p .0 .fewStatements t),
-      ended-room S cs (now (a .map)) (a .bound) (now (a .table)) _ _ _ _ (c .before .before .before .before .before .before .before .before .before .before .before .before .firsts .ensures) (w .0) (p .3),
+      members,
+      c .before .before .before .before .before .before .before .before .before .before .before .before .before .before .before .before .make2 .ensures .1 refl (p .0 .fourThreads) members,
+      ended-room S cs (now (a .map)) (a .bound) (now (a .table)) _ _ _ _ (c .before .before .before .before .before .before .before .before .before .before .before .before .before .firsts .ensures) (w .0) (p .3),
       idle-written S (early S cs (now (a .map))) (idle-++ S (starting S cs) (upto (mapDemand (now (a .map))) (cells (now (a .map)))) (idle-++ S (block S cs 0 unit) (block S cs 0 argument) (idle-block S cs 0 unit) (idle-block S cs 0 argument))
           (idle-upto S (mapDemand (now (a .map))) (λ j. idle-needs S _ [] (idle-none S)) (cells (now (a .map))))) _ _ _ _ _ _ (w .0) (idle-start S 2304),
     )
@@ -69,11 +83,11 @@ same-length c = search needs
 
 returns : tie.Need-returns
 returns c =
-    let a = c .before .before .before .before .before .before .before .before .before .before .before .before .before .before .before .before .before .before .before .before .before .before .before .before .before .before .before .before .args in
+    let a = c .before .before .before .before .before .before .before .before .before .before .before .before .before .before .before .before .before .before .before .before .before .before .before .before .before .before .before .before .before .before .before .before .before .args in
     let S = setBy (now (a .set)) (a .layout) in
     let cs = listed (a .points) in
     let e = c .before .before .before .before .before .before .before .all-steps .ensures .0 in
-    encoded-ended S cs (now (a .map)) (a .bound) (now (a .table)) _ _ _ _ _ _ _ _ _ (c .before .before .before .before .before .before .before .before .before .before .before .before .before .before .before .before .before .before .before .before .firsts .ensures) (c .before .before .before .before .before .before .before .before .before .before .before .before .before .before .before-steps .ensures .0) e
+    encoded-ended S cs (now (a .map)) (a .bound) (now (a .table)) _ _ _ _ _ _ _ _ _ (c .before .before .before .before .before .before .before .before .before .before .before .before .before .before .before .before .before .before .before .before .before .firsts .ensures) (c .before .before .before .before .before .before .before .before .before .before .before .before .before .before .before .before-steps .ensures .0) e
     (c .before .before .goal .ensures _ (e .codeIs) (e .noughtIs))
 
 pub write-spec : {M : Type 1} → statement M
@@ -82,12 +96,16 @@ write-spec =
     (tie.spec
     slice-aggregate-make
     make-requires
+    slice-aggregate-make-2
+    slice-aggregate-make-3
+    make-requires-2
     firsts-requires
     slice-aggregate-before-steps
     slice-aggregate-before-steps-2
     before-steps-requires
     slice-aggregate-all-steps
     slice-aggregate-all-steps-2
+    slice-aggregate-all-steps-3
     all-steps-requires
     goal-requires
     same-length

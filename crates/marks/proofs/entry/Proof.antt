@@ -5,16 +5,16 @@ use Rattle.places.specs.Pieces.{WritesTree, Limits}
 use Rattle.places.specs.Places.{placeOf, listed}
 use Rattle.places.proofs.Entries.{entry-none, entry-kept, treeOf}
 use Rattle.places.proofs.Rows.{width-least}
-use Rattle.members.specs.Members.{Members}
+use Rattle.links.specs.Contained.{Contained}
 use Rattle.bases.proofs.Given.{put-written}
 use Rattle.encoding.specs.Steps.{base, shape, kept}
 use Rattle.encoding.specs.Slots.{kindAt}
 use Rattle.table.proofs.Sequences.{inside}
-use Rattle.step.specs.Machine.{contains}
 use Rattle.records.specs.Sets.{setBy}
-use Prim.Native.Nat.{ℕ, _+_, _<_}
+use Prim.Native.Nat.{_+_, _<_}
+use lib.ListN.{length}
 use mathlib.Core.Bool.{true}
-use mathlib.Core.Path.{_≡_, refl, sym, ap, _∙_}
+use mathlib.Core.Path.{_≡_, refl, sym, _∙_}
 use native.Mathlib.Omega.{arith}
 use denote.Ref.{now}
 use borrow.Author.Needs.{needs}
@@ -22,20 +22,17 @@ use Rattle.marks.proofs.entry.Statement.{statement}
 use Rattle.marks.proofs.entry.Tie as tie
 
 -- whether there is a mark
-there : (c : tie.After-has) → let a = c .before .before .before .before .before .before .args in
-    marked (a .kind) ≡ true → Members (setBy (now (a .set)) (a .layout)) (now (a .members)) →
-    kept (setBy (now (a .set)) (a .layout)) (listed (a .points)) 0 (shape (kindAt (a .kind))) (a .t) (a .p) ≡ c .has .result
-there c is members =
+there : (c : tie.After-contains) → let a = c .before .before .before .before .before .before .args in let S = setBy (now (a .set)) (a .layout) in
+    marked (a .kind) ≡ true → Contained S (listed (a .points)) (now (a .table)) → a .t < a .layout .threads → a .p < length (listed (a .points)) →
+    kept S (listed (a .points)) 0 (shape (kindAt (a .kind))) (a .t) (a .p) ≡ c .contains .result
+there c is k row column =
     let a = c .before .before .before .before .before .before .args in
     let S = setBy (now (a .set)) (a .layout) in
-    marked-kept S (listed (a .points)) 0 (a .t) (a .p) (a .kind) is
-    ∙ sym (c .has .ensures members ∙ ap (λ (p : ℕ). contains S (a .t) p) (c .before .checkpoint .ensures))
+    let cs = listed (a .points) in
+    marked-kept S cs 0 (a .t) (a .p) (a .kind) is ∙ sym (c .contains .ensures S cs k row column)
 
-checkpoint-requires : tie.Need-checkpoint-requires
-checkpoint-requires c κs = search needs
-
-has-requires : tie.Need-has-requires
-has-requires c κs = search needs
+contains-requires : tie.Need-contains-requires
+contains-requires c κs = search needs
 
 put-marked-requires : tie.Need-put-marked-requires
 put-marked-requires c κs = search needs
@@ -70,7 +67,7 @@ returns c =
     let most = g .ensures .1 in
     let r = c .before .before .before .before .before .before .raised-chain in
     let links = r .ensures .1 in (
-      λ is (l : Limits (a .layout) (a .points) (now (a .slots)) (a .n)) members.
+      λ is (l : Limits (a .layout) (a .points) (now (a .slots)) (a .n)) members k inside-row inside-column.
           let bare = base S cs (a .step) (kindAt (a .kind)) (a .t) (a .p) in
           let put = put-written (g .result) places (a .n) bare (now (a .out)) _ (g .ensures .0 S cs refl is (omega arith)) in
           let w : WritesTree places (treeOf S cs (a .step) (kindAt (a .kind)) (a .t) (a .p)) (now (a .out)) (a .n) _ (r .result .next) (r .result .at) =
@@ -82,7 +79,7 @@ returns c =
           let f = w .treeNext in
           omega arith in
           entry-kept S cs (a .step) (kindAt (a .kind)) (a .t) (a .p) (now (a .out)) (now (a .slots)) (a .n) _ _ (r .result .next) (r .result .at)
-          (there (c .before .before .before .before .before .before .before .before .before .before .before .before .before .before .before .before .before) is members ∙ c .before .before .before .before .before .before .before .before .before .before .before .before .before .before .before .before .if1 .taken) w (p .1 (l .allPlaces) (marked-known (a .kind) is) (q .1) (omega arith) small) (p .0),
+          (there (c .before .before .before .before .before .before .before .before .before .before .before .before .before .before .before .before .before) is k inside-row inside-column ∙ c .before .before .before .before .before .before .before .before .before .before .before .before .before .before .before .before .if1 .taken) w (p .1 (l .allPlaces) (marked-known (a .kind) is) (q .1) (omega arith) small) (p .0),
       omega arith,
     )
 
@@ -108,7 +105,7 @@ returns-2 c =
     let g = c .before .before .before .before .before .before .before .before .put-marked in
     let p = c .before .before .set-place2 .ensures in
     let most = g .ensures .1 in (
-      λ is (l : Limits (a .layout) (a .points) (now (a .slots)) (a .n)) members.
+      λ is (l : Limits (a .layout) (a .points) (now (a .slots)) (a .n)) members k inside-row inside-column.
           let bare = base S cs (a .step) (kindAt (a .kind)) (a .t) (a .p) in
           let put = put-written (g .result) places (a .n) bare (now (a .out)) _ (g .ensures .0 S cs refl is (omega arith)) in
           let w : WritesTree places (treeOf S cs (a .step) (kindAt (a .kind)) (a .t) (a .p)) (now (a .out)) (a .n) _ (a .n + g .result .count) (g .result .root) =
@@ -119,16 +116,16 @@ returns-2 c =
           let f = w .treeNext in
           omega arith in
           entry-kept S cs (a .step) (kindAt (a .kind)) (a .t) (a .p) (now (a .out)) (now (a .slots)) (a .n) _ _ (a .n + g .result .count) (g .result .root)
-          (there (c .before .before .before .before .before .before .before .before .before .before .before .before) is members ∙ c .before .before .before .before .before .before .before .before .before .before .before .if1 .taken) w (p .1 (l .allPlaces) (marked-known (a .kind) is) (q .1) (omega arith) small) (p .0),
+          (there (c .before .before .before .before .before .before .before .before .before .before .before .before) is k inside-row inside-column ∙ c .before .before .before .before .before .before .before .before .before .before .before .if1 .taken) w (p .1 (l .allPlaces) (marked-known (a .kind) is) (q .1) (omega arith) small) (p .0),
       omega arith,
     )
 
 returns-3 : tie.Need-returns-3
 returns-3 c =
     let a = c .before .before .before .before .before .before .before .args in (
-      λ is l members.
+      λ is l members k inside-row inside-column.
           entry-none (setBy (now (a .set)) (a .layout)) (listed (a .points)) (a .step) (kindAt (a .kind)) (a .t) (a .p) (now (a .out)) (now (a .slots)) (a .n)
-          (there (c .before) is members ∙ c .if1 .left),
+          (there (c .before) is k inside-row inside-column ∙ c .if1 .left),
       omega arith,
     )
 
@@ -136,8 +133,7 @@ pub entry-spec : {M : Type 1} → statement M
 entry-spec =
     tie.close
     (tie.spec
-    checkpoint-requires
-    has-requires
+    contains-requires
     put-marked-requires
     add-next
     raised-chain-requires

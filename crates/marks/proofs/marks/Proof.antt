@@ -3,6 +3,7 @@ use Rattle.places.specs.Pieces.{Writes, Limits}
 use Rattle.places.specs.Places.{listed}
 use Rattle.places.proofs.Pieces.{writes-row, writes-more, limits-after}
 use Rattle.members.specs.Members.{Members}
+use Rattle.links.specs.Contained.{Contained}
 use Rattle.marks.specs.Marked.{marked}
 use Rattle.marks.proofs.Marked.{marked-rows}
 use Rattle.encoding.specs.Steps.{line}
@@ -20,34 +21,40 @@ use Rattle.marks.proofs.marks.Statement.{statement}
 use Rattle.marks.proofs.marks.Tie as tie
 
 abbrev Inv-loop : tie.InvT-loop
-Inv-loop set layout points members slots₀ out₀ step kind n many next₀ t₀ slots out next t =
+Inv-loop set layout points members table slots₀ out₀ step kind n many next₀ t₀ slots out next t =
     (t ≤ many) × (many ≤ 4) × (n ≤ 1600000000) × (next ≤ n + 288 * t) × (length out ≡ length out₀) × (length slots ≡ length slots₀)
-    × (marked kind ≡ true → Limits layout points slots₀ n → Members (setBy set layout) members
+    × (marked kind ≡ true → Limits layout points slots₀ n → Members (setBy set layout) members → Contained (setBy set layout) (listed points) table
     → (Limits layout points slots next) × (Writes (upto (line (setBy set layout) (listed points) step (kindAt kind)) t) out₀ slots₀ n out slots next))
+    × (many ≡ layout .threads)
 
 abbrev μ-loop : tie.MeasureT-loop
-μ-loop set layout points members slots₀ out₀ step kind n many next₀ t₀ slots out next t = many - t
+μ-loop set layout points members table slots₀ out₀ step kind n many next₀ t₀ slots out next t = many - t
 
 returns : tie.Need-returns Inv-loop μ-loop
 returns c =
-    let a = c .before .before .before .before .before .args in
-    ((λ is l (room : a .n ≤ 1600000000) members. absurd (omega arith)), λ (room : a .n ≤ 1600000000). omega arith)
+    let a = c .before .before .before .before .before .before .args in
+    ((λ is l (room : a .n ≤ 1600000000) members k. absurd (omega arith)), λ (room : a .n ≤ 1600000000). omega arith)
 
 returns-2 : tie.Need-returns-2 Inv-loop μ-loop
 returns-2 c =
-    let a = c .before .before .before .before .before .before .args in
-    ((λ is (l : Limits (a .layout) (a .points) (now (a .slots)) (a .n)) room members. absurd (c .if2 .taken (l .allPlaces))), λ room. omega arith)
+    let a = c .before .before .before .before .before .before .before .args in
+    ((λ is (l : Limits (a .layout) (a .points) (now (a .slots)) (a .n)) room members k. absurd (c .if2 .taken (l .allPlaces))), λ room. omega arith)
 
 returns-3 : tie.Need-returns-3 Inv-loop μ-loop
 returns-3 c =
     let a = c .before .before .before .before .before .before .before .before .args in
-    ((λ is (l : Limits (a .layout) (a .points) (now (a .slots)) (a .n)) room members. let four = l .fourThreads in absurd (omega arith)), λ room. omega arith)
+    ((λ is l room members (k : Contained (setBy (now (a .set)) (a .layout)) (listed (a .points)) (now (a .table))). absurd (c .if3 .taken (k .whole))), λ room. omega arith)
+
+returns-4 : tie.Need-returns-4 Inv-loop μ-loop
+returns-4 c =
+    let a = c .before .before .before .before .before .before .before .before .before .before .args in
+    ((λ is (l : Limits (a .layout) (a .points) (now (a .slots)) (a .n)) room members k. let four = l .fourThreads in absurd (omega arith)), λ room. omega arith)
 
 loop-holds : tie.Need-loop-holds Inv-loop μ-loop
 loop-holds c =
-    let a = c .before .before .before .before .before .before .before .before .args in
-    let room = c .before .before .before .if1 .left in
-    let four = c .if3 .left in
+    let a = c .before .before .before .before .before .before .before .before .before .before .args in
+    let room = c .before .before .before .before .if1 .left in
+    let four = c .if4 .left in
     let S = setBy (now (a .set)) (a .layout) in
     let f = line S (listed (a .points)) (a .step) (kindAt (a .kind)) in (
       omega arith,
@@ -56,7 +63,8 @@ loop-holds c =
       omega arith,
       refl,
       refl,
-      λ is l members. (l, writes-row f (now (a .out)) (now (a .slots)) (a .n)),
+      λ is l members k. (l, writes-row f (now (a .out)) (now (a .slots)) (a .n)),
+      refl,
     )
 
 line-requires : tie.Need-line-requires Inv-loop μ-loop
@@ -72,10 +80,12 @@ loop-less c = search needs
 
 loop-again : tie.Need-loop-again Inv-loop μ-loop
 loop-again c =
-    let a = c .before .before .before .before .before .before .before .before .before .before .before .before .before .before .before .before .before .args in
+    let a = c .before .before .before .before .before .before .before .before .before .before .before .before .before .before .before .before .before .before .before .args in
     let l = c .before .before .before .before .before .before .before .before .loop in
     let r = c .before .before .before .before .line in
     let added = r .ensures .1 in
+    let e = l .inv .7 in
+    let going = c .before .before .before .before .before .before .before .loop-test .taken in
     let S = setBy (now (a .set)) (a .layout) in
     let cs = listed (a .points) in
     let f = line S cs (a .step) (kindAt (a .kind)) in (
@@ -85,10 +95,11 @@ loop-again c =
       omega arith,
       search needs,
       search needs,
-      λ is (limits : Limits (a .layout) (a .points) (now (a .slots)) (a .n)) members.
-          let before = l .inv .6 is limits members in
-          let w = r .ensures .0 is (before .0) members in
+      λ is (limits : Limits (a .layout) (a .points) (now (a .slots)) (a .n)) members k.
+          let before = l .inv .6 is limits members k in
+          let w = r .ensures .0 is (before .0) members k (omega arith) in
           (limits-after (a .layout) (a .points) (f (l .t)) _ _ _ _ _ _ w (before .0), writes-more f (l .t) (now (a .out)) (now (a .slots)) (a .n) _ _ _ _ _ _ (before .1) w),
+      e,
     )
 
 same-length : tie.Need-same-length Inv-loop μ-loop
@@ -97,16 +108,16 @@ same-length c = search needs
 same-length-2 : tie.Need-same-length-2 Inv-loop μ-loop
 same-length-2 c = search needs
 
-returns-4 : tie.Need-returns-4 Inv-loop μ-loop
-returns-4 c =
-    let a = c .before .before .before .before .before .before .before .before .before .before .args in
+returns-5 : tie.Need-returns-5 Inv-loop μ-loop
+returns-5 c =
+    let a = c .before .before .before .before .before .before .before .before .before .before .before .before .args in
     let l = c .before .loop in
     let S = setBy (now (a .set)) (a .layout) in
     let cs = listed (a .points) in
     let t-is : l .t ≡ a .layout .threads = omega arith in (
-      (λ is (limits : Limits (a .layout) (a .points) (now (a .slots)) (a .n)) room members.
+      (λ is (limits : Limits (a .layout) (a .points) (now (a .slots)) (a .n)) room members k.
           subst (λ (j : ℕ). Writes (upto (line S cs (a .step) (kindAt (a .kind))) j) (now (a .out)) (now (a .slots)) (a .n) (l .out) (l .slots) (l .next))
-          (t-is ∙ sym (marked-rows S cs (a .step) (a .kind) is)) (l .inv .6 is limits members .1)),
+          (t-is ∙ sym (marked-rows S cs (a .step) (a .kind) is)) (l .inv .6 is limits members k .1)),
       λ room. omega arith,
     )
 
@@ -119,6 +130,7 @@ marks-spec =
     returns
     returns-2
     returns-3
+    returns-4
     loop-holds
     line-requires
     add-t
@@ -126,4 +138,4 @@ marks-spec =
     loop-again
     same-length
     same-length-2
-    returns-4)
+    returns-5)

@@ -1,14 +1,16 @@
 -- `marks::opening` meets its contract. Assumes nothing.
-use Rattle.places.specs.Pieces.{WritesTree, Limits}
-use Rattle.places.specs.Places.{placeOf, listed}
+use Rattle.places.specs.Pieces.{WritesTree}
+use Rattle.places.specs.Places.{placeOf, size}
 use Rattle.places.proofs.Entries.{entry-kept, treeOf}
 use Rattle.bases.proofs.Given.{put-written}
 use Rattle.encoding.specs.Steps.{base}
-use Rattle.encoding.specs.Slots.{kinds, opening}
+use Rattle.encoding.specs.Slots.{Slot, kinds, opening}
 use Rattle.table.proofs.Sequences.{inside}
-use Rattle.records.specs.Sets.{setBy}
-use Prim.Native.Nat.{_<_}
-use mathlib.Core.Path.{refl}
+use Rattle.records.specs.Sets.{Set}
+use Prim.Native.Nat.{ℕ, _<_}
+use mathlib.Core.Path.{_≡_, refl}
+use mathlib.Core.List.{List}
+use lib.ListN.{length}
 use native.Mathlib.Omega.{arith}
 use denote.Ref.{now}
 use borrow.Author.Needs.{needs}
@@ -36,10 +38,8 @@ same-length-2 c = search needs
 returns : tie.Need-returns
 unfolding kinds
 returns c =
-    let a = c .before .before .before .before .before .before .before .before .before .before .before .before .before .before .before .before .before .before .before .args in
-    let q = c .before .before .before .before .before .before .before .before .before .before .before .before .before .before .before .before .before .before .before .pre in
-    let S = setBy (now (a .set)) (a .layout) in
-    let cs = listed (a .points) in
+    let a = c .before .before .before .before .before .before .before .before .before .before .before .before .before .before .before .before .before .before .args in
+    let q = c .before .before .before .before .before .before .before .before .before .before .before .before .before .before .before .before .before .before .pre in
     let places = placeOf (now (a .slots)) in
     let limit = q .0 in
     let within = q .1 in
@@ -48,18 +48,18 @@ returns c =
     let p = c .before .before .set-place .ensures in
     let most = g .ensures .1 in
     let links = r .ensures .1 in (
-      λ (l : Limits (a .layout) (a .points) (now (a .slots)) (a .n)) members.
-          let put = g .ensures .0 S cs refl refl (λ e. absurd (omega arith)) (omega arith) in
+      λ (S : Set) (cs : List ℕ) row column k (all : length (now (a .slots)) ≡ size) (below : (s : Slot) → placeOf (now (a .slots)) s < a .n).
+          let put = g .ensures .0 S cs row refl (λ e. absurd (omega arith)) (omega arith) in
           let w : WritesTree places (treeOf S cs (a .step) opening 0 (a .p)) (now (a .out)) (a .n) _ (r .result .next) (r .result .at) =
-          r .ensures .0 (base S cs (a .step) opening 0 (a .p)) (now (a .out)) (a .n) (l .fourThreads) (omega arith) (l .allPlaces) members
+          r .ensures .0 S cs (base S cs (a .step) opening 0 (a .p)) (now (a .out)) (a .n) row column (omega arith) all k
           (put-written (g .result) places (a .n) (base S cs (a .step) opening 0 (a .p)) (now (a .out)) _ put) in
           let small : r .result .at < 4294967295 =
-          let i = inside places (treeOf S cs (a .step) opening 0 (a .p)) (a .n) (l .below) in
+          let i = inside places (treeOf S cs (a .step) opening 0 (a .p)) (a .n) below in
           let e = w .treeRoot in
           let f = w .treeNext in
           omega arith in
           entry-kept S cs (a .step) opening 0 (a .p) (now (a .out)) (now (a .slots)) (a .n) _ _ (r .result .next) (r .result .at) refl w
-          (p .1 (l .allPlaces) (omega arith) (omega arith) (omega arith) small) (p .0),
+          (p .1 all (omega arith) (omega arith) (omega arith) small) (p .0),
       omega arith,
     )
 

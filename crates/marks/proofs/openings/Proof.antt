@@ -1,16 +1,16 @@
 -- `marks::openings` meets its contract. Assumes nothing.
-use Rattle.places.specs.Pieces.{Writes, Limits}
-use Rattle.places.specs.Places.{listed}
-use Rattle.places.proofs.Pieces.{writes-row, writes-more, limits-after}
-use Rattle.members.specs.Members.{Members}
-use Rattle.links.proofs.Points.{listed-most}
+use Rattle.places.specs.Pieces.{Writes}
+use Rattle.places.specs.Places.{placeOf, size}
+use Rattle.places.proofs.Pieces.{writes-row, writes-more, below-after}
+use Rattle.links.specs.Contained.{Contained}
 use Rattle.marks.proofs.Blocks.{openings-written}
 use Rattle.encoding.specs.Steps.{entry}
-use Rattle.encoding.specs.Slots.{opening}
+use Rattle.encoding.specs.Slots.{Slot, opening}
 use Rattle.table.specs.Programs.{upto}
-use Rattle.records.specs.Sets.{setBy}
-use Prim.Native.Nat.{_+_, _-_, _*_, _≤_}
-use mathlib.Core.Path.{_≡_, refl}
+use Rattle.records.specs.Sets.{Set}
+use Prim.Native.Nat.{ℕ, _+_, _-_, _*_, _≤_, _<_}
+use mathlib.Core.Path.{_≡_, refl, _∙_}
+use mathlib.Core.List.{List}
 use native.Mathlib.Omega.{arith}
 use lib.ListN.{length}
 use denote.Ref.{now}
@@ -19,48 +19,52 @@ use Rattle.marks.proofs.openings.Statement.{statement}
 use Rattle.marks.proofs.openings.Tie as tie
 
 abbrev Inv-loop : tie.InvT-loop
-Inv-loop set layout points members slots₀ out₀ step n many next₀ p₀ slots out next p =
-    (p ≤ many) × (many ≤ 8) × (n ≤ 1600000000) × (next ≤ n + 8 * p) × (length out ≡ length out₀) × (length slots ≡ length slots₀)
-    × (Limits layout points slots₀ n → Members (setBy set layout) members
-    → (Limits layout points slots next) × (Writes (upto (entry (setBy set layout) (listed points) step opening 0) p) out₀ slots₀ n out slots next))
+Inv-loop table slots₀ out₀ threads count step n next₀ p₀ slots out next p =
+    (p ≤ count) × (count ≤ 8) × (n ≤ 1600000000) × (next ≤ n + 8 * p) × (length out ≡ length out₀) × (length slots ≡ length slots₀)
+    × ((S : Set) (cs : List ℕ) → S .threads ≡ threads → length cs ≡ count → Contained S cs table → length slots₀ ≡ size → ((s : Slot) → placeOf slots₀ s < n)
+    → ((s : Slot) → placeOf slots s < next) × (Writes (upto (entry S cs step opening 0) p) out₀ slots₀ n out slots next))
 
 abbrev μ-loop : tie.MeasureT-loop
-μ-loop set layout points members slots₀ out₀ step n many next₀ p₀ slots out next p = many - p
+μ-loop table slots₀ out₀ threads count step n next₀ p₀ slots out next p = count - p
 
 returns : tie.Need-returns Inv-loop μ-loop
 returns c =
-    let a = c .before .before .before .before .before .args in
-    ((λ l (room : a .n ≤ 1600000000) members. absurd (omega arith)), λ (room : a .n ≤ 1600000000). omega arith)
+    let a = c .before .before .before .before .args in
+    ((λ S cs row column k all below (room : a .n ≤ 1600000000). absurd (omega arith)), λ (room : a .n ≤ 1600000000). omega arith)
 
 returns-2 : tie.Need-returns-2 Inv-loop μ-loop
 returns-2 c =
-    let a = c .before .before .before .before .before .before .args in
-    ((λ (l : Limits (a .layout) (a .points) (now (a .slots)) (a .n)) room members. absurd (c .if2 .taken (l .allPlaces))), λ room. omega arith)
+    let a = c .before .before .before .before .before .args in
+    ((λ S cs row column k all below room. absurd (c .if2 .taken all)), λ room. omega arith)
 
 returns-3 : tie.Need-returns-3 Inv-loop μ-loop
 returns-3 c =
-    let a = c .before .before .before .before .before .before .before .before .args in
-    ((λ (l : Limits (a .layout) (a .points) (now (a .slots)) (a .n)) room members. let four = l .fourThreads in absurd (omega arith)), λ room. omega arith)
+    let a = c .before .before .before .before .before .before .args in
+    ((λ (S : Set) (cs : List ℕ) row column (k : Contained S cs (now (a .table))) all below room. absurd (c .if3 .taken (k .whole))), λ room. omega arith)
 
-points-count-requires : tie.Need-points-count-requires Inv-loop μ-loop
-points-count-requires c κs = search needs
+returns-4 : tie.Need-returns-4 Inv-loop μ-loop
+returns-4 c =
+    let a = c .before .before .before .before .before .before .before .args in
+    ((λ (S : Set) (cs : List ℕ) (row : S .threads ≡ a .threads) column (k : Contained S cs (now (a .table))) all below room. let four = k .fourThreads in absurd (omega arith)), λ room. omega arith)
+
+returns-5 : tie.Need-returns-5 Inv-loop μ-loop
+returns-5 c =
+    let a = c .before .before .before .before .before .before .before .before .args in
+    ((λ (S : Set) (cs : List ℕ) row (column : length cs ≡ a .count) (k : Contained S cs (now (a .table))) all below room. let eight = k .eightPoints in absurd (omega arith)), λ room. omega arith)
 
 loop-holds : tie.Need-loop-holds Inv-loop μ-loop
 loop-holds c =
-    let a = c .before .before .before .before .before .before .before .before .before .args in
+    let a = c .before .before .before .before .before .before .before .before .args in
     let room = c .before .before .before .before .if1 .left in
-    let eight : length (a .points .numbers) ≡ 8 = search needs in
-    let few = listed-most (a .points) eight in
-    let e = c .points-count .ensures in
-    let S = setBy (now (a .set)) (a .layout) in
-    let f = entry S (listed (a .points)) (a .step) opening 0 in (
+    let four = c .before .if4 .left in
+    let eight = c .if5 .left in (
       omega arith,
       omega arith,
       omega arith,
       omega arith,
       refl,
       refl,
-      λ l members. (l, writes-row f (now (a .out)) (now (a .slots)) (a .n)),
+      λ (S : Set) (cs : List ℕ) row column k all below. (below, writes-row (entry S cs (a .step) opening 0) (now (a .out)) (now (a .slots)) (a .n)),
     )
 
 opening-requires : tie.Need-opening-requires Inv-loop μ-loop
@@ -76,23 +80,23 @@ loop-less c = search needs
 
 loop-again : tie.Need-loop-again Inv-loop μ-loop
 loop-again c =
-    let a = c .before .before .before .before .before .before .before .before .before .before .before .before .before .before .before .before .before .before .args in
+    let a = c .before .before .before .before .before .before .before .before .before .before .before .before .before .before .before .before .before .args in
     let l = c .before .before .before .before .before .before .before .before .loop in
     let r = c .before .before .before .before .opening in
-    let added = r .ensures .1 in
-    let S = setBy (now (a .set)) (a .layout) in
-    let cs = listed (a .points) in
-    let f = entry S cs (a .step) opening 0 in (
+    let going = c .before .before .before .before .before .before .before .loop-test .taken in
+    let added = r .ensures .1 in (
       omega arith,
       l .inv .1,
       l .inv .2,
       omega arith,
       search needs,
       search needs,
-      λ (limits : Limits (a .layout) (a .points) (now (a .slots)) (a .n)) members.
-          let before = l .inv .6 limits members in
-          let w = r .ensures .0 (before .0) members in
-          (limits-after (a .layout) (a .points) (f (l .p)) _ _ _ _ _ _ w (before .0), writes-more f (l .p) (now (a .out)) (now (a .slots)) (a .n) _ _ _ _ _ _ (before .1) w),
+      λ (S : Set) (cs : List ℕ) (row : S .threads ≡ a .threads) (column : length cs ≡ a .count) (k : Contained S cs (now (a .table))) (all : length (now (a .slots)) ≡ size) below.
+          let f = entry S cs (a .step) opening 0 in
+          let before = l .inv .6 S cs row column k all below in
+          let here : l .p < length cs = omega arith in
+          let w = r .ensures .0 S cs row here k (l .inv .5 ∙ all) (before .0) in
+          (below-after (f (l .p)) _ _ _ _ _ _ w (before .0), writes-more f (l .p) (now (a .out)) (now (a .slots)) (a .n) _ _ _ _ _ _ (before .1) w),
     )
 
 same-length : tie.Need-same-length Inv-loop μ-loop
@@ -101,16 +105,13 @@ same-length c = search needs
 same-length-2 : tie.Need-same-length-2 Inv-loop μ-loop
 same-length-2 c = search needs
 
-returns-4 : tie.Need-returns-4 Inv-loop μ-loop
-returns-4 c =
-    let a = c .before .before .before .before .before .before .before .before .before .before .before .args in
-    let l = c .before .loop in
-    let S = setBy (now (a .set)) (a .layout) in
-    let cs = listed (a .points) in
-    let e = c .before .before .points-count .ensures in
-    let p-is : l .p ≡ length cs = omega arith in (
-      (λ (limits : Limits (a .layout) (a .points) (now (a .slots)) (a .n)) room members.
-          openings-written S cs (a .step) (now (a .out)) (now (a .slots)) (a .n) _ _ _ (l .p) p-is (l .inv .6 limits members .1)),
+returns-6 : tie.Need-returns-6 Inv-loop μ-loop
+returns-6 c =
+    let a = c .before .before .before .before .before .before .before .before .before .before .args in
+    let l = c .before .loop in (
+      (λ (S : Set) (cs : List ℕ) (row : S .threads ≡ a .threads) (column : length cs ≡ a .count) k all below room.
+          let end : l .p ≡ length cs = omega arith in
+          openings-written S cs (a .step) (now (a .out)) (now (a .slots)) (a .n) _ _ _ (l .p) end (l .inv .6 S cs row column k all below .1)),
       λ room. omega arith,
     )
 
@@ -123,7 +124,8 @@ openings-spec =
     returns
     returns-2
     returns-3
-    points-count-requires
+    returns-4
+    returns-5
     loop-holds
     opening-requires
     add-p
@@ -131,4 +133,4 @@ openings-spec =
     loop-again
     same-length
     same-length-2
-    returns-4)
+    returns-6)

@@ -1,15 +1,16 @@
 -- `marks::waits` meets its contract. Assumes nothing.
-use Rattle.places.specs.Pieces.{Writes, Limits}
-use Rattle.places.specs.Places.{listed}
-use Rattle.places.proofs.Pieces.{writes-row, writes-more, limits-after}
-use Rattle.members.specs.Members.{Members}
+use Rattle.places.specs.Pieces.{Writes}
+use Rattle.places.specs.Places.{placeOf, size}
+use Rattle.places.proofs.Pieces.{writes-row, writes-more, below-after}
+use Rattle.links.specs.Contained.{Contained}
 use Rattle.marks.proofs.Blocks.{waits-line}
 use Rattle.encoding.specs.Steps.{line}
-use Rattle.encoding.specs.Slots.{waits}
+use Rattle.encoding.specs.Slots.{Slot, waits}
 use Rattle.table.specs.Programs.{upto}
-use Rattle.records.specs.Sets.{setBy}
-use Prim.Native.Nat.{ℕ, _+_, _-_, _*_, _≤_}
-use mathlib.Core.Path.{_≡_, refl, subst}
+use Rattle.records.specs.Sets.{Set}
+use Prim.Native.Nat.{ℕ, _+_, _-_, _*_, _≤_, _<_}
+use mathlib.Core.Path.{_≡_, refl, _∙_, subst}
+use mathlib.Core.List.{List}
 use native.Mathlib.Omega.{arith}
 use lib.ListN.{length}
 use denote.Ref.{now}
@@ -18,43 +19,52 @@ use Rattle.marks.proofs.waits.Statement.{statement}
 use Rattle.marks.proofs.waits.Tie as tie
 
 abbrev Inv-loop : tie.InvT-loop
-Inv-loop set layout points members slots₀ out₀ step n many next₀ t₀ slots out next t =
-    (t ≤ many) × (many ≤ 4) × (n ≤ 1600000000) × (next ≤ n + 12 * t) × (length out ≡ length out₀) × (length slots ≡ length slots₀)
-    × (Limits layout points slots₀ n → Members (setBy set layout) members
-    → (Limits layout points slots next) × (Writes (upto (line (setBy set layout) (listed points) step waits) t) out₀ slots₀ n out slots next))
+Inv-loop table slots₀ out₀ threads count step n next₀ t₀ slots out next t =
+    (t ≤ threads) × (threads ≤ 4) × (n ≤ 1600000000) × (next ≤ n + 12 * t) × (length out ≡ length out₀) × (length slots ≡ length slots₀)
+    × ((S : Set) (cs : List ℕ) → S .threads ≡ threads → length cs ≡ count → Contained S cs table → length slots₀ ≡ size → ((s : Slot) → placeOf slots₀ s < n)
+    → ((s : Slot) → placeOf slots s < next) × (Writes (upto (line S cs step waits) t) out₀ slots₀ n out slots next))
 
 abbrev μ-loop : tie.MeasureT-loop
-μ-loop set layout points members slots₀ out₀ step n many next₀ t₀ slots out next t = many - t
+μ-loop table slots₀ out₀ threads count step n next₀ t₀ slots out next t = threads - t
 
 returns : tie.Need-returns Inv-loop μ-loop
 returns c =
-    let a = c .before .before .before .before .before .args in
-    ((λ l (room : a .n ≤ 1600000000) members. absurd (omega arith)), λ (room : a .n ≤ 1600000000). omega arith)
+    let a = c .before .before .before .before .args in
+    ((λ S cs row column k all below (room : a .n ≤ 1600000000). absurd (omega arith)), λ (room : a .n ≤ 1600000000). omega arith)
 
 returns-2 : tie.Need-returns-2 Inv-loop μ-loop
 returns-2 c =
-    let a = c .before .before .before .before .before .before .args in
-    ((λ (l : Limits (a .layout) (a .points) (now (a .slots)) (a .n)) room members. absurd (c .if2 .taken (l .allPlaces))), λ room. omega arith)
+    let a = c .before .before .before .before .before .args in
+    ((λ S cs row column k all below room. absurd (c .if2 .taken all)), λ room. omega arith)
 
 returns-3 : tie.Need-returns-3 Inv-loop μ-loop
 returns-3 c =
+    let a = c .before .before .before .before .before .before .args in
+    ((λ (S : Set) (cs : List ℕ) row column (k : Contained S cs (now (a .table))) all below room. absurd (c .if3 .taken (k .whole))), λ room. omega arith)
+
+returns-4 : tie.Need-returns-4 Inv-loop μ-loop
+returns-4 c =
+    let a = c .before .before .before .before .before .before .before .args in
+    ((λ (S : Set) (cs : List ℕ) (row : S .threads ≡ a .threads) column (k : Contained S cs (now (a .table))) all below room. let four = k .fourThreads in absurd (omega arith)), λ room. omega arith)
+
+returns-5 : tie.Need-returns-5 Inv-loop μ-loop
+returns-5 c =
     let a = c .before .before .before .before .before .before .before .before .args in
-    ((λ (l : Limits (a .layout) (a .points) (now (a .slots)) (a .n)) room members. let four = l .fourThreads in absurd (omega arith)), λ room. omega arith)
+    ((λ (S : Set) (cs : List ℕ) row (column : length cs ≡ a .count) (k : Contained S cs (now (a .table))) all below room. let eight = k .eightPoints in absurd (omega arith)), λ room. omega arith)
 
 loop-holds : tie.Need-loop-holds Inv-loop μ-loop
 loop-holds c =
     let a = c .before .before .before .before .before .before .before .before .args in
-    let room = c .before .before .before .if1 .left in
-    let four = c .if3 .left in
-    let S = setBy (now (a .set)) (a .layout) in
-    let f = line S (listed (a .points)) (a .step) waits in (
+    let room = c .before .before .before .before .if1 .left in
+    let four = c .before .if4 .left in
+    let eight = c .if5 .left in (
       omega arith,
       omega arith,
       omega arith,
       omega arith,
       refl,
       refl,
-      λ l members. (l, writes-row f (now (a .out)) (now (a .slots)) (a .n)),
+      λ (S : Set) (cs : List ℕ) row column k all below. (below, writes-row (line S cs (a .step) waits) (now (a .out)) (now (a .slots)) (a .n)),
     )
 
 waiting-requires : tie.Need-waiting-requires Inv-loop μ-loop
@@ -73,20 +83,20 @@ loop-again c =
     let a = c .before .before .before .before .before .before .before .before .before .before .before .before .before .before .before .before .before .args in
     let l = c .before .before .before .before .before .before .before .before .loop in
     let r = c .before .before .before .before .waiting in
-    let added = r .ensures .1 in
-    let S = setBy (now (a .set)) (a .layout) in
-    let cs = listed (a .points) in
-    let f = line S cs (a .step) waits in (
+    let going = c .before .before .before .before .before .before .before .loop-test .taken in
+    let added = r .ensures .1 in (
       omega arith,
       l .inv .1,
       l .inv .2,
       omega arith,
       search needs,
       search needs,
-      λ (limits : Limits (a .layout) (a .points) (now (a .slots)) (a .n)) members.
-          let before = l .inv .6 limits members in
-          let w = waits-line S cs (a .step) _ _ _ _ _ _ (l .t) (r .ensures .0 (before .0) members) in
-          (limits-after (a .layout) (a .points) (f (l .t)) _ _ _ _ _ _ w (before .0), writes-more f (l .t) (now (a .out)) (now (a .slots)) (a .n) _ _ _ _ _ _ (before .1) w),
+      λ (S : Set) (cs : List ℕ) (row : S .threads ≡ a .threads) (column : length cs ≡ a .count) (k : Contained S cs (now (a .table))) (all : length (now (a .slots)) ≡ size) below.
+          let f = line S cs (a .step) waits in
+          let before = l .inv .6 S cs row column k all below in
+          let here : l .t < S .threads = omega arith in
+          let w = waits-line S cs (a .step) _ _ _ _ _ _ (l .t) (r .ensures .0 S cs row column here k (l .inv .5 ∙ all) (before .0)) in
+          (below-after (f (l .t)) _ _ _ _ _ _ w (before .0), writes-more f (l .t) (now (a .out)) (now (a .slots)) (a .n) _ _ _ _ _ _ (before .1) w),
     )
 
 same-length : tie.Need-same-length Inv-loop μ-loop
@@ -95,15 +105,13 @@ same-length c = search needs
 same-length-2 : tie.Need-same-length-2 Inv-loop μ-loop
 same-length-2 c = search needs
 
-returns-4 : tie.Need-returns-4 Inv-loop μ-loop
-returns-4 c =
+returns-6 : tie.Need-returns-6 Inv-loop μ-loop
+returns-6 c =
     let a = c .before .before .before .before .before .before .before .before .before .before .args in
-    let l = c .before .loop in
-    let S = setBy (now (a .set)) (a .layout) in
-    let cs = listed (a .points) in
-    let t-is : l .t ≡ a .layout .threads = omega arith in (
-      (λ (limits : Limits (a .layout) (a .points) (now (a .slots)) (a .n)) room members.
-          subst (λ (j : ℕ). Writes (upto (line S cs (a .step) waits) j) (now (a .out)) (now (a .slots)) (a .n) (l .out) (l .slots) (l .next)) t-is (l .inv .6 limits members .1)),
+    let l = c .before .loop in (
+      (λ (S : Set) (cs : List ℕ) (row : S .threads ≡ a .threads) (column : length cs ≡ a .count) k all below room.
+          let end : l .t ≡ S .threads = omega arith in
+          subst (λ (j : ℕ). Writes (upto (line S cs (a .step) waits) j) (now (a .out)) (now (a .slots)) (a .n) (l .out) (l .slots) (l .next)) end (l .inv .6 S cs row column k all below .1)),
       λ room. omega arith,
     )
 
@@ -116,6 +124,8 @@ waits-spec =
     returns
     returns-2
     returns-3
+    returns-4
+    returns-5
     loop-holds
     waiting-requires
     add-t
@@ -123,4 +133,4 @@ waits-spec =
     loop-again
     same-length
     same-length-2
-    returns-4)
+    returns-6)

@@ -1,56 +1,58 @@
 -- `links::chains::opening_chain` meets its contract. Assumes nothing.
-use Rattle.members.specs.Members.{Members}
+use Rattle.links.specs.Contained.{Contained}
 use Rattle.links.proofs.Leads.{and-placed}
 use Rattle.step.specs.Machine.{contains}
-use Rattle.records.specs.Sets.{setBy}
+use Rattle.records.specs.Sets.{Set}
 use Rattle.links.proofs.Trees.{chain-none, chain-more}
 use Rattle.encoding.specs.Slots.{Term, slot, opening, mark}
 use Rattle.encoding.specs.Steps.{chain as chainOf, link}
 use Rattle.places.specs.Pieces.{WritesTree}
-use Rattle.places.specs.Places.{placeOf, listed}
+use Rattle.places.specs.Places.{placeOf}
 use native.Mathlib.Omega.{arith}
 use denote.Ref.{now}
 use mathlib.Core.Path.{_≡_, refl, _∙_, subst}
 use mathlib.Core.List.{List}
-use Prim.Native.Nat.{ℕ, _+_, _-_, _≤_}
+use Prim.Native.Nat.{ℕ, _+_, _-_, _≤_, _<_}
 use lib.ListN.{length, getD}
 use borrow.Author.Needs.{needs}
 use Rattle.links.proofs.chains.opening_chain.Statement.{statement}
 use Rattle.links.proofs.chains.opening_chain.Tie as tie
 
 abbrev Inv-loop : tie.InvT-loop
-Inv-loop set layout points members slots out₀ p n base tree₀ many t₀ out tree t =
-    (t ≤ many) × (many ≤ 4) × (tree .next ≤ n + t) × (length out ≡ length out₀)
-    × ((base-tree : Term) (start : List ℕ) (m : ℕ) → n ≤ 1900000000 → Members (setBy set layout) members
+Inv-loop table slots out₀ threads p n base tree₀ t₀ out tree t =
+    (t ≤ threads) × (threads ≤ 4) × (tree .next ≤ n + t) × (length out ≡ length out₀)
+    × ((S : Set) (cs : List ℕ) (base-tree : Term) (start : List ℕ) (m : ℕ) → S .threads ≡ threads → p < length cs → n ≤ 1900000000 → Contained S cs table
     → WritesTree (placeOf slots) base-tree start m out₀ n base
-    → WritesTree (placeOf slots) (chainOf (link (setBy set layout) (listed points) 0 opening 0 p) t base-tree) start m out (tree .next) (tree .at))
+    → WritesTree (placeOf slots) (chainOf (link S cs 0 opening 0 p) t base-tree) start m out (tree .next) (tree .at))
 
 abbrev μ-loop : tie.MeasureT-loop
-μ-loop set layout points members slots out₀ p n base tree₀ many t₀ out tree t = many - t
+μ-loop table slots out₀ threads p n base tree₀ t₀ out tree t = threads - t
 
 returns : tie.Need-returns Inv-loop μ-loop
 returns c =
-    let a = c .before .before .before .before .before .args in
-    (λ tree start m few small all n w. absurd (c .if1 .taken all), omega arith)
+    let a = c .before .before .before .before .args in
+    (λ S cs tree start m is inside small all k w. absurd (c .if1 .taken all), omega arith)
 
 returns-2 : tie.Need-returns-2 Inv-loop μ-loop
 returns-2 c =
-    let a = c .before .before .before .before .before .before .before .args in
-    (λ tree start m few small all n w. absurd (omega arith), omega arith)
+    let a = c .before .before .before .before .before .args in
+    (λ (S : Set) (cs : List ℕ) tree start m is inside small all (k : Contained S cs (now (a .table))) w. absurd (c .if2 .taken (k .whole)), omega arith)
 
-cast-many : tie.Need-cast-many Inv-loop μ-loop
-cast-many c = search needs
+returns-3 : tie.Need-returns-3 Inv-loop μ-loop
+returns-3 c =
+    let a = c .before .before .before .before .before .before .args in
+    (λ (S : Set) (cs : List ℕ) tree start m (is : S .threads ≡ a .threads) inside small all (k : Contained S cs (now (a .table))) w. let few = k .fourThreads in absurd (omega arith), omega arith)
 
 loop-holds : tie.Need-loop-holds Inv-loop μ-loop
 loop-holds c =
-    let a = c .before .before .before .before .before .before .before .before .args in
-    let few = c .before .if2 .left in (
+    let a = c .before .before .before .before .before .before .args in
+    let few = c .if3 .left in (
       omega arith,
       omega arith,
       omega arith,
       refl,
-      λ (tree : Term) (start : List ℕ) (m : ℕ) small n w.
-          chain-none (placeOf (now (a .slots))) (link (setBy (now (a .set)) (a .layout)) (listed (a .points)) 0 opening 0 (a .p)) tree start m (now (a .out)) (a .n) (a .base) w,
+      λ (S : Set) (cs : List ℕ) (tree : Term) (start : List ℕ) (m : ℕ) is inside small k w.
+          chain-none (placeOf (now (a .slots))) (link S cs 0 opening 0 (a .p)) tree start m (now (a .out)) (a .n) (a .base) w,
     )
 
 contained-requires : tie.Need-contained-requires Inv-loop μ-loop
@@ -67,35 +69,35 @@ loop-less c = search needs
 
 loop-again : tie.Need-loop-again Inv-loop μ-loop
 loop-again c =
-    let a = c .before .before .before .before .before .before .before .before .before .before .before .before .before .before .before .args in
+    let a = c .before .before .before .before .before .before .before .before .before .before .before .before .before .args in
     let l = c .before .before .before .before .before .before .loop in
     let p = c .before .before .put-link in
-    let added = p .ensures .1 in
-    let S = setBy (now (a .set)) (a .layout) in
-    let links = link S (listed (a .points)) 0 opening 0 (a .p) in (
+    let going = c .before .before .before .before .before .loop-test .taken in
+    let added = p .ensures .1 in (
       omega arith,
       l .inv .1,
       omega arith,
       p .kept .0 ∙ l .inv .3,
-      λ (tree : Term) (start : List ℕ) (m : ℕ) (small : a .n ≤ 1900000000) n w.
+      λ (S : Set) (cs : List ℕ) (tree : Term) (start : List ℕ) (m : ℕ) (is : S .threads ≡ a .threads) inside (small : a .n ≤ 1900000000) k w.
+          let links = link S cs 0 opening 0 (a .p) in
+          let here : l .t < S .threads = omega arith in
           chain-more (placeOf (now (a .slots))) links tree start m _ _ _ (l .t)
           (p .ensures .0 (placeOf (now (a .slots))) (links (l .t)) (chainOf links (l .t) tree) start m (omega arith)
-          (c .before .before .before .before .contained .ensures n ∙ and-placed (placeOf (now (a .slots))) {d = contains S (l .t) (getD (listed (a .points)) (a .p) 0)} refl (slot mark (l .t) (a .p)))
-          (l .inv .4 tree start m small n w)),
+          (c .before .before .before .before .contained .ensures S cs k here inside ∙ and-placed (placeOf (now (a .slots))) {d = contains S (l .t) (getD cs (a .p) 0)} refl (slot mark (l .t) (a .p)))
+          (l .inv .4 S cs tree start m is inside small k w)),
     )
 
 same-length : tie.Need-same-length Inv-loop μ-loop
 same-length c = search needs
 
-returns-3 : tie.Need-returns-3 Inv-loop μ-loop
-returns-3 c =
-    let a = c .before .before .before .before .before .before .before .before .before .before .args in
-    let l = c .before .loop in
-    let S = setBy (now (a .set)) (a .layout) in (
-      λ (tree : Term) (start : List ℕ) (m : ℕ) few small all n w.
-          let end : l .t ≡ a .layout .threads = omega arith in
-          subst (λ (k : ℕ). WritesTree (placeOf (now (a .slots))) (chainOf (link S (listed (a .points)) 0 opening 0 (a .p)) k tree) start m (l .out) (l .tree .next) (l .tree .at))
-          end (l .inv .4 tree start m small n w),
+returns-4 : tie.Need-returns-4 Inv-loop μ-loop
+returns-4 c =
+    let a = c .before .before .before .before .before .before .before .before .args in
+    let l = c .before .loop in (
+      λ (S : Set) (cs : List ℕ) (tree : Term) (start : List ℕ) (m : ℕ) (is : S .threads ≡ a .threads) inside small all k w.
+          let end : l .t ≡ S .threads = omega arith in
+          subst (λ (j : ℕ). WritesTree (placeOf (now (a .slots))) (chainOf (link S cs 0 opening 0 (a .p)) j tree) start m (l .out) (l .tree .next) (l .tree .at))
+          end (l .inv .4 S cs tree start m is inside small k w),
       omega arith,
     )
 
@@ -107,7 +109,7 @@ opening-chain-spec =
     μ-loop
     returns
     returns-2
-    cast-many
+    returns-3
     loop-holds
     contained-requires
     put-link-requires
@@ -115,4 +117,4 @@ opening-chain-spec =
     loop-less
     loop-again
     same-length
-    returns-3)
+    returns-4)

@@ -1,54 +1,58 @@
 -- `links::chains::waits_chain` meets its contract. Assumes nothing.
-use Rattle.members.specs.Members.{Members}
+use Rattle.links.specs.Contained.{Contained}
 use Rattle.links.proofs.Leads.{or-placed}
-use Rattle.links.proofs.Points.{listed-most}
 use Rattle.step.specs.Machine.{contains}
-use Rattle.records.specs.Sets.{setBy}
+use Rattle.records.specs.Sets.{Set}
 use Rattle.links.proofs.Trees.{chain-none, chain-more}
 use Rattle.encoding.specs.Slots.{Term, slot, held, waits}
 use Rattle.encoding.specs.Steps.{chain as chainOf, link}
 use Rattle.places.specs.Pieces.{WritesTree}
-use Rattle.places.specs.Places.{placeOf, listed}
+use Rattle.places.specs.Places.{placeOf}
 use native.Mathlib.Omega.{arith}
 use denote.Ref.{now}
 use mathlib.Core.Path.{_≡_, refl, _∙_, subst}
 use mathlib.Core.List.{List}
-use Prim.Native.Nat.{ℕ, _+_, _-_, _≤_}
+use Prim.Native.Nat.{ℕ, _+_, _-_, _≤_, _<_}
 use lib.ListN.{length, getD}
 use borrow.Author.Needs.{needs}
 use Rattle.links.proofs.chains.waits_chain.Statement.{statement}
 use Rattle.links.proofs.chains.waits_chain.Tie as tie
 
 abbrev Inv-loop : tie.InvT-loop
-Inv-loop set layout points members slots out₀ t n base tree₀ many p₀ out tree p =
-    (p ≤ many) × (many ≤ 8) × (tree .next ≤ n + p) × (length out ≡ length out₀)
-    × ((base-tree : Term) (start : List ℕ) (m : ℕ) → n ≤ 1900000000 → Members (setBy set layout) members
+Inv-loop table slots out₀ count t n base tree₀ p₀ out tree p =
+    (p ≤ count) × (count ≤ 8) × (tree .next ≤ n + p) × (length out ≡ length out₀)
+    × ((S : Set) (cs : List ℕ) (base-tree : Term) (start : List ℕ) (m : ℕ) → length cs ≡ count → t < S .threads → n ≤ 1900000000 → Contained S cs table
     → WritesTree (placeOf slots) base-tree start m out₀ n base
-    → WritesTree (placeOf slots) (chainOf (link (setBy set layout) (listed points) 0 waits t 0) p base-tree) start m out (tree .next) (tree .at))
+    → WritesTree (placeOf slots) (chainOf (link S cs 0 waits t 0) p base-tree) start m out (tree .next) (tree .at))
 
 abbrev μ-loop : tie.MeasureT-loop
-μ-loop set layout points members slots out₀ t n base tree₀ many p₀ out tree p = many - p
+μ-loop table slots out₀ count t n base tree₀ p₀ out tree p = count - p
 
 returns : tie.Need-returns Inv-loop μ-loop
 returns c =
-    let a = c .before .before .before .before .before .args in
-    (λ tree start m small all n w. absurd (c .if1 .taken all), omega arith)
+    let a = c .before .before .before .before .args in
+    (λ S cs tree start m is inside small all k w. absurd (c .if1 .taken all), omega arith)
 
-points-count-requires : tie.Need-points-count-requires Inv-loop μ-loop
-points-count-requires c κs = search needs
+returns-2 : tie.Need-returns-2 Inv-loop μ-loop
+returns-2 c =
+    let a = c .before .before .before .before .before .args in
+    (λ (S : Set) (cs : List ℕ) tree start m is inside small all (k : Contained S cs (now (a .table))) w. absurd (c .if2 .taken (k .whole)), omega arith)
+
+returns-3 : tie.Need-returns-3 Inv-loop μ-loop
+returns-3 c =
+    let a = c .before .before .before .before .before .before .args in
+    (λ (S : Set) (cs : List ℕ) tree start m (is : length cs ≡ a .count) inside small all (k : Contained S cs (now (a .table))) w. let few = k .eightPoints in absurd (omega arith), omega arith)
 
 loop-holds : tie.Need-loop-holds Inv-loop μ-loop
 loop-holds c =
     let a = c .before .before .before .before .before .before .args in
-    let eight : length (a .points .numbers) ≡ 8 = search needs in
-    let few = listed-most (a .points) eight in
-    let e = c .points-count .ensures in (
+    let few = c .if3 .left in (
       omega arith,
       omega arith,
       omega arith,
       refl,
-      λ (tree : Term) (start : List ℕ) (m : ℕ) small n w.
-          chain-none (placeOf (now (a .slots))) (link (setBy (now (a .set)) (a .layout)) (listed (a .points)) 0 waits (a .t) 0) tree start m (now (a .out)) (a .n) (a .base) w,
+      λ (S : Set) (cs : List ℕ) (tree : Term) (start : List ℕ) (m : ℕ) is inside small k w.
+          chain-none (placeOf (now (a .slots))) (link S cs 0 waits (a .t) 0) tree start m (now (a .out)) (a .n) (a .base) w,
     )
 
 contained-requires : tie.Need-contained-requires Inv-loop μ-loop
@@ -68,33 +72,32 @@ loop-again c =
     let a = c .before .before .before .before .before .before .before .before .before .before .before .before .before .args in
     let l = c .before .before .before .before .before .before .loop in
     let p = c .before .before .put-link in
-    let added = p .ensures .1 in
-    let S = setBy (now (a .set)) (a .layout) in
-    let links = link S (listed (a .points)) 0 waits (a .t) 0 in (
+    let going = c .before .before .before .before .before .loop-test .taken in
+    let added = p .ensures .1 in (
       omega arith,
       l .inv .1,
       omega arith,
       p .kept .0 ∙ l .inv .3,
-      λ (tree : Term) (start : List ℕ) (m : ℕ) (small : a .n ≤ 1900000000) n w.
+      λ (S : Set) (cs : List ℕ) (tree : Term) (start : List ℕ) (m : ℕ) (is : length cs ≡ a .count) inside (small : a .n ≤ 1900000000) k w.
+          let links = link S cs 0 waits (a .t) 0 in
+          let here : l .p < length cs = omega arith in
           chain-more (placeOf (now (a .slots))) links tree start m _ _ _ (l .p)
           (p .ensures .0 (placeOf (now (a .slots))) (links (l .p)) (chainOf links (l .p) tree) start m (omega arith)
-          (c .before .before .before .before .contained .ensures n ∙ or-placed (placeOf (now (a .slots))) {d = contains S (a .t) (getD (listed (a .points)) (l .p) 0)} refl (slot held (a .t) (l .p)))
-          (l .inv .4 tree start m small n w)),
+          (c .before .before .before .before .contained .ensures S cs k inside here ∙ or-placed (placeOf (now (a .slots))) {d = contains S (a .t) (getD cs (l .p) 0)} refl (slot held (a .t) (l .p)))
+          (l .inv .4 S cs tree start m is inside small k w)),
     )
 
 same-length : tie.Need-same-length Inv-loop μ-loop
 same-length c = search needs
 
-returns-2 : tie.Need-returns-2 Inv-loop μ-loop
-returns-2 c =
+returns-4 : tie.Need-returns-4 Inv-loop μ-loop
+returns-4 c =
     let a = c .before .before .before .before .before .before .before .before .args in
-    let l = c .before .loop in
-    let S = setBy (now (a .set)) (a .layout) in
-    let e = c .before .before .points-count .ensures in (
-      λ (tree : Term) (start : List ℕ) (m : ℕ) small all n w.
-          let end : l .p ≡ length (listed (a .points)) = omega arith in
-          subst (λ (k : ℕ). WritesTree (placeOf (now (a .slots))) (chainOf (link S (listed (a .points)) 0 waits (a .t) 0) k tree) start m (l .out) (l .tree .next) (l .tree .at))
-          end (l .inv .4 tree start m small n w),
+    let l = c .before .loop in (
+      λ (S : Set) (cs : List ℕ) (tree : Term) (start : List ℕ) (m : ℕ) (is : length cs ≡ a .count) inside small all k w.
+          let end : l .p ≡ length cs = omega arith in
+          subst (λ (j : ℕ). WritesTree (placeOf (now (a .slots))) (chainOf (link S cs 0 waits (a .t) 0) j tree) start m (l .out) (l .tree .next) (l .tree .at))
+          end (l .inv .4 S cs tree start m is inside small k w),
       omega arith,
     )
 
@@ -105,7 +108,8 @@ waits-chain-spec =
     Inv-loop
     μ-loop
     returns
-    points-count-requires
+    returns-2
+    returns-3
     loop-holds
     contained-requires
     put-link-requires
@@ -113,4 +117,4 @@ waits-chain-spec =
     loop-less
     loop-again
     same-length
-    returns-2)
+    returns-4)

@@ -1,0 +1,92 @@
+-- `links::contained::make` meets its contract. Assumes nothing.
+use Prim.Native.Nat.{ℕ, _+_, _-_, _*_, _≤_, _<_}
+use mathlib.Core.Path.{_≡_, refl, _∙_}
+use native.Mathlib.Omega.{arith}
+use lib.ListN.{length}
+use denote.Ref.{now}
+use Rattle.records.specs.Sets.{setBy}
+use Rattle.places.specs.Places.{listed}
+use Rattle.members.specs.Members.{Members}
+use Rattle.links.specs.Contained.{SaysTo}
+use Rattle.links.proofs.Points.{listed-most}
+use Rattle.links.proofs.Says.{says-none, says-all}
+use borrow.Author.Needs.{needs}
+use Rattle.links.proofs.contained.make.Statement.{statement}
+use Rattle.links.proofs.contained.make.Tie as tie
+
+abbrev Inv-loop : tie.InvT-loop
+Inv-loop set layout points members table₀ many t₀ table t =
+    (t ≤ many) × (many ≤ 4) × (length (listed points) ≤ 8) × (length table ≡ length table₀)
+    × (length table₀ ≡ 32 → Members (setBy set layout) members → SaysTo (setBy set layout) (listed points) table (8 * t))
+
+abbrev μ-loop : tie.MeasureT-loop
+μ-loop set layout points members table₀ many t₀ table t = many - t
+
+returns : tie.Need-returns Inv-loop μ-loop
+returns c =
+    let a = c .before .before .before .before .args in
+    (refl, λ room (four : a .layout .threads ≤ 4) members. absurd (omega arith))
+
+loop-holds : tie.Need-loop-holds Inv-loop μ-loop
+loop-holds c =
+    let a = c .before .before .before .before .args in
+    let four = c .if1 .left in
+    let eight : length (a .points .numbers) ≡ 8 = search needs in
+    let few = listed-most (a .points) eight in (
+      omega arith,
+      omega arith,
+      few,
+      refl,
+      λ room members. says-none (setBy (now (a .set)) (a .layout)) (listed (a .points)) (now (a .table)) few,
+    )
+
+make-thread-requires : tie.Need-make-thread-requires Inv-loop μ-loop
+make-thread-requires c κs = search needs
+
+add-t : tie.Need-add-t Inv-loop μ-loop
+add-t c = search needs
+
+loop-less : tie.Need-loop-less Inv-loop μ-loop
+loop-less c = search needs
+
+loop-again : tie.Need-loop-again Inv-loop μ-loop
+loop-again c =
+    let a = c .before .before .before .before .before .before .before .before .before .before .args in
+    let l = c .before .before .before .before .before .loop in
+    let w = c .before .before .make-thread in
+    let going = c .before .before .before .before .loop-test .taken in
+    let four = l .inv .1 in (
+      omega arith,
+      l .inv .1,
+      l .inv .2,
+      w .ensures .0 ∙ l .inv .3,
+      λ room members (u q : ℕ) (inside : q < length (listed (a .points))) (h : 8 * u + q < 8 * (l .t + 1)).
+          w .ensures .1 (l .inv .3 ∙ room) (omega arith) members (l .inv .4 room members) u q inside (omega arith),
+    )
+
+same-length : tie.Need-same-length Inv-loop μ-loop
+same-length c = search needs
+
+returns-2 : tie.Need-returns-2 Inv-loop μ-loop
+returns-2 c =
+    let a = c .before .before .before .before .before .before .args in
+    let l = c .before .loop in (
+      l .inv .3,
+      λ room four members.
+          says-all (setBy (now (a .set)) (a .layout)) (listed (a .points)) (l .table) (l .inv .2) (l .t) (omega arith) (omega arith) (l .inv .3 ∙ room) (l .inv .4 room members),
+    )
+
+pub make-spec : {M : Type 1} → statement M
+make-spec =
+    tie.close
+    (tie.spec
+    Inv-loop
+    μ-loop
+    returns
+    loop-holds
+    make-thread-requires
+    add-t
+    loop-less
+    loop-again
+    same-length
+    returns-2)
