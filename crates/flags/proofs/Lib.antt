@@ -1,2 +1,3 @@
--- Laws of flags written one after the other.
+-- Laws of flags written one after the other, and of the lists of jumps.
+pub mod Lists
 pub mod Written

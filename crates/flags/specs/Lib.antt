@@ -1,2 +1,2 @@
--- What the marks of jumps' targets say.
+-- The lists of the jumps that name each statement.
 pub mod Named

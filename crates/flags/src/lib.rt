@@ -1,10 +1,8 @@
 // The flags of a thread's statements, which say the next one, each with the links of the statements that lead to it.
 // A thread's statements stand from record `first` of the set on: the layout is read once.
 ghost use mathlib.Core.Path.{_≡_};
-ghost use mathlib.Core.Bool.{false};
 ghost use mathlib.Core.List.{List, []};
-ghost use Prim.Native.Nat.{ℕ, _+_, _≤_, _<_};
-ghost use lib.Dec.{eqb};
+ghost use Prim.Native.Nat.{ℕ, suc, _+_, _≤_, _<_};
 ghost use lib.ListN.{length, getD};
 ghost use Rattle.records.specs.Sets.{Set, setBy};
 ghost use Rattle.encoding.specs.Slots.{Slot, Term, flag as flagKind};
@@ -13,7 +11,7 @@ ghost use Rattle.places.specs.Places.{placeOf, size};
 ghost use Rattle.places.specs.Pieces.{Writes, WritesTree};
 ghost use Rattle.members.specs.Held.{Held};
 ghost use Rattle.members.specs.Members.{Members};
-ghost use Rattle.flags.specs.Named.{Unnamed};
+ghost use Rattle.flags.specs.Named.{WaysOf, put};
 use links::Root;
 use links::edges;
 use links::put_link;
@@ -23,70 +21,92 @@ use members::member;
 use places::kinds::FLAG;
 use records::Layout;
 
-// Marks statement j in `named`.
-fn mark(named: &mut [u8], j: u16)
-    ensures { λ _. ⌜ (length (now (named .exit)) ≡ length (now (named .entry)))
-        × ((k : ℕ) → k < length (now (named .entry)) → getD (now (named .exit)) k 0 ≡ 0 → (getD (now (named .entry)) k 0 ≡ 0) × (eqb j k ≡ false)) ⌝ }
+// Puts jump i, which names statement `target`, before the jumps listed for it.
+fn add_jump(ways: &mut [u8], i: u16, target: u16)
+    ensures { λ _. ⌜ (length (now (ways .exit)) ≡ length (now (ways .entry)))
+        × (length (now (ways .entry)) ≡ 64 → i < 32 → target < 32 → now (ways .exit) ≡ put (now (ways .entry)) i target)
+        × (32 ≤ target → now (ways .exit) ≡ now (ways .entry)) ⌝ }
 {
-    let at = j as usize;
-    if at < named.len() {
-        named[at] = 1;
+    if ways.len() != 64 {
+        return;
+    }
+    if 31 < i {
+        return;
+    }
+    if 31 < target {
+        return;
+    }
+    let at = i as usize;
+    let list = target as usize;
+    ways[32 + at] = ways[list];
+    ways[list] = i as u8;
+}
+
+// Lists in `ways` the jumps of thread t by the statement they name, from the last to the first.
+fn list_jumps(set: &[u8], first: u32, members: &[u8], ways: &mut [u8], t: u8, count: u16)
+    requires { ⌜ (first < 65536) × (t < 4) ⌝ }
+    ensures { λ _. ⌜ (length (now (ways .exit)) ≡ length (now (ways .entry)))
+        × ((S : Set) → count ≡ S .count t → Members S (now (members .entry)) → Held S (now (set .entry)) t first count
+        → length (now (ways .entry)) ≡ 64 → ((k : ℕ) → k < 64 → getD (now (ways .entry)) k 0 ≡ 32) → WaysOf S t count (now (ways .exit))) ⌝ }
+{
+    let mut p = count_of(members, IS_JUMP, t);
+    while 0 < p {
+        p -= 1;
+        let i = member(members, IS_JUMP, t, p);
+        let statement = records::statement_at(set, first + (i as u32));
+        add_jump(ways, i, statement.argument);
     }
 }
 
-// Marks in `named` the statements of thread t that its jumps name. Few do, so most flags need no search among the jumps.
-fn name_targets(set: &[u8], first: u32, members: &[u8], named: &mut [u8], t: u8, count: u16)
-    requires { ⌜ (first < 65536) × (t < 4) ⌝ }
-    ensures { λ _. ⌜ (length (now (named .exit)) ≡ length (now (named .entry)))
-        × ((S : Set) → count ≡ S .count t → Members S (now (members .entry)) → Held S (now (set .entry)) t first count
-        → (j : ℕ) → j < length (now (named .entry)) → Unnamed S t count j (now (named .exit))) ⌝ }
+// The first jump that names statement j, 32 if none.
+fn way(ways: &[u8], j: u16) -> u16
+    ensures { λ r. ⌜ r ≡ getD (now (ways .entry)) j 0 ⌝ }
 {
-    let many = count_of(members, IS_JUMP, t);
-    let mut p: u16 = 0;
-    while p < many {
-        let i = member(members, IS_JUMP, t, p);
-        let statement = records::statement_at(set, first + (i as u32));
-        mark(named, statement.argument);
-        p += 1;
+    base::byte_at(ways, j as usize) as u16
+}
+
+// The jump to look for after statement i: `hit` where it comes later, else the next one that names what `hit` names.
+fn after(ways: &[u8], hit: u16, i: u16) -> u16
+    ensures { λ r. ⌜ (i < hit → r ≡ hit) × (hit ≤ i → r ≡ getD (now (ways .entry)) (32 + hit) 0) ⌝ }
+{
+    if i < hit {
+        return hit;
     }
+    base::byte_at(ways, 32 + (hit as usize)) as u16
+}
+
+// The lesser of two numbers.
+fn earlier(a: u16, b: u16) -> u16
+    ensures { λ r. ⌜ (r ≤ a) × (r ≤ b) × (b ≤ a → r ≡ b) × (a < b → r ≡ a) ⌝ }
+{
+    if a < b {
+        return a;
+    }
+    b
+}
+
+// The first statement, from statement `from` on, that is `hit` or stands before j; at most `count`.
+fn next_way(hit: u16, j: u16, from: u16, count: u16) -> u16
+    requires { ⌜ (from ≤ count) × (j < count) ⌝ }
+    ensures { λ r. ⌜ (from ≤ r) × (r ≤ count) × ((x : ℕ) → from ≤ x → x < r → (x < hit) × (suc x ≡ j → ⊥)) ⌝ }
+{
+    if hit < from {
+        return from;
+    }
+    if j <= from {
+        return earlier(hit, count);
+    }
+    if hit < j {
+        return hit;
+    }
+    j - 1
 }
 
 // Writes the links of the flag of statement j over a tree, where jumps name j: those of the jumps, and that of the statement before.
 fn jump_links(
     set: &[u8],
     first: u32,
-    members: &[u8],
-    slots: &[u32],
-    out: &mut [u8],
-    t: u8,
-    j: u16,
-    count: u16,
-    n: u32,
-    base: u64,
-) -> Root
-    requires { ⌜ (first < 65536) × (count ≤ 32) × (n ≤ 1900000000) × (t < 4) ⌝ }
-    ensures { λ r. ⌜ ((S : Set) (tree : Term) (start : List ℕ) (m : ℕ) → count ≡ S .count t → Members S (now (members .entry)) → Held S (now (set .entry)) t first count
-        → WritesTree (placeOf (now (slots .entry))) tree start m (now (out .entry)) n base
-        → WritesTree (placeOf (now (slots .entry))) (chainOf (leadsOf S [] 0 t j) count tree) start m (now (out .exit)) (r .next) (r .at))
-        × (r .next ≤ n + 32) ⌝ }
-{
-    let mut tree = Root { next: n, at: base };
-    let mut i = edges::leading(set, first, members, t, j, 0, count);
-    while i < count {
-        let statement = records::statement_at(set, first + (i as u32));
-        let link = edges::leads(statement, slots, t, j, i);
-        tree = put_link(out, tree.next, tree.at, link);
-        i = edges::leading(set, first, members, t, j, i + 1, count);
-    }
-    tree
-}
-
-// Writes the links of the flag of statement j over a tree. Where no jump names j only the statement before leads to it.
-fn flag_links(
-    set: &[u8],
-    first: u32,
-    members: &[u8],
-    named: &[u8],
+    ways: &[u8],
     slots: &[u32],
     out: &mut [u8],
     t: u8,
@@ -96,13 +116,45 @@ fn flag_links(
     base: u64,
 ) -> Root
     requires { ⌜ (first < 65536) × (count ≤ 32) × (j < count) × (n ≤ 1900000000) × (t < 4) ⌝ }
-    ensures { λ r. ⌜ ((S : Set) (tree : Term) (start : List ℕ) (m : ℕ) → count ≡ S .count t → Members S (now (members .entry)) → Unnamed S t count j (now (named .entry)) → Held S (now (set .entry)) t first count
+    ensures { λ r. ⌜ ((S : Set) (tree : Term) (start : List ℕ) (m : ℕ) → WaysOf S t count (now (ways .entry)) → Held S (now (set .entry)) t first count
         → WritesTree (placeOf (now (slots .entry))) tree start m (now (out .entry)) n base
         → WritesTree (placeOf (now (slots .entry))) (chainOf (leadsOf S [] 0 t j) count tree) start m (now (out .exit)) (r .next) (r .at))
         × (r .next ≤ n + 32) ⌝ }
 {
-    if base::byte_at(named, j as usize) != 0 {
-        return jump_links(set, first, members, slots, out, t, j, count, n, base);
+    let mut tree = Root { next: n, at: base };
+    let mut hit = way(ways, j);
+    let mut i = next_way(hit, j, 0, count);
+    while i < count {
+        let statement = records::statement_at(set, first + (i as u32));
+        let link = edges::leads(statement, slots, t, j, i);
+        tree = put_link(out, tree.next, tree.at, link);
+        hit = after(ways, hit, i);
+        i = next_way(hit, j, i + 1, count);
+    }
+    tree
+}
+
+// Writes the links of the flag of statement j over a tree. Where no jump names j only the statement before leads to it.
+fn flag_links(
+    set: &[u8],
+    first: u32,
+    ways: &[u8],
+    slots: &[u32],
+    out: &mut [u8],
+    t: u8,
+    j: u16,
+    count: u16,
+    n: u32,
+    base: u64,
+) -> Root
+    requires { ⌜ (first < 65536) × (count ≤ 32) × (j < count) × (n ≤ 1900000000) × (t < 4) ⌝ }
+    ensures { λ r. ⌜ ((S : Set) (tree : Term) (start : List ℕ) (m : ℕ) → WaysOf S t count (now (ways .entry)) → Held S (now (set .entry)) t first count
+        → WritesTree (placeOf (now (slots .entry))) tree start m (now (out .entry)) n base
+        → WritesTree (placeOf (now (slots .entry))) (chainOf (leadsOf S [] 0 t j) count tree) start m (now (out .exit)) (r .next) (r .at))
+        × (r .next ≤ n + 32) ⌝ }
+{
+    if way(ways, j) < 32 {
+        return jump_links(set, first, ways, slots, out, t, j, count, n, base);
     }
     if 0 < j {
         let before = j - 1;
@@ -117,8 +169,7 @@ fn flag_links(
 fn flag(
     set: &[u8],
     first: u32,
-    members: &[u8],
-    named: &[u8],
+    ways: &[u8],
     slots: &mut [u32],
     out: &mut [u8],
     t: u8,
@@ -127,7 +178,7 @@ fn flag(
     n: u32,
 ) -> u32
     requires { ⌜ (first < 65536) × (count ≤ 32) × (j < count) × (t < 4) × (n ≤ 1800000000) ⌝ }
-    ensures { λ r. ⌜ ((S : Set) (cs : List ℕ) (k : ℕ) → count ≡ S .count t → Members S (now (members .entry)) → Unnamed S t count j (now (named .entry)) → Held S (now (set .entry)) t first count
+    ensures { λ r. ⌜ ((S : Set) (cs : List ℕ) (k : ℕ) → count ≡ S .count t → WaysOf S t count (now (ways .entry)) → Held S (now (set .entry)) t first count
         → length (now (slots .entry)) ≡ size → ((s : Slot) → placeOf (now (slots .entry)) s < n)
         → Writes (entryOf S cs k flagKind t j) (now (out .entry)) (now (slots .entry)) n (now (out .exit)) (now (slots .exit)) r)
         × (r ≤ n + 36) ⌝ }
@@ -135,19 +186,7 @@ fn flag(
     let statement = records::statement_at(set, first + (j as u32));
     let base = bases::put_flag(statement, slots, out, t, j, n);
     let next = n + base.count;
-    let tree = flag_links(
-        set,
-        first,
-        members,
-        named,
-        slots,
-        out,
-        t,
-        j,
-        count,
-        next,
-        base.root,
-    );
+    let tree = flag_links(set, first, ways, slots, out, t, j, count, next, base.root);
     places::set_place(slots, FLAG, t, j, tree.at);
     tree.next
 }
@@ -169,12 +208,12 @@ fn each_flag(
         → Writes (lineOf S cs k flagKind t) (now (out .entry)) (now (slots .entry)) n (now (out .exit)) (now (slots .exit)) r)
         × (r ≤ n + 1152) ⌝ }
 {
-    let mut named = [0u8; 32];
-    name_targets(set, first, members, &mut named, t, count);
+    let mut ways = [32u8; 64];
+    list_jumps(set, first, members, &mut ways, t, count);
     let mut next = n;
     let mut j: u16 = 0;
     while j < count {
-        next = flag(set, first, members, &named, slots, out, t, j, count, next);
+        next = flag(set, first, &ways, slots, out, t, j, count, next);
         j += 1;
     }
     next

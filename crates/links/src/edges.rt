@@ -2,14 +2,13 @@
 ghost use mathlib.Core.Path.{_≡_};
 ghost use mathlib.Core.Bool.{cond, false};
 ghost use mathlib.Core.List.{[]};
-ghost use Prim.Native.Nat.{ℕ, _+_, _≤_, _<_};
+ghost use Prim.Native.Nat.{ℕ, _+_};
 ghost use Rattle.table.specs.Formulas.{bitSort};
 ghost use Rattle.records.specs.Sets.{Set};
 ghost use Rattle.encoding.specs.Slots.{slot, active, test, untest};
-ghost use Rattle.encoding.specs.Steps.{skip, ifThen, leads as leadsOf};
+ghost use Rattle.encoding.specs.Steps.{ifThen, leads as leadsOf};
 ghost use Rattle.places.specs.Places.{placeOf};
-ghost use Rattle.members.specs.Held.{Held};
-ghost use Rattle.members.specs.Members.{Members, namesTarget};
+ghost use Rattle.members.specs.Members.{namesTarget};
 ghost use Rattle.links.specs.Placed.{placedLink};
 use crate::Link;
 use crate::parts::BIT;
@@ -17,11 +16,8 @@ use crate::parts::BIT0;
 use crate::parts::IF;
 use crate::parts::bit_if;
 use crate::parts::none;
-use members::IS_JUMP;
-use members::count_of;
 use members::is_conditional;
 use members::is_plain;
-use members::member;
 use members::rests;
 use places::kinds;
 use places::place;
@@ -93,61 +89,4 @@ pub fn follows(n: u8, slots: &[u32], t: u8, i: u16) -> Link
         return by_test(slots, !is_plain(n), t, i);
     }
     bit_if(slots, true, t, i)
-}
-
-// The greater of two numbers.
-fn later(a: u16, b: u16) -> u16
-    ensures { λ r. ⌜ (a ≤ r) × (a ≤ b → r ≡ b) × (b < a → r ≡ a) ⌝ }
-{
-    if a < b {
-        return b;
-    }
-    a
-}
-
-// The first jump of thread t, from statement i on, that names j; at most `count`. The thread's statements stand from record `first` on.
-pub fn jump_to(set: &[u8], first: u32, members: &[u8], t: u8, j: u16, i: u16, count: u16) -> u16
-    ensures { λ r. ⌜ ((S : Set) → t < 4 → count ≤ S .count t → Members S (now (members .entry))
-        → Held S (now (set .entry)) t first count
-        → (x : ℕ) → i ≤ x → x < r → namesTarget (S .statement t x) j ≡ false)
-        × (i ≤ r) × (i ≤ count → r ≤ count) ⌝ }
-{
-    // No record of a set has such a number, and a sum with it may not fit. With the others known, the compiler drops the tests of places in the loop.
-    if 65535 < first {
-        return i;
-    }
-    if 4 <= t {
-        return i;
-    }
-    if members.len() != 1452 {
-        return i;
-    }
-    let many = count_of(members, IS_JUMP, t);
-    let mut p: u16 = 0;
-    while p < many {
-        let at = member(members, IS_JUMP, t, p);
-        let s = records::statement_at(set, first + (at as u32));
-        if (s.argument == j) & (i <= at) & (at < count) {
-            return at;
-        }
-        p += 1;
-    }
-    later(i, count)
-}
-
-// The first statement of thread t, from statement i on, that is a jump to j or stands before it; at most `count`. Those passed over do not
-// lead to j. The thread's statements stand from record `first` on.
-pub fn leading(set: &[u8], first: u32, members: &[u8], t: u8, j: u16, i: u16, count: u16) -> u16
-    ensures { λ r. ⌜ ((S : Set) → t < 4 → count ≤ S .count t → Members S (now (members .entry))
-        → Held S (now (set .entry)) t first count
-        → (x : ℕ) → i ≤ x → x < r → leadsOf S [] 0 t j x ≡ skip)
-        × (i ≤ r) × (i ≤ count → r ≤ count) ⌝ }
-{
-    let hit = jump_to(set, first, members, t, j, i, count);
-    if i < j {
-        if j <= hit {
-            return j - 1;
-        }
-    }
-    hit
 }

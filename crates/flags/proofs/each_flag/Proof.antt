@@ -1,7 +1,6 @@
 -- `flags::each_flag` meets its contract. Assumes nothing.
 use Rattle.members.specs.Held.{Held}
-use Rattle.members.specs.Members.{Members}
-use Rattle.flags.specs.Named.{Unnamed}
+use Rattle.flags.specs.Named.{WaysOf}
 use Rattle.places.proofs.Pieces.{writes-row, writes-more, below-after}
 use Rattle.places.specs.Pieces.{Writes}
 use Rattle.places.specs.Places.{placeOf, size}
@@ -14,26 +13,26 @@ use mathlib.Core.Path.{_≡_, refl, _∙_, subst}
 use mathlib.Core.List.{List}
 use native.Mathlib.Omega.{arith}
 use denote.Ref.{now}
-use lib.ListN.{length}
+use lib.ListN.{length, getD-replicate}
 use borrow.Author.Needs.{needs}
 use Rattle.flags.proofs.each_flag.Statement.{statement}
 use Rattle.flags.proofs.each_flag.Tie as tie
 
 abbrev Inv-loop : tie.InvT-loop
-Inv-loop set first members slots₀ out₀ t count n named next₀ j₀ slots out next j =
+Inv-loop set first members slots₀ out₀ t count n ways next₀ j₀ slots out next j =
     (j ≤ count) × (next ≤ n + 36 * j) × (length out ≡ length out₀) × (length slots ≡ length slots₀)
-    × ((S : Set) (cs : List ℕ) (k : ℕ) → count ≡ S .count t → Members S members → ((j : ℕ) → j < count → Unnamed S t count j named) → Held S set t first count
+    × ((S : Set) (cs : List ℕ) (k : ℕ) → count ≡ S .count t → WaysOf S t count ways → Held S set t first count
     → length slots₀ ≡ size → ((s : Slot) → placeOf slots₀ s < n)
     → (Writes (upto (entry S cs k flag t) j) out₀ slots₀ n out slots next) × ((s : Slot) → placeOf slots s < next))
 
 abbrev μ-loop : tie.MeasureT-loop
-μ-loop set first members slots₀ out₀ t count n named next₀ j₀ slots out next j = count - j
+μ-loop set first members slots₀ out₀ t count n ways next₀ j₀ slots out next j = count - j
 
-slice-aggregate-name-targets : tie.Need-slice-aggregate-name-targets Inv-loop μ-loop
-slice-aggregate-name-targets c = search needs
+slice-aggregate-list-jumps : tie.Need-slice-aggregate-list-jumps Inv-loop μ-loop
+slice-aggregate-list-jumps c = search needs
 
-name-targets-requires : tie.Need-name-targets-requires Inv-loop μ-loop
-name-targets-requires c κs = search needs
+list-jumps-requires : tie.Need-list-jumps-requires Inv-loop μ-loop
+list-jumps-requires c κs = search needs
 
 loop-holds : tie.Need-loop-holds Inv-loop μ-loop
 loop-holds c =
@@ -42,7 +41,7 @@ loop-holds c =
       omega arith,
       refl,
       refl,
-      λ (S : Set) (cs : List ℕ) (k : ℕ) count-is members unnamed known all below. (writes-row (entry S cs k flag (a .t)) (now (a .out)) (now (a .slots)) (a .n), below),
+      λ (S : Set) (cs : List ℕ) (k : ℕ) count-is listed known all below. (writes-row (entry S cs k flag (a .t)) (now (a .out)) (now (a .slots)) (a .n), below),
     )
 
 slice-aggregate-flag : tie.Need-slice-aggregate-flag Inv-loop μ-loop
@@ -71,10 +70,10 @@ loop-again c =
       omega arith,
       search needs,
       search needs,
-      λ (S : Set) (cs : List ℕ) (k : ℕ) count-is members unnamed known all below.
+      λ (S : Set) (cs : List ℕ) (k : ℕ) count-is listed known all below.
           let f = entry S cs k flag (a .t) in
-          let so-far = l .inv .4 S cs k count-is members unnamed known all below in
-          let w = r .ensures .0 S cs k count-is members (unnamed (l .j) (omega arith)) known (l .inv .3 ∙ all) (so-far .1) in
+          let so-far = l .inv .4 S cs k count-is listed known all below in
+          let w = r .ensures .0 S cs k count-is listed known (l .inv .3 ∙ all) (so-far .1) in
           (writes-more f (l .j) (now (a .out)) (now (a .slots)) (a .n) _ _ _ _ _ _ (so-far .0) w, below-after (f (l .j)) _ _ _ _ _ _ w (so-far .1)),
     )
 
@@ -89,11 +88,11 @@ returns c =
     let a = c .before .before .before .before .before .before .before .before .before .args in
     let l = c .before .loop in
     let few = c .before .before .before .before .before .before .before .before .before .pre .1 in
-    let named = c .before .before .before .name-targets .ensures .1 in
+    let lists = c .before .before .before .list-jumps .ensures .1 in
     let j-is : l .j ≡ a .count = omega arith in (
       λ (S : Set) (cs : List ℕ) (k : ℕ) count-is members known all below.
           subst (λ (i : ℕ). Writes (upto (entry S cs k flag (a .t)) i) (now (a .out)) (now (a .slots)) (a .n) (l .out) (l .slots) (l .next))
-          (j-is ∙ count-is) (l .inv .4 S cs k count-is members (λ (j : ℕ) (h : j < a .count). named S count-is members known j (omega arith)) known all below .0),
+          (j-is ∙ count-is) (l .inv .4 S cs k count-is (lists S count-is members known refl (λ (i : ℕ) h. getD-replicate 64 i 32 0 h)) known all below .0),
       omega arith,
     )
 
@@ -103,8 +102,8 @@ each-flag-spec =
     (tie.spec
     Inv-loop
     μ-loop
-    slice-aggregate-name-targets
-    name-targets-requires
+    slice-aggregate-list-jumps
+    list-jumps-requires
     loop-holds
     slice-aggregate-flag
     flag-requires

@@ -44,8 +44,8 @@ same-length-2 c = search needs
 returns : tie.Need-returns
 unfolding kinds
 returns c =
-    let a = c .before .before .before .before .before .before .before .before .before .before .before .before .before .before .before .before .before .before .before .before .before .args in
-    let q = c .before .before .before .before .before .before .before .before .before .before .before .before .before .before .before .before .before .before .before .before .before .pre in
+    let a = c .before .before .before .before .before .before .before .before .before .before .before .before .before .before .before .before .before .before .before .before .args in
+    let q = c .before .before .before .before .before .before .before .before .before .before .before .before .before .before .before .before .before .before .before .before .pre in
     let within = q .2 in
     let room : a .n ≤ 2000000000 = let p = q .4 in omega arith in
     let g = c .before .before .before .before .before .before .before .before .before .before .before .before .put-flag in
@@ -54,12 +54,12 @@ returns c =
     let p = c .before .before .set-place .ensures in
     let most = g .ensures .1 in
     let links = r .ensures .1 in (
-      λ (S : Set) (cs : List ℕ) (k : ℕ) count-is members unnamed known all below.
+      λ (S : Set) (cs : List ℕ) (k : ℕ) count-is listed known all below.
           let places = placeOf (now (a .slots)) in
           let put = g .ensures .0 S cs k (s .ensures ∙ sym (known (a .j) (omega arith))) room in
           let w : WritesTree places (treeOf S cs k flag (a .t) (a .j)) (now (a .out)) (a .n) _ (r .result .next) (r .result .at) =
           flag-chained S cs k (a .t) (a .j) (a .count) count-is places (now (a .out)) (a .n) _ (r .result .next) (r .result .at)
-          (r .ensures .0 S (base S cs k flag (a .t) (a .j)) (now (a .out)) (a .n) count-is members unnamed known
+          (r .ensures .0 S (base S cs k flag (a .t) (a .j)) (now (a .out)) (a .n) listed known
           (put-written (g .result) places (a .n) (base S cs k flag (a .t) (a .j)) (now (a .out)) _ put)) in
           let small : r .result .at < 4294967295 =
           let i = inside places (treeOf S cs k flag (a .t) (a .j)) (a .n) below in

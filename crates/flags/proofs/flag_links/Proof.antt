@@ -1,21 +1,23 @@
 -- `flags::flag_links` meets its contract. Assumes nothing.
+use Rattle.flags.proofs.Lists.{ways-unnamed}
 use Rattle.flags.proofs.Written.{none-lead, before-leads}
 use Rattle.places.specs.Places.{placeOf}
 use Rattle.encoding.specs.Steps.{chain, leads}
 use Rattle.encoding.specs.Slots.{Term}
 use Rattle.records.specs.declared.Statement.{Statement}
 use Rattle.records.specs.Sets.{Set}
-use Prim.Native.Nat.{ℕ, _-_, _≤_}
+use Prim.Native.Nat.{ℕ, _-_, _≤_, _<_}
 use mathlib.Core.Path.{sym, ap, _∙_}
 use mathlib.Core.List.{List, []}
 use native.Mathlib.Omega.{arith}
 use denote.Ref.{now}
+use lib.ListN.{getD}
 use borrow.Author.Needs.{needs}
 use Rattle.flags.proofs.flag_links.Statement.{statement}
 use Rattle.flags.proofs.flag_links.Tie as tie
 
-byte-at-requires : tie.Need-byte-at-requires
-byte-at-requires c κs = search needs
+way-requires : tie.Need-way-requires
+way-requires c κs = search needs
 
 jump-links-requires : tie.Need-jump-links-requires
 jump-links-requires c κs = search needs
@@ -26,7 +28,7 @@ same-length c = search needs
 returns : tie.Need-returns
 returns c =
     let r = c .before .before .jump-links .ensures in
-    (λ S tree start m all members unnamed known w. r .0 S tree start m all members known w, r .1)
+    (λ S tree start m listed known w. r .0 S tree start m listed known w, r .1)
 
 sub-before : tie.Need-sub-before
 sub-before c = search needs
@@ -51,32 +53,40 @@ same-length-2 c = search needs
 
 returns-2 : tie.Need-returns-2
 returns-2 c =
-    let a = c .before .before .before .before .before .before .before .before .before .before .before .before .before .before .args in
-    let q = c .before .before .before .before .before .before .before .before .before .before .before .before .before .before .pre in
+    let a = c .before .before .before .before .before .before .before .before .before .before .before .before .before .args in
+    let q = c .before .before .before .before .before .before .before .before .before .before .before .before .before .pre in
     let p = c .before .before .put-link in
     let s = c .before .before .before .before .before .statement-at in
     let one = p .ensures .1 in
     let within = q .2 in
     let small = q .3 in
-    let none = sym (c .before .before .before .before .before .before .before .before .byte-at .ensures) ∙ c .before .before .before .before .before .before .before .if1 .left in
+    let few = q .1 in
+    let way = c .before .before .before .before .before .before .before .before .way .ensures in
+    let left = c .before .before .before .before .before .before .before .if1 .left in
     let room : a .n ≤ 2000000000 = omega arith in (
-      λ (S : Set) (tree : Term) (start : List ℕ) (m : ℕ) all members unnamed known w.
+      λ (S : Set) (tree : Term) (start : List ℕ) (m : ℕ) listed known w.
+          let unnamed = ways-unnamed S (a .t) (a .count) few (a .j) within (now (a .ways)) listed (λ (e : getD (now (a .ways)) (a .j) 0 < 32). omega arith) in
           let places = placeOf (now (a .slots)) in
           let links = leads S [] 0 (a .t) (a .j) in
-          before-leads places S (a .t) (a .j) (a .count) within (unnamed none) tree start m (a .j - 1) (omega arith)
+          before-leads places S (a .t) (a .j) (a .count) within unnamed tree start m (a .j - 1) (omega arith)
           (now (a .out)) (a .n) (a .base) _ _ _
           (p .ensures .0 places (links (a .j - 1)) (chain links (a .j - 1) tree) start m room
           (c .before .before .before .before .follows .ensures S (a .j) (ap (λ (x : Statement). x .number) (s .ensures ∙ sym (known (a .j - 1) (omega arith)))) (omega arith)
-          (unnamed none (a .j - 1) (omega arith)))) w,
+          (unnamed (a .j - 1) (omega arith)))) w,
       omega arith,
     )
 
 returns-3 : tie.Need-returns-3
 returns-3 c =
-    let a = c .before .before .before .before .before .before .before .before .args in
-    let none = sym (c .before .before .byte-at .ensures) ∙ c .before .if1 .left in (
-      λ (S : Set) (tree : Term) (start : List ℕ) (m : ℕ) all members unnamed known w.
-          none-lead (placeOf (now (a .slots))) S (a .t) (a .j) (a .count) (omega arith) (unnamed none) tree start m (omega arith)
+    let a = c .before .before .before .before .before .before .before .args in
+    let q = c .before .before .before .before .before .before .before .pre in
+    let few = q .1 in
+    let within = q .2 in
+    let way = c .before .before .way .ensures in
+    let left = c .before .if1 .left in (
+      λ (S : Set) (tree : Term) (start : List ℕ) (m : ℕ) listed known w.
+          let unnamed = ways-unnamed S (a .t) (a .count) few (a .j) within (now (a .ways)) listed (λ (e : getD (now (a .ways)) (a .j) 0 < 32). omega arith) in
+          none-lead (placeOf (now (a .slots))) S (a .t) (a .j) (a .count) (omega arith) unnamed tree start m (omega arith)
           (now (a .out)) (a .n) (a .base) w,
       omega arith,
     )
@@ -85,7 +95,7 @@ pub flag-links-spec : {M : Type 1} → statement M
 flag-links-spec =
     tie.close
     (tie.spec
-    byte-at-requires
+    way-requires
     jump-links-requires
     same-length
     returns
