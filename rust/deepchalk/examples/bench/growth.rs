@@ -1,7 +1,7 @@
 //! How the library's time grows: with the bound or the steps, with the statements, with the text.
 
 use crate::calls::{check, decode, encode, read, records, replay, simulate, table_size};
-use crate::inputs::{failing, litmus, memory_heavy};
+use crate::inputs::{checkpoints, failing, litmus, memory_heavy, store_loop, Workload};
 use crate::page::{columns, count, heading, hundredths, row, short, whole};
 use crate::texts;
 use crate::timing::Times;
@@ -9,7 +9,7 @@ use testing::models::ModelInput;
 
 pub fn print() {
     with_bound();
-    with_bound_of_a_litmus_test();
+    with_bound_of_small_sets();
     with_statements();
     with_text();
 }
@@ -44,27 +44,57 @@ fn with_bound() {
     }
 }
 
-fn with_bound_of_a_litmus_test() {
+fn with_bound_of_small_sets() {
     heading(
-        "Growth with K, a litmus test",
-        "Tables of the store-buffer litmus test with its outcome, whose own bound is 15.",
+        "Growth with K, small sets",
+        "Tables of the store-buffer litmus test with its outcome, whose own bound is 15; of one thread of three statements; of four threads with eight checkpoints each.",
     );
     columns(
-        1,
-        &["Call", "K", "records", "library ns", "ns a step", "ratio"],
+        2,
+        &[
+            "Call",
+            "Set",
+            "K",
+            "records",
+            "library ns",
+            "second ns",
+            "ratio",
+        ],
     );
-    for bound in [1, 2, 4, 8, 15] {
-        let input = ModelInput {
-            bound: bound as u64,
-            ..litmus()
-        };
-        print_row(
-            "encode",
-            bound,
-            Some(records(&input)),
-            bound,
-            encode(&input),
-        );
+    let bounds = [1, 2, 4, 8, 15, 64];
+    for (name, input) in [
+        ("litmus test", litmus()),
+        ("store loop", only_a_table(store_loop())),
+        ("eight checkpoints", only_a_table(checkpoints())),
+    ] {
+        for bound in bounds {
+            let input = ModelInput {
+                set: input.set.clone(),
+                map: input.map.clone(),
+                bound,
+                model: Vec::new(),
+            };
+            let times = encode(&input);
+            row(&[
+                "encode".to_string(),
+                name.to_string(),
+                count(bound as usize),
+                count(records(&input)),
+                whole(times.library),
+                whole(times.second),
+                hundredths(times.ratio),
+            ]);
+        }
+    }
+}
+
+/// What a table is made of; the bound comes later.
+fn only_a_table(work: Workload) -> ModelInput {
+    ModelInput {
+        set: work.set,
+        map: work.map,
+        bound: 1,
+        model: Vec::new(),
     }
 }
 
