@@ -37,12 +37,8 @@ pub fn byte_at(s: &[u8], i: usize) -> u8
 pub fn word_at(s: &[u8], i: usize) -> u16
     ensures { λ r. ⌜ r ≡ wordAt (now (s .entry)) i ⌝ }
 {
-    // Where both bytes are there, one test serves both.
-    if s.len() < 2 {
-        return byte_at(s, i) as u16;
-    }
-    if s.len() - 2 < i {
-        return byte_at(s, i) as u16;
+    if s.len() <= i {
+        return 0;
     }
     let low = byte_at(s, i);
     let high = byte_at(s, i + 1);
