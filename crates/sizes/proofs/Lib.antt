@@ -1,4 +1,4 @@
--- Sums, and the sizes of programs, of a step's blocks, of steps and of tables.
+-- Sums, and the sizes of programs, of a step's blocks, of steps and of tables; checkpoints noted as seen.
 pub mod Sums
 pub mod Counted
 pub mod Blocks
@@ -6,3 +6,4 @@ pub mod Flags
 pub mod Steps
 pub mod Tables
 pub mod Parts
+pub mod Seen

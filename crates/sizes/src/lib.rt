@@ -7,12 +7,14 @@ ghost use lib.ListN.{length, getD};
 ghost use Rattle.base.specs.Below.{number as numberBelow};
 ghost use Rattle.records.specs.Maps.{cells};
 ghost use Rattle.records.specs.Sets.{setBy};
+ghost use Rattle.step.specs.Machine.{contains};
 ghost use Rattle.table.specs.Programs.{nextAfter};
 ghost use Rattle.encoding.specs.Encodings.{encoded as encodedOf};
 ghost use Rattle.encoding.specs.Slots.{same};
 ghost use Rattle.encoding.specs.Steps.{isConditional, step as stepOf};
 ghost use Rattle.places.specs.Places.{listed};
-ghost use Rattle.sizes.specs.Sizes.{total, ownRecords, within as withinOf, leadRecords, checkRecords, statementRecords, marksOf, threadRecords};
+ghost use Rattle.sizes.specs.Seen.{isSeen, checksAt, Notes};
+ghost use Rattle.sizes.specs.Sizes.{total, ownRecords, within as withinOf, leadRecords, checkRecords, statementRecords, threadRecords};
 use places::Points;
 use records::Layout;
 use records::Statement;
@@ -75,28 +77,39 @@ fn leads(n: u8, target: u16, i: u16, count: u16) -> u64
     within(next, count)
 }
 
-// How many of the checkpoints have number c.
-fn checks(points: Points, c: u16) -> u64
-    ensures { λ r. ⌜ (r ≡ numberBelow (length (listed points)) (λ p. eqb c (getD (listed points) p 0))) × (r ≤ 8) ⌝ }
+// How many of the checkpoints have number c; each of them is noted as seen.
+fn checks(points: Points, c: u16, seen: &mut [u8]) -> u64
+    requires { ⌜ length (now seen) ≡ 8 ⌝ }
+    ensures { λ r. ⌜ (r ≡ numberBelow (length (listed points)) (λ p. eqb c (getD (listed points) p 0))) × (r ≤ 8)
+        × (length (now (seen .exit)) ≡ length (now (seen .entry)))
+        × Notes (length (listed points)) (λ p. eqb c (getD (listed points) p 0)) (now (seen .entry)) (now (seen .exit)) ⌝ }
 {
+    // With this known, the compiler drops the tests of places in the loop.
+    if seen.len() != 8 {
+        return 0;
+    }
     let n = places::points_count(points);
     let mut found: u64 = 0;
     let mut p: u16 = 0;
     while p < n {
         if c == places::checkpoint(points, p) {
             found += 1;
+            seen[p as usize] = 1;
         }
         p += 1;
     }
     found
 }
 
-// How many of them a statement is a CHECK of.
-fn raises(points: Points, n: u8, argument: u16) -> u64
-    ensures { λ r. ⌜ (r ≡ checkRecords (listed points) n argument) × (r ≤ 8) ⌝ }
+// How many of them a statement is a CHECK of; each of them is noted as seen.
+fn raises(points: Points, n: u8, argument: u16, seen: &mut [u8]) -> u64
+    requires { ⌜ length (now seen) ≡ 8 ⌝ }
+    ensures { λ r. ⌜ (r ≡ checkRecords (listed points) n argument) × (r ≤ 8)
+        × (length (now (seen .exit)) ≡ length (now (seen .entry)))
+        × Notes (length (listed points)) (checksAt (listed points) n argument) (now (seen .entry)) (now (seen .exit)) ⌝ }
 {
     if n == CHECK {
-        return checks(points, argument);
+        return checks(points, argument, seen);
     }
     0
 }
@@ -111,44 +124,47 @@ fn indirect(mode: u8) -> u64
     0
 }
 
-// The records of statement i in a thread of `count`.
-fn statement(points: Points, s: Statement, i: u16, count: u16) -> u64
-    ensures { λ r. ⌜ (r ≡ statementRecords (listed points) count i s) × (r ≤ 24) ⌝ }
+// The records of statement i in a thread of `count`; the checkpoints that it is a CHECK of are noted as seen.
+fn statement(points: Points, s: Statement, i: u16, count: u16, seen: &mut [u8]) -> u64
+    requires { ⌜ length (now seen) ≡ 8 ⌝ }
+    ensures { λ r. ⌜ (r ≡ statementRecords (listed points) count i s) × (r ≤ 24)
+        × (length (now (seen .exit)) ≡ length (now (seen .entry)))
+        × Notes (length (listed points)) (checksAt (listed points) (s .number) (s .argument)) (now (seen .entry)) (now (seen .exit)) ⌝ }
 {
     own(s.number)
         + indirect(s.mode)
         + leads(s.number, s.argument, i, count)
-        + raises(points, s.number, s.argument)
+        + raises(points, s.number, s.argument, seen)
 }
 
 // ---- threads
 
-// The records of the statements of thread t, which has `count` of them.
-fn statements(set: &[u8], layout: Layout, points: Points, t: u8, count: u16) -> u64
-    requires { ⌜ count ≡ getD (layout .counts) t 0 ⌝ }
-    ensures { λ r. ⌜ (r ≡ total (λ i. statementRecords (listed points) count i (setBy (now (set .entry)) layout .statement t i)) count) × (r ≤ 24 * count) ⌝ }
+// The records of the statements of thread t, which has `count` of them; the checkpoints that it contains are noted as seen.
+fn statements(set: &[u8], layout: Layout, points: Points, t: u8, count: u16, seen: &mut [u8]) -> u64
+    requires { ⌜ (count ≡ getD (layout .counts) t 0) × (length (now seen) ≡ 8) ⌝ }
+    ensures { λ r. ⌜ (r ≡ total (λ i. statementRecords (listed points) count i (setBy (now (set .entry)) layout .statement t i)) count) × (r ≤ 24 * count)
+        × (length (now (seen .exit)) ≡ length (now (seen .entry)))
+        × Notes (length (listed points)) (λ p. contains (setBy (now (set .entry)) layout) t (getD (listed points) p 0)) (now (seen .entry)) (now (seen .exit)) ⌝ }
 {
     let first = members::first(layout, t);
     let mut n: u64 = 0;
     let mut i: u16 = 0;
     while i < count {
         let s = records::statement_at(set, first + (i as u32));
-        n += statement(points, s, i, count);
+        n += statement(points, s, i, count, seen);
         i += 1;
     }
     n
 }
 
-// How many of the checkpoints thread t contains.
-fn marks(set: &[u8], layout: Layout, points: Points, t: u8) -> u64
-    ensures { λ r. ⌜ (r ≡ marksOf (setBy (now (set .entry)) layout) (listed points) t) × (r ≤ 8) ⌝ }
+// How many checkpoints are noted as seen.
+fn marks(seen: &[u8]) -> u64
+    ensures { λ r. ⌜ (r ≡ numberBelow 8 (isSeen (now (seen .entry)))) × (r ≤ 8) ⌝ }
 {
-    let n = places::points_count(points);
     let mut found: u64 = 0;
-    let mut p: u16 = 0;
-    while p < n {
-        let c = places::checkpoint(points, p);
-        if step::contains(set, layout, t, c) {
+    let mut p: usize = 0;
+    while p < 8 {
+        if base::byte_at(seen, p) != 0 {
             found += 1;
         }
         p += 1;
@@ -161,7 +177,9 @@ fn thread(set: &[u8], layout: Layout, points: Points, t: u8) -> u64
     ensures { λ r. ⌜ (r ≡ threadRecords (setBy (now (set .entry)) layout) (listed points) t) × (r ≤ 24 * getD (layout .counts) t 0 + 47) × (r ≤ 1572887) ⌝ }
 {
     let count = members::count(layout, t);
-    statements(set, layout, points, t, count) + 4 * marks(set, layout, points, t) + 15
+    let mut seen = [0u8; 8];
+    let all = statements(set, layout, points, t, count, &mut seen);
+    all + 4 * marks(&seen) + 15
 }
 
 // ---- steps and tables
