@@ -1,7 +1,7 @@
 //! Each call of the library beside the same call of the second implementation.
 
 use crate::inputs::{self, Workload};
-use crate::page::{columns, count, heading, hundredths, row, whole};
+use crate::page::{columns, count, heading, ratio_row, whole};
 use crate::texts;
 use crate::timing::{side_by_side, Answer, Times, TIMINGS};
 use deepchalk::{Refusal, FORMULA_BYTES, MAP_ROOM, STEP_BYTES};
@@ -244,11 +244,11 @@ fn print_tables() {
 }
 
 fn print_row(call: &str, input: &str, times: Times) {
-    row(&[
+    let cells = [
         call.to_string(),
         input.to_string(),
         whole(times.library),
         whole(times.second),
-        hundredths(times.ratio),
-    ]);
+    ];
+    ratio_row(&cells, times.ratio);
 }

@@ -1,8 +1,10 @@
 //! How the library's time grows: with the bound or the steps, with the statements, with the text.
 
 use crate::calls::{check, decode, encode, read, records, replay, simulate, table_size};
-use crate::inputs::{checkpoints, failing, litmus, memory_heavy, store_loop, Workload};
-use crate::page::{columns, count, heading, hundredths, row, short, whole};
+use crate::inputs::{
+    checkpoints, failing, litmus, memory_heavy, of_one_sort, store_loop, Workload,
+};
+use crate::page::{columns, count, heading, ratio_row, short, whole};
 use crate::texts;
 use crate::timing::Times;
 use testing::models::ModelInput;
@@ -10,6 +12,7 @@ use testing::models::ModelInput;
 pub fn print() {
     with_bound();
     with_bound_of_small_sets();
+    with_bound_of_one_sort();
     with_statements();
     with_text();
 }
@@ -49,6 +52,32 @@ fn with_bound_of_small_sets() {
         "Growth with K, small sets",
         "Tables of the store-buffer litmus test with its outcome, whose own bound is 15; of one thread of three statements; of four threads with eight checkpoints each.",
     );
+    table_columns();
+    for (name, input) in [
+        ("litmus test", litmus()),
+        ("store loop", only_a_table(store_loop())),
+        ("eight checkpoints", only_a_table(checkpoints())),
+    ] {
+        for bound in [1, 2, 4, 8, 15, 64] {
+            print_table(name, &input.set, &input.map, bound);
+        }
+    }
+}
+
+fn with_bound_of_one_sort() {
+    heading(
+        "Growth with K, statements of one sort",
+        "Tables of four threads of 31 statements of one sort and a jump to the first: where a table is mostly one part, that part shows.",
+    );
+    table_columns();
+    for (name, set) in of_one_sort() {
+        for bound in [1, 2, 4, 64] {
+            print_table(name, &set, &[], bound);
+        }
+    }
+}
+
+fn table_columns() {
     columns(
         2,
         &[
@@ -61,31 +90,25 @@ fn with_bound_of_small_sets() {
             "ratio",
         ],
     );
-    let bounds = [1, 2, 4, 8, 15, 64];
-    for (name, input) in [
-        ("litmus test", litmus()),
-        ("store loop", only_a_table(store_loop())),
-        ("eight checkpoints", only_a_table(checkpoints())),
-    ] {
-        for bound in bounds {
-            let input = ModelInput {
-                set: input.set.clone(),
-                map: input.map.clone(),
-                bound,
-                model: Vec::new(),
-            };
-            let times = encode(&input);
-            row(&[
-                "encode".to_string(),
-                name.to_string(),
-                count(bound as usize),
-                count(records(&input)),
-                whole(times.library),
-                whole(times.second),
-                hundredths(times.ratio),
-            ]);
-        }
-    }
+}
+
+fn print_table(name: &str, set: &[u8], map: &[u8], bound: u64) {
+    let input = ModelInput {
+        set: set.to_vec(),
+        map: map.to_vec(),
+        bound,
+        model: Vec::new(),
+    };
+    let times = encode(&input);
+    let cells = [
+        "encode".to_string(),
+        name.to_string(),
+        count(bound as usize),
+        count(records(&input)),
+        whole(times.library),
+        whole(times.second),
+    ];
+    ratio_row(&cells, times.ratio);
 }
 
 /// What a table is made of; the bound comes later.
@@ -158,12 +181,12 @@ fn with_text() {
 
 /// The time, and the time for each of so many units.
 fn print_row(call: &str, size: usize, part: Option<usize>, units: usize, times: Times) {
-    row(&[
+    let cells = [
         call.to_string(),
         count(size),
         part.map_or(String::new(), count),
         whole(times.library),
         short(times.library / units as f64),
-        hundredths(times.ratio),
-    ]);
+    ];
+    ratio_row(&cells, times.ratio);
 }

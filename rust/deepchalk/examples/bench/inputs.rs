@@ -128,6 +128,34 @@ pub fn checkpoints() -> Workload {
     Workload::in_turn(name, set_bytes(&vec![thread; 4]), Vec::new(), &[0, 1, 2, 3])
 }
 
+/// Sets of four threads of 31 statements of one sort and a jump to the first.
+pub fn of_one_sort() -> Vec<(&'static str, Vec<u8>)> {
+    let all = |sort: fn(u16) -> (Instruction, u16)| {
+        let statements = (0..31).map(sort).chain([(Jmp, 0)]);
+        let thread = plain(&statements.collect::<Vec<_>>());
+        set_bytes(&vec![thread; 4])
+    };
+    vec![
+        ("JNZ, each to another", all(|pc| (Jnz, pc * 7 % 31))),
+        ("JNZ to the next", all(|pc| (Jnz, pc + 1))),
+        ("JMP to the first", all(|_| (Jmp, 0))),
+        ("CHECK, eight in turn", all(|pc| (Check, pc % 8))),
+        ("CAS", all(|pc| (Cas, pc))),
+        ("STORE", all(|pc| (Store, pc))),
+        ("ADDI", all(|pc| (Addi, pc))),
+        (
+            "jump, CHECK, STORE, LOAD, ADDI in turn",
+            all(|pc| match pc % 5 {
+                0 => (Jnz, pc * 5 % 31),
+                1 => (Check, pc % 8),
+                2 => (Store, pc),
+                3 => (Load, pc),
+                _ => (Addi, pc),
+            }),
+        ),
+    ]
+}
+
 /// The schedule's byte for step 60 names no thread, and that step of the trace has a wrong field.
 pub fn refused_late() -> Workload {
     let mut workload = store_loop();

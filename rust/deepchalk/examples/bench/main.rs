@@ -16,4 +16,5 @@ fn main() {
     growth::print();
     sizes::print();
     gate::print(std::env::args_os().nth(1));
+    page::rows_above();
 }

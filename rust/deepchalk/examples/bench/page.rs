@@ -1,5 +1,13 @@
 //! Headings and tables in Markdown.
 
+use std::sync::Mutex;
+
+/// The ratio that reading, simulating, replaying, encoding and checking keep to.
+const RATIO: f64 = 1.5;
+
+/// The rows above it, which are printed once more at the end.
+static ABOVE: Mutex<Vec<String>> = Mutex::new(Vec::new());
+
 pub fn heading(words: &str, explanation: &str) {
     println!("\n## {words}\n\n{explanation}\n");
 }
@@ -13,6 +21,31 @@ pub fn columns(words: usize, names: &[&str]) {
 
 pub fn row(cells: &[String]) {
     println!("| {} |", cells.join(" | "));
+}
+
+/// A row whose last cell is a ratio.
+pub fn ratio_row(cells: &[String], ratio: f64) {
+    let cells = [cells, &[hundredths(ratio)]].concat();
+    row(&cells);
+    if ratio > RATIO {
+        let mut above = ABOVE.lock().expect("one thread prints");
+        above.push(cells.join(", "));
+    }
+}
+
+/// So that nobody looks at some rows only.
+pub fn rows_above() {
+    heading(
+        "Rows above 1.5",
+        "No bound is set for decoding and for the size of a table.",
+    );
+    let above = ABOVE.lock().expect("one thread prints");
+    if above.is_empty() {
+        println!("None.");
+    }
+    for row in above.iter() {
+        println!("- {row}");
+    }
 }
 
 /// With a comma before each three digits.
