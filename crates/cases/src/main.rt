@@ -5,6 +5,7 @@ mod data;
 
 ghost use Prim.Native.Nat.{_≤_};
 ghost use lib.ListN.{length};
+ghost use Rattle.cases.specs.Parts.{Inside};
 use libc::STDOUT_FILENO;
 use step::Answer;
 use step::End;
@@ -313,106 +314,14 @@ fn show_over(name: &[u8], set: &[u8], map: &[u8], schedule: &[u8], trace: &mut [
     }
 }
 
-// The buffer has room for a step more than simulation takes: that refusal is a case too.
-fn show(name: &[u8], set: &[u8], map: &[u8], schedule: &[u8])
-    requires { ⌜ length (now schedule) ≤ 65 ⌝ }
-{
+// The buffer has room for a step more than simulation takes: that refusal is a case too. No case has more steps.
+fn show(name: &[u8], set: &[u8], map: &[u8], schedule: &[u8]) {
+    if 65 < schedule.len() {
+        return;
+    }
     let mut buffer = [0u8; 65 * STEP_BYTES];
     let size = STEP_BYTES * schedule.len();
     show_over(name, set, map, schedule, &mut buffer[..size]);
-}
-
-fn sample_4() {
-    show(
-        b"sample 4 jump to itself",
-        &data::SAMPLE_4_JUMP_TO_ITSELF_SET,
-        &data::SAMPLE_4_JUMP_TO_ITSELF_MAP,
-        &data::SAMPLE_4_JUMP_TO_ITSELF_SCHEDULE,
-    );
-}
-
-fn sample_6() {
-    show(
-        b"sample 6 ADDI at 65535",
-        &data::SAMPLE_6_ADDI_AT_65535_SET,
-        &data::SAMPLE_6_ADDI_AT_65535_MAP,
-        &data::SAMPLE_6_ADDI_AT_65535_SCHEDULE,
-    );
-    show(
-        b"sample 6 MULI at 300",
-        &data::SAMPLE_6_MULI_AT_300_SET,
-        &data::SAMPLE_6_MULI_AT_300_MAP,
-        &data::SAMPLE_6_MULI_AT_300_SCHEDULE,
-    );
-    show(
-        b"sample 6 JNZNS at 32767",
-        &data::SAMPLE_6_JNZNS_AT_32767_SET,
-        &data::SAMPLE_6_JNZNS_AT_32767_MAP,
-        &data::SAMPLE_6_JNZNS_AT_32767_SCHEDULE,
-    );
-    show(
-        b"sample 6 JNZNS at 0",
-        &data::SAMPLE_6_JNZNS_AT_0_SET,
-        &data::SAMPLE_6_JNZNS_AT_0_MAP,
-        &data::SAMPLE_6_JNZNS_AT_0_SCHEDULE,
-    );
-    show(
-        b"sample 6 JNZNS at 32768",
-        &data::SAMPLE_6_JNZNS_AT_32768_SET,
-        &data::SAMPLE_6_JNZNS_AT_32768_MAP,
-        &data::SAMPLE_6_JNZNS_AT_32768_SCHEDULE,
-    );
-}
-
-fn sample_7() {
-    show(
-        b"sample 7 CAS",
-        &data::SAMPLE_7_CAS_SET,
-        &data::SAMPLE_7_CAS_MAP,
-        &data::SAMPLE_7_CAS_SCHEDULE,
-    );
-}
-
-fn sample_8() {
-    show(
-        b"sample 8 FENCE with full 1",
-        &data::SAMPLE_8_FENCE_WITH_FULL_1_SET,
-        &data::SAMPLE_8_FENCE_WITH_FULL_1_MAP,
-        &data::SAMPLE_8_FENCE_WITH_FULL_1_SCHEDULE,
-    );
-    show(
-        b"sample 8 CHECK with full 1",
-        &data::SAMPLE_8_CHECK_WITH_FULL_1_SET,
-        &data::SAMPLE_8_CHECK_WITH_FULL_1_MAP,
-        &data::SAMPLE_8_CHECK_WITH_FULL_1_SCHEDULE,
-    );
-}
-
-fn sample_9() {
-    show(
-        b"sample 9 32 statements",
-        &data::SAMPLE_9_32_STATEMENTS_SET,
-        &data::SAMPLE_9_32_STATEMENTS_MAP,
-        &data::SAMPLE_9_32_STATEMENTS_SCHEDULE,
-    );
-    show(
-        b"sample 9 33 statements",
-        &data::SAMPLE_9_33_STATEMENTS_SET,
-        &data::SAMPLE_9_33_STATEMENTS_MAP,
-        &data::SAMPLE_9_33_STATEMENTS_SCHEDULE,
-    );
-    show(
-        b"sample 9 64 steps",
-        &data::SAMPLE_9_64_STEPS_SET,
-        &data::SAMPLE_9_64_STEPS_MAP,
-        &data::SAMPLE_9_64_STEPS_SCHEDULE,
-    );
-    show(
-        b"sample 9 65 steps",
-        &data::SAMPLE_9_65_STEPS_SET,
-        &data::SAMPLE_9_65_STEPS_MAP,
-        &data::SAMPLE_9_65_STEPS_SCHEDULE,
-    );
 }
 
 // Number, place, statements, cells.
@@ -453,11 +362,9 @@ fn sample_9_texts() {
     show_text(b"sample 9 text of 16385 bytes", &source);
 }
 
-// Number, place, records.
+// Of the table of JMP 0: number, place, records.
 fn show_bound(name: &[u8], bound: u64) {
-    let set = data::SAMPLE_9_64_STEPS_SET;
-    let map = data::SAMPLE_9_64_STEPS_MAP;
-    let answer = encoder::table_size(&set, &map, bound);
+    let answer = encoder::table_size(b"\x00\x09\x00\x00\x00\x00\x00\x00", b"", bound);
     io::write_all(STDOUT_FILENO, name);
     io::write_all(STDOUT_FILENO, b":");
     match answer {
@@ -490,172 +397,114 @@ fn show_litmus(name: &[u8], set: &[u8], map: &[u8], asked: &[u8]) {
     io::write_all(STDOUT_FILENO, b" with the outcome\n");
 }
 
-fn intel_1_to_5() {
-    show_litmus(
-        b"Intel 1, stores are not reordered with other stores",
-        &data::INTEL_1_SET,
-        &data::INTEL_1_MAP,
-        &data::INTEL_1_ASKED,
-    );
-    show_litmus(
-        b"Intel 2, stores are not reordered with older loads",
-        &data::INTEL_2_SET,
-        &data::INTEL_2_MAP,
-        &data::INTEL_2_ASKED,
-    );
-    show_litmus(
-        b"Intel 3, loads may be reordered with older stores",
-        &data::INTEL_3_SET,
-        &data::INTEL_3_MAP,
-        &data::INTEL_3_ASKED,
-    );
-    show(
-        b"Intel 3",
-        &data::INTEL_3_SET,
-        &data::INTEL_3_MAP,
-        &data::INTEL_3_SCHEDULE,
-    );
-    show_litmus(
-        b"Intel 4, loads are not reordered with older stores to the same location",
-        &data::INTEL_4_SET,
-        &data::INTEL_4_MAP,
-        &data::INTEL_4_ASKED,
-    );
-    show_litmus(
-        b"Intel 5, intra-processor forwarding is allowed",
-        &data::INTEL_5_SET,
-        &data::INTEL_5_MAP,
-        &data::INTEL_5_ASKED,
-    );
-    show(
-        b"Intel 5",
-        &data::INTEL_5_SET,
-        &data::INTEL_5_MAP,
-        &data::INTEL_5_SCHEDULE,
-    );
+// ---- the cases of data.rt, which says what a case is made of
+
+// Where a part starts and ends.
+struct Part {
+    start: usize,
+    end: usize,
 }
 
-fn intel_6_to_10() {
-    show_litmus(
-        b"Intel 6, stores are transitively visible",
-        &data::INTEL_6_SET,
-        &data::INTEL_6_MAP,
-        &data::INTEL_6_ASKED,
-    );
-    show_litmus(
-        b"Intel 7, stores are seen in a consistent order by other threads",
-        &data::INTEL_7_SET,
-        &data::INTEL_7_MAP,
-        &data::INTEL_7_ASKED,
-    );
-    show_litmus(
-        b"Intel 8, locked instructions have a total order",
-        &data::INTEL_8_SET,
-        &data::INTEL_8_MAP,
-        &data::INTEL_8_ASKED,
-    );
-    show_litmus(
-        b"Intel 9, loads are not reordered with locks",
-        &data::INTEL_9_SET,
-        &data::INTEL_9_MAP,
-        &data::INTEL_9_ASKED,
-    );
-    show_litmus(
-        b"Intel 10, stores are not reordered with locks",
-        &data::INTEL_10_SET,
-        &data::INTEL_10_MAP,
-        &data::INTEL_10_ASKED,
-    );
+// The part from a place on: its length in two bytes, then its bytes. Past the last one it is empty and stands at the end.
+fn part_at(cases: &[u8], at: usize) -> Part
+    ensures { λ r. ⌜ Inside (now (cases .entry)) r ⌝ }
+{
+    let none = Part {
+        start: cases.len(),
+        end: cases.len(),
+    };
+    if cases.len() <= at {
+        return none;
+    }
+    let left = cases.len() - at;
+    if left < 2 {
+        return none;
+    }
+    let size = base::word_at(cases, at) as usize;
+    if left - 2 < size {
+        return none;
+    }
+    let start = at + 2;
+    Part {
+        start,
+        end: start + size,
+    }
 }
 
-fn amd_1_to_5() {
-    show_litmus(
-        b"AMD 1, stores are not reordered with other stores",
-        &data::AMD_1_SET,
-        &data::AMD_1_MAP,
-        &data::AMD_1_ASKED,
-    );
-    show_litmus(
-        b"AMD 2, stores are not reordered with older loads",
-        &data::AMD_2_SET,
-        &data::AMD_2_MAP,
-        &data::AMD_2_ASKED,
-    );
-    show_litmus(
-        b"AMD 3, stores can be arbitrarily delayed",
-        &data::AMD_3_SET,
-        &data::AMD_3_MAP,
-        &data::AMD_3_ASKED,
-    );
-    show(
-        b"AMD 3",
-        &data::AMD_3_SET,
-        &data::AMD_3_MAP,
-        &data::AMD_3_SCHEDULE,
-    );
-    show_litmus(
-        b"AMD 4, loads may be reordered with older stores",
-        &data::AMD_4_SET,
-        &data::AMD_4_MAP,
-        &data::AMD_4_ASKED,
-    );
-    show(
-        b"AMD 4",
-        &data::AMD_4_SET,
-        &data::AMD_4_MAP,
-        &data::AMD_4_SCHEDULE,
-    );
-    show_litmus(
-        b"AMD 5, sequential consistency",
-        &data::AMD_5_SET,
-        &data::AMD_5_MAP,
-        &data::AMD_5_ASKED,
-    );
+// Shows how many runs of a set lead to the outcome that is asked for, if one is.
+fn show_asked(cases: &[u8], name: Part, set: Part, map: Part, asked: Part)
+    requires { ⌜ Inside (now cases) name × Inside (now cases) set × Inside (now cases) map × Inside (now cases) asked ⌝ }
+{
+    let name_start = name.start;
+    let name_end = name.end;
+    let set_start = set.start;
+    let set_end = set.end;
+    let map_start = map.start;
+    let map_end = map.end;
+    let start = asked.start;
+    let end = asked.end;
+    if start < end {
+        show_litmus(
+            &cases[name_start..name_end],
+            &cases[set_start..set_end],
+            &cases[map_start..map_end],
+            &cases[start..end],
+        );
+    }
 }
 
-fn amd_6_to_9() {
-    show_litmus(
-        b"AMD 6, stores are seen in a consistent order by other threads",
-        &data::AMD_6_SET,
-        &data::AMD_6_MAP,
-        &data::AMD_6_ASKED,
-    );
-    show_litmus(
-        b"AMD 7, stores are transitively visible",
-        &data::AMD_7_SET,
-        &data::AMD_7_MAP,
-        &data::AMD_7_ASKED,
-    );
-    show_litmus(
-        b"AMD 8, intra-processor forwarding is allowed",
-        &data::AMD_8_SET,
-        &data::AMD_8_MAP,
-        &data::AMD_8_ASKED,
-    );
-    show(
-        b"AMD 8",
-        &data::AMD_8_SET,
-        &data::AMD_8_MAP,
-        &data::AMD_8_SCHEDULE,
-    );
-    show_litmus(
-        b"AMD 9, global visibility",
-        &data::AMD_9_SET,
-        &data::AMD_9_MAP,
-        &data::AMD_9_ASKED,
-    );
+// Shows a run, if there is a schedule.
+fn show_run(cases: &[u8], name: Part, set: Part, map: Part, schedule: Part)
+    requires { ⌜ Inside (now cases) name × Inside (now cases) set × Inside (now cases) map × Inside (now cases) schedule ⌝ }
+{
+    let name_start = name.start;
+    let name_end = name.end;
+    let set_start = set.start;
+    let set_end = set.end;
+    let map_start = map.start;
+    let map_end = map.end;
+    let start = schedule.start;
+    let end = schedule.end;
+    if start < end {
+        show(
+            &cases[name_start..name_end],
+            &cases[set_start..set_end],
+            &cases[map_start..map_end],
+            &cases[start..end],
+        );
+    }
+}
+
+// Shows the case at a place, and gives the place of the next one.
+fn show_case(cases: &[u8], at: usize) -> usize
+    ensures { λ r. ⌜ r ≤ length (now (cases .entry)) ⌝ }
+{
+    let name = part_at(cases, at);
+    let set = part_at(cases, name.end);
+    let map = part_at(cases, set.end);
+    let asked = part_at(cases, map.end);
+    let short = part_at(cases, asked.end);
+    let schedule = part_at(cases, short.end);
+    show_asked(cases, name, set, map, asked);
+    show_run(cases, short, set, map, schedule);
+    schedule.end
+}
+
+// Shows all of them.
+fn show_cases(cases: &[u8]) {
+    let mut at: usize = 0;
+    while at < cases.len() {
+        let next = show_case(cases, at);
+        if next <= at {
+            return;
+        }
+        at = next;
+    }
 }
 
 fn main() {
-    sample_4();
-    sample_6();
-    sample_7();
-    sample_8();
-    sample_9();
+    show_cases(&data::SAMPLES);
     sample_9_texts();
     sample_9_bounds();
-    intel_1_to_5();
-    intel_6_to_10();
-    amd_1_to_5();
-    amd_6_to_9();
+    show_cases(&data::LITMUS);
 }

@@ -22,45 +22,45 @@ fn main() -> ExitCode {
 }
 
 fn rattle() -> String {
-    let samples: String = all().iter().map(rattle_constants).collect();
-    let litmus: String = litmus_cases().iter().map(litmus_constants).collect();
-    [HEAD, &samples, &litmus].concat()
+    let samples: Vec<u8> = all().iter().flat_map(sample_parts).collect();
+    let litmus: Vec<u8> = litmus_cases().iter().flat_map(litmus_parts).collect();
+    let constants = [constant("SAMPLES", &samples), constant("LITMUS", &litmus)];
+    [HEAD, &constants.join("\n")].concat()
 }
 
 /// The first lines of crates/cases/src/data.rt, which is this program's output.
-const HEAD: &str = "// The set, map and schedule of each case, as the program `cases` of rust/reference prints them with --rattle.\n// Of a litmus test ASKED is the accu and the mem of each thread in the outcome, 255 where any will do; SCHEDULE leads to an allowed outcome.\n";
+const HEAD: &str = "// The cases, as the program `cases` of rust/reference prints them with --rattle. Each has six parts: a name, a set, a map, the accu and\n// the mem of each thread in the outcome asked for (255 where any will do), a short name, and a schedule. A part is its length in two\n// bytes, the low one first, then its bytes. A sample asks for no outcome; a litmus test has a schedule where its outcome is allowed.\n";
 
-fn rattle_constants(case: &Case) -> String {
-    let name = case.name.to_uppercase().replace(' ', "_");
-    let parts = [
-        rattle_constant(&name, "SET", &case.set()),
-        rattle_constant(&name, "MAP", &case.map()),
-        rattle_constant(&name, "SCHEDULE", &case.schedule),
-    ];
-    format!("\n// {}\n{}", case.name, parts.join("\n"))
+fn sample_parts(case: &Case) -> Vec<u8> {
+    let name = case.name.as_bytes();
+    let (set, map) = (case.set(), case.map());
+    parts([name, &set, &map, &[], name, &case.schedule])
 }
 
-fn litmus_constants(case: &LitmusCase) -> String {
-    let name = case.litmus.number().to_uppercase().replace(' ', "_");
-    let mut parts = vec![
-        rattle_constant(&name, "SET", &case.set()),
-        rattle_constant(&name, "MAP", &case.map()),
-        rattle_constant(&name, "ASKED", &case.litmus.asked()),
-    ];
-    if let Some(schedule) = case.schedule() {
-        parts.push(rattle_constant(&name, "SCHEDULE", schedule));
-    }
-    format!("\n// {}\n{}", case.litmus.name, parts.join("\n"))
+fn litmus_parts(case: &LitmusCase) -> Vec<u8> {
+    let name = case.litmus.name.as_bytes();
+    let number = case.litmus.number();
+    let (set, map, asked) = (case.set(), case.map(), case.litmus.asked());
+    let schedule = case.schedule().unwrap_or_default();
+    parts([name, &set, &map, &asked, number.as_bytes(), schedule])
 }
 
-fn rattle_constant(name: &str, part: &str, bytes: &[u8]) -> String {
-    let values: String = bytes.iter().map(|b| format!("\\x{b:02x}")).collect();
+fn parts(parts: [&[u8]; 6]) -> Vec<u8> {
+    let part = |part: &[u8]| {
+        let length = u16::try_from(part.len()).expect("a short part");
+        [&length.to_le_bytes(), part].concat()
+    };
+    parts.map(part).concat()
+}
+
+/// Printable characters stand for themselves.
+fn constant(name: &str, bytes: &[u8]) -> String {
+    let character = |&byte: &u8| match byte {
+        b'\\' | b'"' => format!("\\x{byte:02x}"),
+        b' '..=b'~' => char::from(byte).to_string(),
+        _ => format!("\\x{byte:02x}"),
+    };
+    let characters: String = bytes.iter().map(character).collect();
     let count = bytes.len();
-    let line = format!("pub const {name}_{part}: [u8; {count}] = *b\"{values}\";\n");
-    // `rt fmt` breaks a line of more than 100 characters after the equals sign
-    if line.len() <= 101 {
-        line
-    } else {
-        line.replacen("= *b", "=\n    *b", 1)
-    }
+    format!("pub const {name}: [u8; {count}] =\n    *b\"{characters}\";\n")
 }

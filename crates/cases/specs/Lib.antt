@@ -1,0 +1,2 @@
+-- The parts of a case.
+pub mod Parts
