@@ -3,8 +3,8 @@ ghost use mathlib.Core.Path.{_≡_};
 ghost use mathlib.Core.List.{List};
 ghost use Prim.Native.Nat.{ℕ, _≤_};
 ghost use Rattle.records.specs.Sets.{Set};
-ghost use Rattle.table.specs.Programs.{Binary, binaryNumber, binarySort, ref, binary, and2};
-ghost use Rattle.encoding.specs.Slots.{Kind, Slot, slot, kindNumber, startPlace, choice, active, address, loaded, swaps, result, test, untest, flag, accu, no, nought, argument};
+ghost use Rattle.table.specs.Programs.{Binary, binaryNumber, binarySort, ref, unary, not1, binary, and2};
+ghost use Rattle.encoding.specs.Slots.{Kind, Slot, slot, kindNumber, startPlace, choice, active, address, loaded, swaps, result, test, untest, flag, accu, accu as accuKind, no, no as noKind, nought, nought as noughtKind, argument};
 ghost use Rattle.encoding.specs.Steps.{base as baseOf};
 ghost use Rattle.places.specs.Places.{placeOf};
 ghost use Rattle.bases.specs.Fews.{Puts, loadOf};
@@ -33,12 +33,10 @@ use places::kinds::ACCU;
 use places::kinds::ACTIVE;
 use places::kinds::ADDRESS;
 use places::kinds::ARGUMENT;
-use places::kinds::CHOICE;
 use places::kinds::FLAG;
 use places::kinds::HEAP;
 use places::kinds::LOADED;
 use places::kinds::MEM;
-use places::kinds::NO;
 use places::kinds::NOUGHT;
 use places::kinds::SWAPS;
 use places::kinds::TEST;
@@ -54,12 +52,19 @@ pub fn flag_place(slots: &[u32], t: u8, i: u16) -> u64
     place(slots, FLAG, t, i, (i == 0) as u64)
 }
 
-// Statement i of thread t executes.
-pub fn put_active(slots: &[u32], out: &mut [u8], t: u8, i: u16, n: u32) -> Written
-    ensures { λ r. ⌜ (n ≤ 2000000000 → Puts r (placeOf (now (slots .entry))) n (binary and2 (ref (slot flag t i)) (ref (slot choice 0 t))) (now (out .entry)) (now (out .exit))) × (r .count ≤ 4) ⌝ }
+// Statement i of thread t executes; `executes` is where the choice that the thread executes lies.
+pub fn put_active(
+    slots: &[u32],
+    out: &mut [u8],
+    executes: u64,
+    t: u8,
+    i: u16,
+    n: u32,
+) -> Written
+    ensures { λ r. ⌜ (executes ≡ placeOf (now (slots .entry)) (slot choice 0 t) → n ≤ 2000000000
+        → Puts r (placeOf (now (slots .entry))) n (binary and2 (ref (slot flag t i)) (ref (slot choice 0 t))) (now (out .entry)) (now (out .exit))) × (r .count ≤ 4) ⌝ }
 {
     let flag = flag_place(slots, t, i);
-    let executes = place(slots, CHOICE, 0, t as u16, 0);
     put_one(out, n, AND, BIT, flag, executes, 0)
 }
 
@@ -186,34 +191,28 @@ pub fn put_result(
     }
 }
 
-// The test of a conditional jump; `nothing` is where that of others lies.
+// The test of a conditional jump, given where accu, the word 0 and the test of other statements lie.
 pub fn put_test(
     statement: Statement,
-    slots: &[u32],
     out: &mut [u8],
+    accu: u64,
+    nought: u64,
     nothing: u64,
-    t: u8,
-    i: u16,
     n: u32,
 ) -> Written
-    ensures { λ r. ⌜ ((S : Set) (cs : List ℕ) (k : ℕ) → statement ≡ S .statement t i → nothing ≡ placeOf (now (slots .entry)) (slot no 0 0) → n ≤ 2000000000
-        → Puts r (placeOf (now (slots .entry))) n (baseOf S cs k test t i) (now (out .entry)) (now (out .exit))) × (r .count ≤ 4) ⌝ }
+    ensures { λ r. ⌜ ((S : Set) (cs : List ℕ) (k t i : ℕ) (at : Slot → ℕ) → statement ≡ S .statement t i → accu ≡ at (slot accuKind t 0) → nought ≡ at (slot noughtKind 0 0) → nothing ≡ at (slot no 0 0) → n ≤ 2000000000
+        → Puts r at n (baseOf S cs k test t i) (now (out .entry)) (now (out .exit))) × (r .count ≤ 4) ⌝ }
 {
     let k = n as u64;
     let next = k + 1;
     let number = statement.number;
     if (number == instructions::JZ) | (number == instructions::JNZ) {
-        let accu = place(slots, ACCU, t, 0, 2);
-        let nought = place(slots, NOUGHT, 0, 0, 2);
         return put_one(out, n, EQUAL, BIT, accu, nought, 0);
     }
     if (number == instructions::JS) | (number == instructions::JNS) {
-        let accu = place(slots, ACCU, t, 0, 2);
         return put_one(out, n, TOP, BIT, accu, 0, 0);
     }
     if number == instructions::JNZNS {
-        let accu = place(slots, ACCU, t, 0, 2);
-        let nought = place(slots, NOUGHT, 0, 0, 2);
         let first = formula(TOP, BIT, accu, 0, 0);
         let second = formula(EQUAL, BIT, accu, nought, 0);
         let third = formula(OR, BIT, k, next, 0);
@@ -222,46 +221,32 @@ pub fn put_test(
     put_at(nothing)
 }
 
-// The test of a conditional jump does not hold; `nothing` is where the bit of others lies.
-pub fn put_untest(
-    statement: Statement,
-    slots: &[u32],
-    out: &mut [u8],
-    nothing: u64,
-    t: u8,
-    i: u16,
-    n: u32,
-) -> Written
-    ensures { λ r. ⌜ ((S : Set) (cs : List ℕ) (k : ℕ) → statement ≡ S .statement t i → nothing ≡ placeOf (now (slots .entry)) (slot no 0 0) → n ≤ 2000000000
-        → Puts r (placeOf (now (slots .entry))) n (baseOf S cs k untest t i) (now (out .entry)) (now (out .exit))) × (r .count ≤ 4) ⌝ }
+// The test of statement i of thread t, a conditional jump, does not hold.
+pub fn put_untest(slots: &[u32], out: &mut [u8], t: u8, i: u16, n: u32) -> Written
+    ensures { λ r. ⌜ (n ≤ 2000000000 → Puts r (placeOf (now (slots .entry))) n (unary not1 (ref (slot test t i))) (now (out .entry)) (now (out .exit))) × (r .count ≤ 4) ⌝ }
 {
-    let number = statement.number;
-    let jumps = instructions::is_jump(number);
-    if jumps & (number != instructions::JMP) {
-        let test = place(slots, TEST, t, i, 0);
-        return put_one(out, n, NOT, BIT, test, 0, 0);
-    }
-    put_at(nothing)
+    let holds = place(slots, TEST, t, i, 0);
+    put_one(out, n, NOT, BIT, holds, 0, 0)
 }
 
-// Statement i of thread t is the next one unless the thread executes; HALT and EXIT stay.
+// Statement i of thread t is the next one unless the thread executes; HALT and EXIT stay. `executes` and `no` are where the choice and bit 0 lie.
 pub fn put_flag(
     statement: Statement,
     slots: &[u32],
     out: &mut [u8],
+    executes: u64,
+    no: u64,
     t: u8,
     i: u16,
     n: u32,
 ) -> Written
-    ensures { λ r. ⌜ ((S : Set) (cs : List ℕ) (k : ℕ) → statement ≡ S .statement t i → n ≤ 2000000000
+    ensures { λ r. ⌜ ((S : Set) (cs : List ℕ) (k : ℕ) → statement ≡ S .statement t i → executes ≡ placeOf (now (slots .entry)) (slot choice 0 t) → no ≡ placeOf (now (slots .entry)) (slot noKind 0 0) → n ≤ 2000000000
         → Puts r (placeOf (now (slots .entry))) n (baseOf S cs k flag t i) (now (out .entry)) (now (out .exit))) × (r .count ≤ 4) ⌝ }
 {
     let number = statement.number;
     if (number == instructions::HALT) | (number == instructions::EXIT) {
         return put_none(slots, FLAG, t, i, (i == 0) as u64);
     }
-    let executes = place(slots, CHOICE, 0, t as u16, 0);
-    let no = place(slots, NO, 0, 0, 0);
     let flag = flag_place(slots, t, i);
     put_one(out, n, IF, BIT, executes, no, flag)
 }

@@ -1,19 +1,19 @@
 -- Values that a statement does not have keep lying where their constant lies, whatever a step sets; to set one changes nothing. Assumes nothing.
 use Prim.Native.Nat.{ℕ, zero, suc, _+_}
 use mathlib.Core.Path.{_≡_, refl, ap, sym, _∙_, subst, fun-ext}
-use mathlib.Core.Bool.{Bool, true, false, cond, _&&_}
+use mathlib.Core.Bool.{Bool, true, false, cond, _&&_, _||_}
 use mathlib.Core.List.{List, [], _∷_, _++_}
 use lib.Dec.{eqb}
 use lib.ListN.{replicate}
 use borrow.Author.Tests.{eqb-true}
 use Rattle.base.proofs.Choice.{passed, cond-both, and-left, and-right, or-false, refuted, clash}
-use Rattle.records.specs.Instructions.{CAS, JZ, JNZ, JS, JNS, JNZNS}
+use Rattle.records.specs.Instructions.{ADD, ADDI, SUB, SUBI, MUL, MULI, CAS, JZ, JNZ, JS, JNS, JNZNS}
 use Rattle.records.specs.Sets.{Set}
 use Rattle.table.specs.Formulas.{writtenAt}
 use Rattle.table.specs.Programs.{ref, next, root, records, upto, Command, sets, needs, put, compiled, nextAfter, placesAfter}
 use Rattle.table.proofs.Sequences.{places-++}
 use Rattle.encoding.specs.Slots.{Kind, choice, active, opening, shut, barred, held, waits, may, none, fit, one, address, loaded, swaps, result, test, untest, flushTo, writeTo, flushValue, writeValue, raised, exits, codes, heap, val, adr, mem, accu, full, halted, flag, mark, halts, ended, code, no, yes, nought, unit, argument, Slot, slot, same, Term, kinds, kindAt, kindNumber}
-use Rattle.encoding.specs.Steps.{only, word0, loads, isConditional, shape, chain, tree, kept, columns, rows, entry, line, block, blocks, ruled, step}
+use Rattle.encoding.specs.Steps.{only, word0, loads, setsAccu, isConditional, shape, chain, tree, kept, columns, rows, entry, line, block, blocks, ruled, step}
 use Rattle.places.specs.Places.{placeOf}
 use Rattle.places.specs.Pieces.{Writes}
 use Rattle.places.specs.Idle.{Idle}
@@ -90,6 +90,13 @@ put-none places s v e = fun-ext at
 jumps-not : (n m : ℕ) → isConditional m ≡ true → isConditional n ≡ false → eqb n m ≡ false
 jumps-not n m y e = refuted (eqb n m) (λ q. clash (ap isConditional (eqb-true n m q) ∙ y) e)
 
+sets-not : (n m : ℕ) → setsAccu m ≡ true → setsAccu n ≡ false → eqb n m ≡ false
+sets-not n m y e = refuted (eqb n m) (λ q. clash (ap setsAccu (eqb-true n m q) ∙ y) e)
+
+-- a statement that does not change accu does not load
+sets-loads : (n : ℕ) → setsAccu n ≡ false → loads n ≡ false
+sets-loads n e = refuted (loads n) (λ q. clash (ap (λ (b : Bool). b || eqb n ADDI || eqb n SUBI || eqb n MULI || eqb n CAS) q) e)
+
 module _ (S : Set) (cs : List ℕ) (k t i : ℕ) where
   load-tree : loads (S .statement t i .number) ≡ false → tree S cs k loaded t i ≡ ref word0
   unfolding chain
@@ -98,6 +105,16 @@ module _ (S : Set) (cs : List ℕ) (k t i : ℕ) where
   swap-tree : eqb (S .statement t i .number) CAS ≡ false → tree S cs k swaps t i ≡ ref (only no)
   unfolding chain
   swap-tree e = passed _ _ e
+
+  result-tree : setsAccu (S .statement t i .number) ≡ false → tree S cs k result t i ≡ ref (slot loaded t i)
+  unfolding chain
+  result-tree e =
+      let n = S .statement t i .number in
+      passed _ _ (sets-not n ADD refl e)
+      ∙ (passed _ _ (sets-not n ADDI refl e)
+      ∙ (passed _ _ (sets-not n SUB refl e)
+      ∙ (passed _ _ (sets-not n SUBI refl e)
+      ∙ (passed _ _ (sets-not n MUL refl e) ∙ (passed _ _ (sets-not n MULI refl e) ∙ passed _ _ (sets-not n CAS refl e))))))
 
   test-tree : isConditional (S .statement t i .number) ≡ false → tree S cs k test t i ≡ ref (only no)
   unfolding chain
@@ -130,6 +147,7 @@ module _ (S : Set) (cs : List ℕ) (k : ℕ) (places : Slot → ℕ) (n : ℕ) w
   set-idle s idle = record {
     noLoad = λ t i e. set-at s (slot loaded t i) (places (only nought)) (ap (root places n) (load-tree S cs k t i e)) (idle .noLoad t i e) ∙ sym (set-at s (only nought) (places (only nought)) refl refl);
     noSwap = λ t i e. set-at s (slot swaps t i) (places (only no)) (ap (root places n) (swap-tree S cs k t i e)) (idle .noSwap t i e) ∙ sym (set-at s (only no) (places (only no)) refl refl);
+    noResult = λ t i e. set-at s (slot result t i) (places (only nought)) (ap (root places n) (result-tree S cs k t i e) ∙ idle .noLoad t i (sets-loads (S .statement t i .number) e)) (idle .noResult t i e) ∙ sym (set-at s (only nought) (places (only nought)) refl refl);
     noTest = λ t i e. set-at s (slot test t i) (places (only no)) (ap (root places n) (test-tree S cs k t i e)) (idle .noTest t i e) ∙ sym (set-at s (only no) (places (only no)) refl refl);
     noUntest = λ t i e. set-at s (slot untest t i) (places (only no)) (ap (root places n) (untest-tree S cs k t i e)) (idle .noUntest t i e) ∙ sym (set-at s (only no) (places (only no)) refl refl);
   }
@@ -185,7 +203,7 @@ idle-written S P keeps out slots n out1 slots1 n1 w idle = subst (Idle S) (sym (
 
 -- at the start
 pub idle-start : (S : Set) (n : ℕ) → Idle S (placeOf (replicate n 0))
-idle-start S n = subst (Idle S) (sym (place-replicate n)) (record { noLoad = λ t i e. refl; noSwap = λ t i e. refl; noTest = λ t i e. refl; noUntest = λ t i e. refl })
+idle-start S n = subst (Idle S) (sym (place-replicate n)) (record { noLoad = λ t i e. refl; noSwap = λ t i e. refl; noResult = λ t i e. refl; noTest = λ t i e. refl; noUntest = λ t i e. refl })
 
 -- ---- to set such a value changes nothing
 
@@ -203,6 +221,11 @@ module _ (S : Set) (cs : List ℕ) (k : ℕ) (t i : ℕ) (out slots : List ℕ) 
 
     pub no-swap : eqb (S .statement t i .number) CAS ≡ false → Writes (entry S cs k swaps t i) out slots n out slots n
     no-swap e = tree-none (slot swaps t i) (only no) (tree S cs k swaps t i) (swap-tree S cs k t i e) (idle .noSwap t i e)
+
+    pub no-result : setsAccu (S .statement t i .number) ≡ false → Writes (entry S cs k result t i) out slots n out slots n
+    no-result e =
+        tree-none (slot result t i) (slot loaded t i) (tree S cs k result t i) (result-tree S cs k t i e)
+        (idle .noResult t i e ∙ sym (idle .noLoad t i (sets-loads (S .statement t i .number) e)))
 
     pub no-test : isConditional (S .statement t i .number) ≡ false → Writes (entry S cs k test t i) out slots n out slots n
     no-test e = tree-none (slot test t i) (only no) (tree S cs k test t i) (test-tree S cs k t i e) (idle .noTest t i e)

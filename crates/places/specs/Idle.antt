@@ -5,12 +5,14 @@ use mathlib.Core.Bool.{false}
 use lib.Dec.{eqb}
 use Rattle.records.specs.Instructions.{CAS}
 use Rattle.records.specs.Sets.{Set}
-use Rattle.encoding.specs.Slots.{loaded, swaps, test, untest, no, nought, Slot, slot}
-use Rattle.encoding.specs.Steps.{only, loads, isConditional}
+use Rattle.encoding.specs.Slots.{loaded, swaps, result, test, untest, no, nought, Slot, slot}
+use Rattle.encoding.specs.Steps.{only, loads, setsAccu, isConditional}
 
--- the word loaded of a statement that does not load, the swap of one that is no CAS, the tests of one that is no conditional jump
+-- the word loaded of a statement that does not load, the swap of one that is no CAS, the result of one that does not change accu, the tests of one that is
+-- no conditional jump
 pub record Idle (S : Set) (places : Slot → ℕ) : Type 0 where
   pub noLoad : (t i : ℕ) → loads (S .statement t i .number) ≡ false → places (slot loaded t i) ≡ places (only nought)
   pub noSwap : (t i : ℕ) → eqb (S .statement t i .number) CAS ≡ false → places (slot swaps t i) ≡ places (only no)
+  pub noResult : (t i : ℕ) → setsAccu (S .statement t i .number) ≡ false → places (slot result t i) ≡ places (only nought)
   pub noTest : (t i : ℕ) → isConditional (S .statement t i .number) ≡ false → places (slot test t i) ≡ places (only no)
   pub noUntest : (t i : ℕ) → isConditional (S .statement t i .number) ≡ false → places (slot untest t i) ≡ places (only no)

@@ -16,10 +16,10 @@ use Rattle.places.specs.Pieces.{Writes}
 use Rattle.places.specs.Idle.{Idle}
 use Rattle.places.proofs.Pieces.{writes-row, writes-more, below-after}
 use Rattle.places.proofs.Entries.{line-at}
-use Rattle.places.proofs.Idle.{idle-entry, idle-written, no-load, no-swap, no-test, no-untest}
+use Rattle.places.proofs.Idle.{idle-entry, idle-written, no-load, no-swap, no-result, no-test, no-untest}
 use Rattle.bases.specs.Fews.{ofStatement}
 use Rattle.members.specs.Members.{members, membersOf, Members}
-use Rattle.members.proofs.Listed.{members-below}
+use Rattle.members.proofs.Listed.{members-below, members-belong}
 use Rattle.values.specs.Lines.{Stands, Listed}
 use Rattle.values.proofs.Values.{Others, entry-apart, statement-columns, stands-by}
 use Rattle.values.proofs.Members.{belongs, members-none, members-in, members-out, member-at}
@@ -38,6 +38,10 @@ rests-load S cs k t i out slots n idle e = no-load S cs k t i out slots n idle e
 pub rests-swap : Rests 13 4
 unfolding kinds
 rests-swap S cs k t i out slots n idle e = no-swap S cs k t i out slots n idle e
+
+pub rests-result : Rests 14 2
+unfolding kinds
+rests-result S cs k t i out slots n idle e = no-result S cs k t i out slots n idle e
 
 pub rests-test : Rests 15 10
 unfolding kinds
@@ -117,11 +121,11 @@ module _ (kind c : ℕ) (rests : Rests kind c) (set members : List ℕ) (first t
   pub some-none : Some kind c set members first t 0 out slots n out slots n
   some-none S cs k count stands listed idle below = reached-none S cs k kind c t rests out slots n idle below
 
-  -- member j is statement i
+  -- member j is statement i, and of the class
   pub some-more : (j i : ℕ) (out1 slots1 : List ℕ) (n1 : ℕ) (out2 slots2 : List ℕ) (n2 : ℕ) →
       ((S : Set) → Members S members → j < length (membersOf S c t)) → ((S : Set) → Members S members → i ≡ getD (membersOf S c t) j 0) →
       Some kind c set members first t j out slots n out1 slots1 n1 →
-      ((S : Set) (cs : List ℕ) (k count : ℕ) → Stands S set first count t → i < count → i < 32 → ((s : Slot) → placeOf slots1 s < n1) → Others kind slots slots1 →
+      ((S : Set) (cs : List ℕ) (k count : ℕ) → Stands S set first count t → i < count → i < 32 → belongs S c t i ≡ true → ((s : Slot) → placeOf slots1 s < n1) → Others kind slots slots1 →
       Writes (entry S cs k (kindAt kind) t i) out1 slots1 n1 out2 slots2 n2) →
       Some kind c set members first t (j + 1) out slots n out2 slots2 n2
   some-more j i out1 slots1 n1 out2 slots2 n2 inside is some one S cs k count stands listed idle below =
@@ -129,7 +133,8 @@ module _ (kind c : ℕ) (rests : Rests kind c) (set members : List ℕ) (first t
       let less : i < S .count t = let a = members-below S c t (S .count t) j (inside S listed) in let b = is S listed in omega arith in
       let least : i < count = let d = stands .countIs in omega arith in
       let small : i < 32 = let d = listed .few t row in omega arith in
-      reached-more S cs k kind c t rests out slots n j i out1 slots1 n1 out2 slots2 n2 (is S listed) r (one S cs k count stands least small (r .below) (r .others))
+      let mine : belongs S c t i ≡ true = ap (belongs S c t) (is S listed) ∙ members-belong S c t (S .count t) j (inside S listed) in
+      reached-more S cs k kind c t rests out slots n j i out1 slots1 n1 out2 slots2 n2 (is S listed) r (one S cs k count stands least small mine (r .below) (r .others))
 
   -- those of all members are the line
   pub some-line : kind < 41 → ofStatement kind ≡ true → (j : ℕ) → ((S : Set) → Members S members → j ≡ length (membersOf S c t)) → (out1 slots1 : List ℕ) (n1 : ℕ) →

@@ -45,10 +45,11 @@ fn actives(
     requires { ⌜ (count ≤ 32) × (t < 4) × (n ≤ 1700000000) × (length (now slots) ≡ size) ⌝ }
     ensures { λ r. ⌜ (Line active (now (set .entry)) first count t (now (out .entry)) (now (slots .entry)) n (now (out .exit)) (now (slots .exit)) r) × (r ≤ n + 1152) ⌝ }
 {
+    let executes = places::place(slots, kinds::CHOICE, 0, t as u16, 0);
     let mut next = n;
     let mut i: u16 = 0;
     while i < count {
-        let tree = bases::put_active(slots, out, t, i, next);
+        let tree = bases::put_active(slots, out, executes, t, i, next);
         next = settle(slots, kinds::ACTIVE, t, i, next, tree);
         i += 1;
     }
@@ -135,26 +136,28 @@ fn swaps(
     next
 }
 
-// What accu becomes by each statement.
+// What accu becomes by each statement; those that do not change it have their word already.
 fn results(
     set: &[u8],
+    members: &[u8],
     first: u16,
-    count: u16,
     slots: &mut [u32],
     out: &mut [u8],
     t: u8,
     n: u32,
 ) -> u32
-    requires { ⌜ (count ≤ 32) × (t < 4) × (n ≤ 1700000000) × (length (now slots) ≡ size) ⌝ }
-    ensures { λ r. ⌜ (Line result (now (set .entry)) first count t (now (out .entry)) (now (slots .entry)) n (now (out .exit)) (now (slots .exit)) r) × (r ≤ n + 1152) ⌝ }
+    requires { ⌜ (t < 4) × (n ≤ 1700000000) × (length (now slots) ≡ size) ⌝ }
+    ensures { λ r. ⌜ (Listed result (now (set .entry)) (now (members .entry)) first t (now (out .entry)) (now (slots .entry)) n (now (out .exit)) (now (slots .exit)) r) × (r ≤ n + 1152) ⌝ }
 {
     let mut next = n;
-    let mut i: u16 = 0;
-    while i < count {
+    let computing = members::count_of(members, members::SETS_ACCU, t);
+    let mut j: u16 = 0;
+    while j < computing {
+        let i = members::member(members, members::SETS_ACCU, t, j);
         let statement = records::statement_at(set, (first as u32) + (i as u32));
         let tree = bases::put_result(statement, slots, out, t, i, next);
         next = settle(slots, kinds::RESULT, t, i, next, tree);
-        i += 1;
+        j += 1;
     }
     next
 }
@@ -172,6 +175,8 @@ fn tests(
     requires { ⌜ (t < 4) × (n ≤ 1700000000) × (length (now slots) ≡ size) ⌝ }
     ensures { λ r. ⌜ (Listed test (now (set .entry)) (now (members .entry)) first t (now (out .entry)) (now (slots .entry)) n (now (out .exit)) (now (slots .exit)) r) × (r ≤ n + 1152) ⌝ }
 {
+    let accu = places::place(slots, kinds::ACCU, t, 0, 2);
+    let nought = places::place(slots, kinds::NOUGHT, 0, 0, 2);
     let nothing = places::place(slots, kinds::NO, 0, 0, 0);
     let mut next = n;
     let tested = members::count_of(members, members::IS_CONDITIONAL, t);
@@ -179,7 +184,7 @@ fn tests(
     while j < tested {
         let i = members::member(members, members::IS_CONDITIONAL, t, j);
         let statement = records::statement_at(set, (first as u32) + (i as u32));
-        let tree = bases::put_test(statement, slots, out, nothing, t, i, next);
+        let tree = bases::put_test(statement, out, accu, nought, nothing, next);
         next = settle(slots, kinds::TEST, t, i, next, tree);
         j += 1;
     }
@@ -187,26 +192,16 @@ fn tests(
 }
 
 // Whether the test of each statement does not hold; those that are no conditional jump have this bit already.
-fn untests(
-    set: &[u8],
-    members: &[u8],
-    first: u16,
-    slots: &mut [u32],
-    out: &mut [u8],
-    t: u8,
-    n: u32,
-) -> u32
+fn untests(members: &[u8], slots: &mut [u32], out: &mut [u8], t: u8, n: u32) -> u32
     requires { ⌜ (t < 4) × (n ≤ 1700000000) × (length (now slots) ≡ size) ⌝ }
-    ensures { λ r. ⌜ (Listed untest (now (set .entry)) (now (members .entry)) first t (now (out .entry)) (now (slots .entry)) n (now (out .exit)) (now (slots .exit)) r) × (r ≤ n + 1152) ⌝ }
+    ensures { λ r. ⌜ ((set : List ℕ) (first : ℕ) → Listed untest set (now (members .entry)) first t (now (out .entry)) (now (slots .entry)) n (now (out .exit)) (now (slots .exit)) r) × (r ≤ n + 1152) ⌝ }
 {
-    let nothing = places::place(slots, kinds::NO, 0, 0, 0);
     let mut next = n;
     let untested = members::count_of(members, members::IS_CONDITIONAL, t);
     let mut j: u16 = 0;
     while j < untested {
         let i = members::member(members, members::IS_CONDITIONAL, t, j);
-        let statement = records::statement_at(set, (first as u32) + (i as u32));
-        let tree = bases::put_untest(statement, slots, out, nothing, t, i, next);
+        let tree = bases::put_untest(slots, out, t, i, next);
         next = settle(slots, kinds::UNTEST, t, i, next, tree);
         j += 1;
     }
@@ -267,6 +262,9 @@ pub fn statement_line(
     if slots.len() != 2304 {
         return n;
     }
+    if members.len() != 1452 {
+        return n;
+    }
     if 1700000000 < n {
         return n;
     }
@@ -277,9 +275,9 @@ pub fn statement_line(
         kinds::ADDRESS => addresses(set, first, count, slots, out, t, n),
         kinds::LOADED => loads(set, members, first, slots, out, t, n),
         kinds::SWAPS => swaps(set, members, first, slots, out, t, n),
-        kinds::RESULT => results(set, first, count, slots, out, t, n),
+        kinds::RESULT => results(set, members, first, slots, out, t, n),
         kinds::TEST => tests(set, members, first, slots, out, t, n),
-        kinds::UNTEST => untests(set, members, first, slots, out, t, n),
+        kinds::UNTEST => untests(members, slots, out, t, n),
         kinds::ARGUMENT => arguments(set, first, count, slots, out, t, n),
         _ => n,
     }

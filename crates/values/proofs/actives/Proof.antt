@@ -5,22 +5,25 @@ use native.Mathlib.Omega.{arith}
 use lib.ListN.{length}
 use denote.Ref.{now}
 use borrow.Author.Needs.{needs}
-use Rattle.encoding.specs.Slots.{kinds}
+use Rattle.encoding.specs.Slots.{kinds, choice}
 use Rattle.values.proofs.Values.{Row, row-none, row-more, row-line}
 use Rattle.values.proofs.actives.Statement.{statement}
 use Rattle.values.proofs.actives.Tie as tie
 
 abbrev Inv-loop : tie.InvT-loop
-Inv-loop set first count slots₀ out₀ t n next₀ i₀ slots out next i =
+Inv-loop set first count slots₀ out₀ t n executes next₀ i₀ slots out next i =
     (i ≤ count) × (next ≤ n + 4 * i) × (length out ≡ length out₀) × (length slots ≡ length slots₀)
     × (Row 1 set first count t i out₀ slots₀ n out slots next)
 
 abbrev μ-loop : tie.MeasureT-loop
-μ-loop set first count slots₀ out₀ t n next₀ i₀ slots out next i = count - i
+μ-loop set first count slots₀ out₀ t n executes next₀ i₀ slots out next i = count - i
+
+place-requires : tie.Need-place-requires Inv-loop μ-loop
+place-requires c κs = search needs
 
 loop-holds : tie.Need-loop-holds Inv-loop μ-loop
 loop-holds c =
-    let a = c .before .before .before .args in
+    let a = c .before .before .before .before .before .args in
     (omega arith, omega arith, refl, refl, row-none 1 (now (a .set)) (a .first) (a .count) (a .t) (now (a .out)) (now (a .slots)) (a .n))
 
 put-active-requires : tie.Need-put-active-requires Inv-loop μ-loop
@@ -38,9 +41,10 @@ loop-less c = search needs
 loop-again : tie.Need-loop-again Inv-loop μ-loop
 unfolding kinds
 loop-again c =
-    let a = c .before .before .before .before .before .before .before .before .before .before .before .before .before .before .args in
-    let q = c .before .before .before .before .before .before .before .before .before .before .before .before .before .before .pre in
+    let a = c .before .before .before .before .before .before .before .before .before .before .before .before .before .before .before .before .args in
+    let q = c .before .before .before .before .before .before .before .before .before .before .before .before .before .before .before .before .pre in
     let l = c .before .before .before .before .before .before .before .before .before .before .loop in
+    let lies = c .before .before .before .before .before .before .before .before .before .before .before .place .ensures in
     let put = c .before .before .before .before .before .before .put-active in
     let settled = c .before .before .settle in
     let small : l .i < 32 = let few = q .0 in omega arith in
@@ -51,7 +55,7 @@ loop-again c =
       search needs,
       row-more 1 (now (a .set)) (a .first) (a .count) (a .t) (now (a .out)) (now (a .slots)) (a .n) (l .i) (l .out) (l .slots) (l .next) _ _ _ (l .inv .4)
           (λ S cs k stands below others. settled .ensures .0 S cs k (l .out) _ (omega arith) refl (q .1) small (l .inv .3 ∙ q .3) below
-          (put .ensures .0 room)),
+          (put .ensures .0 (lies ∙ others choice 0 (a .t) refl) room)),
     )
 
 same-length : tie.Need-same-length Inv-loop μ-loop
@@ -63,8 +67,8 @@ same-length-2 c = search needs
 returns : tie.Need-returns Inv-loop μ-loop
 unfolding kinds
 returns c =
-    let a = c .before .before .before .before .before .args in
-    let few = c .before .before .before .before .before .pre .0 in
+    let a = c .before .before .before .before .before .before .before .args in
+    let few = c .before .before .before .before .before .before .before .pre .0 in
     let l = c .before .loop in
     let all : l .i ≡ a .count = omega arith in (
       row-line 1 (now (a .set)) (a .first) (a .count) (a .t) (now (a .out)) (now (a .slots)) (a .n) (omega arith) refl (l .i) all (l .out) (l .slots) (l .next) (l .inv .4),
@@ -77,6 +81,7 @@ actives-spec =
     (tie.spec
     Inv-loop
     μ-loop
+    place-requires
     loop-holds
     put-active-requires
     settle-requires

@@ -1,27 +1,34 @@
 -- `values::results` meets its contract. Assumes nothing.
-use Prim.Native.Nat.{_+_, _-_, _*_, _≤_, _<_}
+use Prim.Native.Nat.{_+_, _-_, _*_, _≤_}
 use mathlib.Core.Path.{_≡_, refl, sym, _∙_}
 use native.Mathlib.Omega.{arith}
 use lib.ListN.{length}
 use denote.Ref.{now}
 use borrow.Author.Needs.{needs}
 use Rattle.encoding.specs.Slots.{kinds}
-use Rattle.values.proofs.Values.{Row, row-none, row-more, row-line}
+use Rattle.values.proofs.Listed.{Some, some-none, some-more, some-line, rests-result}
 use Rattle.values.proofs.results.Statement.{statement}
 use Rattle.values.proofs.results.Tie as tie
 
 abbrev Inv-loop : tie.InvT-loop
-Inv-loop set first count slots₀ out₀ t n next₀ i₀ slots out next i =
-    (i ≤ count) × (next ≤ n + 4 * i) × (length out ≡ length out₀) × (length slots ≡ length slots₀)
-    × (Row 14 set first count t i out₀ slots₀ n out slots next)
+Inv-loop set members first slots₀ out₀ t n next₀ computing j₀ slots out next j =
+    (j ≤ computing) × (next ≤ n + 4 * j) × (length out ≡ length out₀) × (length slots ≡ length slots₀)
+    × (Some 14 2 set members first t j out₀ slots₀ n out slots next)
 
 abbrev μ-loop : tie.MeasureT-loop
-μ-loop set first count slots₀ out₀ t n next₀ i₀ slots out next i = count - i
+μ-loop set members first slots₀ out₀ t n next₀ computing j₀ slots out next j = computing - j
+
+count-of-requires : tie.Need-count-of-requires Inv-loop μ-loop
+count-of-requires c κs = search needs
 
 loop-holds : tie.Need-loop-holds Inv-loop μ-loop
 loop-holds c =
-    let a = c .before .before .before .args in
-    (omega arith, omega arith, refl, refl, row-none 14 (now (a .set)) (a .first) (a .count) (a .t) (now (a .out)) (now (a .slots)) (a .n))
+    let a = c .before .before .before .before .before .args in
+    let q = c .before .before .before .before .before .pre in
+    (omega arith, omega arith, refl, refl, some-none 14 2 rests-result (now (a .set)) (now (a .members)) (a .first) (a .t) (q .0) (now (a .out)) (now (a .slots)) (a .n))
+
+member-requires : tie.Need-member-requires Inv-loop μ-loop
+member-requires c κs = search needs
 
 cast-statement-at : tie.Need-cast-statement-at Inv-loop μ-loop
 cast-statement-at c = search needs
@@ -38,8 +45,8 @@ put-result-requires c κs = search needs
 settle-requires : tie.Need-settle-requires Inv-loop μ-loop
 settle-requires c κs = search needs
 
-add-i : tie.Need-add-i Inv-loop μ-loop
-add-i c = search needs
+add-j : tie.Need-add-j Inv-loop μ-loop
+add-j c = search needs
 
 loop-less : tie.Need-loop-less Inv-loop μ-loop
 loop-less c = search needs
@@ -47,21 +54,25 @@ loop-less c = search needs
 loop-again : tie.Need-loop-again Inv-loop μ-loop
 unfolding kinds
 loop-again c =
-    let a = c .before .before .before .before .before .before .before .before .before .before .before .before .before .before .before .args in
-    let q = c .before .before .before .before .before .before .before .before .before .before .before .before .before .before .before .pre in
-    let l = c .before .before .before .before .before .before .before .before .before .before .before .loop in
+    let a = c .before .before .before .before .before .before .before .before .before .before .before .before .before .before .before .before .before .before .args in
+    let q = c .before .before .before .before .before .before .before .before .before .before .before .before .before .before .before .before .before .before .pre in
+    let counted = c .before .before .before .before .before .before .before .before .before .before .before .before .before .count-of .ensures in
+    let l = c .before .before .before .before .before .before .before .before .before .before .before .before .loop in
+    let named = c .before .before .before .before .before .before .before .before .before .before .member .ensures in
+    let read = c .before .before .before .before .before .before .before .before .before .statement-at .ensures in
     let put = c .before .before .before .before .before .before .put-result in
     let settled = c .before .before .settle in
-    let less : l .i < a .count = omega arith in
-    let small : l .i < 32 = let few = q .0 in omega arith in
-    let room : l .next ≤ 2000000000 = let few = q .0 in let h = q .2 in let m = l .inv .1 in omega arith in (
+    let room : l .next ≤ 2000000000 = let few = counted .1 in let h = q .1 in let m = l .inv .1 in omega arith in (
       omega arith,
       (let m = settled .ensures .2 in let h = l .inv .1 in omega arith),
       search needs,
       search needs,
-      row-more 14 (now (a .set)) (a .first) (a .count) (a .t) (now (a .out)) (now (a .slots)) (a .n) (l .i) (l .out) (l .slots) (l .next) _ _ _ (l .inv .4)
-          (λ S cs k stands below others. settled .ensures .0 S cs k (l .out) _ (omega arith) refl (q .1) small (l .inv .3 ∙ q .3) below
-          (put .ensures .0 S cs k (c .before .before .before .before .before .before .before .before .before .statement-at .ensures ∙ sym (stands .statementIs (l .i) less)) room)),
+      some-more 14 2 rests-result (now (a .set)) (now (a .members)) (a .first) (a .t) (q .0) (now (a .out)) (now (a .slots)) (a .n) (l .j) _ (l .out) (l .slots) (l .next) _ _ _
+          (λ S listed. let e = counted .0 S listed (omega arith) (q .0) in omega arith)
+          (λ S listed. named S listed (omega arith) (q .0) (let e = counted .0 S listed (omega arith) (q .0) in omega arith))
+          (l .inv .4)
+          (λ S cs k count stands less small mine below others. settled .ensures .0 S cs k (l .out) _ (omega arith) refl (q .0) small (l .inv .3 ∙ q .2) below
+          (put .ensures .0 S cs k (read ∙ sym (stands .statementIs _ less)) room)),
     )
 
 same-length : tie.Need-same-length Inv-loop μ-loop
@@ -73,12 +84,13 @@ same-length-2 c = search needs
 returns : tie.Need-returns Inv-loop μ-loop
 unfolding kinds
 returns c =
-    let a = c .before .before .before .before .before .args in
-    let few = c .before .before .before .before .before .pre .0 in
-    let l = c .before .loop in
-    let all : l .i ≡ a .count = omega arith in (
-      row-line 14 (now (a .set)) (a .first) (a .count) (a .t) (now (a .out)) (now (a .slots)) (a .n) (omega arith) refl (l .i) all (l .out) (l .slots) (l .next) (l .inv .4),
-      (let m = l .inv .1 in omega arith),
+    let a = c .before .before .before .before .before .before .before .args in
+    let q = c .before .before .before .before .before .before .before .pre in
+    let counted = c .before .before .count-of .ensures in
+    let l = c .before .loop in (
+      some-line 14 2 rests-result (now (a .set)) (now (a .members)) (a .first) (a .t) (q .0) (now (a .out)) (now (a .slots)) (a .n) (omega arith) refl (l .j)
+          (λ S listed. let e = counted .0 S listed (omega arith) (q .0) in omega arith) (l .out) (l .slots) (l .next) (l .inv .4),
+      (let few = counted .1 in let m = l .inv .1 in omega arith),
     )
 
 pub results-spec : {M : Type 1} → statement M
@@ -87,13 +99,15 @@ results-spec =
     (tie.spec
     Inv-loop
     μ-loop
+    count-of-requires
     loop-holds
+    member-requires
     cast-statement-at
     add-statement-at
     statement-at-requires
     put-result-requires
     settle-requires
-    add-i
+    add-j
     loop-less
     loop-again
     same-length

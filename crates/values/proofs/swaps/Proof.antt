@@ -75,7 +75,7 @@ loop-again c =
           (λ S listed. let e = counted .0 S listed (omega arith) (q .0) in omega arith)
           (λ S listed. named S listed (omega arith) (q .0) (let e = counted .0 S listed (omega arith) (q .0) in omega arith))
           (l .inv .4)
-          (λ S cs k count stands less small below others. settled .ensures .0 S cs k (l .out) _ (omega arith) refl (q .0) small (l .inv .3 ∙ q .2) below
+          (λ S cs k count stands less small mine below others. settled .ensures .0 S cs k (l .out) _ (omega arith) refl (q .0) small (l .inv .3 ∙ q .2) below
           (put .ensures .0 S cs k (read ∙ sym (stands .statementIs _ less)) (lies ∙ others no 0 0 refl) room)),
     )
 

@@ -5,29 +5,35 @@ use native.Mathlib.Omega.{arith}
 use lib.ListN.{length}
 use denote.Ref.{now}
 use borrow.Author.Needs.{needs}
-use Rattle.encoding.specs.Slots.{kinds, no}
+use Rattle.encoding.specs.Slots.{kinds, accu, no, nought}
 use Rattle.values.proofs.Listed.{Some, some-none, some-more, some-line, rests-test}
 use Rattle.values.proofs.tests.Statement.{statement}
 use Rattle.values.proofs.tests.Tie as tie
 
 abbrev Inv-loop : tie.InvT-loop
-Inv-loop set members first slots₀ out₀ t n nothing next₀ tested j₀ slots out next j =
+Inv-loop set members first slots₀ out₀ t n stored zero nothing next₀ tested j₀ slots out next j =
     (j ≤ tested) × (next ≤ n + 4 * j) × (length out ≡ length out₀) × (length slots ≡ length slots₀)
     × (Some 15 10 set members first t j out₀ slots₀ n out slots next)
 
 abbrev μ-loop : tie.MeasureT-loop
-μ-loop set members first slots₀ out₀ t n nothing next₀ tested j₀ slots out next j = tested - j
+μ-loop set members first slots₀ out₀ t n stored zero nothing next₀ tested j₀ slots out next j = tested - j
 
 place-requires : tie.Need-place-requires Inv-loop μ-loop
 place-requires c κs = search needs
+
+place-requires-2 : tie.Need-place-requires-2 Inv-loop μ-loop
+place-requires-2 c κs = search needs
+
+place-requires-3 : tie.Need-place-requires-3 Inv-loop μ-loop
+place-requires-3 c κs = search needs
 
 count-of-requires : tie.Need-count-of-requires Inv-loop μ-loop
 count-of-requires c κs = search needs
 
 loop-holds : tie.Need-loop-holds Inv-loop μ-loop
 loop-holds c =
-    let a = c .before .before .before .before .before .before .before .args in
-    let q = c .before .before .before .before .before .before .before .pre in
+    let a = c .before .before .before .before .before .before .before .before .before .before .before .args in
+    let q = c .before .before .before .before .before .before .before .before .before .before .before .pre in
     (omega arith, omega arith, refl, refl, some-none 15 10 rests-test (now (a .set)) (now (a .members)) (a .first) (a .t) (q .0) (now (a .out)) (now (a .slots)) (a .n))
 
 member-requires : tie.Need-member-requires Inv-loop μ-loop
@@ -46,7 +52,7 @@ put-test-requires : tie.Need-put-test-requires Inv-loop μ-loop
 put-test-requires c κs = search needs
 
 settle-requires : tie.Need-settle-requires Inv-loop μ-loop
-settle-requires c κs = search needs
+settle-requires c κs = let few = c .before .before .before .before .before .before .before .before .before .count-of .ensures .1 in let h = c .before .before .before .before .before .before .before .before .before .before .before .before .before .before .before .before .before .before .before .before .pre .1 in search needs
 
 add-j : tie.Need-add-j Inv-loop μ-loop
 add-j c = search needs
@@ -57,13 +63,15 @@ loop-less c = search needs
 loop-again : tie.Need-loop-again Inv-loop μ-loop
 unfolding kinds
 loop-again c =
-    let a = c .before .before .before .before .before .before .before .before .before .before .before .before .before .before .before .before .before .before .before .before .args in
-    let q = c .before .before .before .before .before .before .before .before .before .before .before .before .before .before .before .before .before .before .before .before .pre in
-    let lies = c .before .before .before .before .before .before .before .before .before .before .before .before .before .before .place .ensures in
-    let counted = c .before .before .before .before .before .before .before .before .before .before .before .before .before .count-of .ensures in
-    let l = c .before .before .before .before .before .before .before .before .before .before .before .before .loop in
-    let named = c .before .before .before .before .before .before .before .before .before .before .member .ensures in
-    let read = c .before .before .before .before .before .before .before .before .before .statement-at .ensures in
+    let a = c .before .before .before .before .before .before .before .before .before .before .before .before .before .before .before .before .before .before .before .before .before .before .before .args in
+    let q = c .before .before .before .before .before .before .before .before .before .before .before .before .before .before .before .before .before .before .before .before .before .before .before .pre in
+    let stored = c .before .before .before .before .before .before .before .before .before .before .before .before .before .before .before .before .before .place .ensures in
+    let zero = c .before .before .before .before .before .before .before .before .before .before .before .before .before .before .before .place2 .ensures in
+    let lies = c .before .before .before .before .before .before .before .before .before .before .before .before .before .place3 .ensures in
+    let counted = c .before .before .before .before .before .before .before .before .before .before .before .before .count-of .ensures in
+    let l = c .before .before .before .before .before .before .before .before .before .before .before .loop in
+    let named = c .before .before .before .before .before .before .before .before .before .member .ensures in
+    let read = c .before .before .before .before .before .before .before .before .statement-at .ensures in
     let put = c .before .before .before .before .before .before .put-test in
     let settled = c .before .before .settle in
     let room : l .next ≤ 2000000000 = let few = counted .1 in let h = q .1 in let m = l .inv .1 in omega arith in (
@@ -75,8 +83,8 @@ loop-again c =
           (λ S listed. let e = counted .0 S listed (omega arith) (q .0) in omega arith)
           (λ S listed. named S listed (omega arith) (q .0) (let e = counted .0 S listed (omega arith) (q .0) in omega arith))
           (l .inv .4)
-          (λ S cs k count stands less small below others. settled .ensures .0 S cs k (l .out) _ (omega arith) refl (q .0) small (l .inv .3 ∙ q .2) below
-          (put .ensures .0 S cs k (read ∙ sym (stands .statementIs _ less)) (lies ∙ others no 0 0 refl) room)),
+          (λ S cs k count stands less small mine below others. settled .ensures .0 S cs k (l .out) _ (omega arith) refl (q .0) small (l .inv .3 ∙ q .2) below
+          (put .ensures .0 S cs k (a .t) _ _ (read ∙ sym (stands .statementIs _ less)) (stored ∙ others accu (a .t) 0 refl) (zero ∙ others nought 0 0 refl) (lies ∙ others no 0 0 refl) room)),
     )
 
 same-length : tie.Need-same-length Inv-loop μ-loop
@@ -88,8 +96,8 @@ same-length-2 c = search needs
 returns : tie.Need-returns Inv-loop μ-loop
 unfolding kinds
 returns c =
-    let a = c .before .before .before .before .before .before .before .before .before .args in
-    let q = c .before .before .before .before .before .before .before .before .before .pre in
+    let a = c .before .before .before .before .before .before .before .before .before .before .before .before .before .args in
+    let q = c .before .before .before .before .before .before .before .before .before .before .before .before .before .pre in
     let counted = c .before .before .count-of .ensures in
     let l = c .before .loop in (
       some-line 15 10 rests-test (now (a .set)) (now (a .members)) (a .first) (a .t) (q .0) (now (a .out)) (now (a .slots)) (a .n) (omega arith) refl (l .j)
@@ -104,6 +112,8 @@ tests-spec =
     Inv-loop
     μ-loop
     place-requires
+    place-requires-2
+    place-requires-3
     count-of-requires
     loop-holds
     member-requires

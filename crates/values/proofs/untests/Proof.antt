@@ -1,46 +1,37 @@
 -- `values::untests` meets its contract. Assumes nothing.
-use Prim.Native.Nat.{_+_, _-_, _*_, _≤_}
-use mathlib.Core.Path.{_≡_, refl, sym, _∙_}
+use Prim.Native.Nat.{ℕ, _+_, _-_, _*_, _≤_}
+use mathlib.Core.Path.{_≡_, refl, _∙_}
+use mathlib.Core.List.{List}
 use native.Mathlib.Omega.{arith}
 use lib.ListN.{length}
 use denote.Ref.{now}
 use borrow.Author.Needs.{needs}
-use Rattle.encoding.specs.Slots.{kinds, no}
+use Rattle.base.proofs.Choice.{chosen}
+use Rattle.bases.proofs.Given.{puts-as}
+use Rattle.encoding.specs.Slots.{kinds}
 use Rattle.values.proofs.Listed.{Some, some-none, some-more, some-line, rests-untest}
 use Rattle.values.proofs.untests.Statement.{statement}
 use Rattle.values.proofs.untests.Tie as tie
 
 abbrev Inv-loop : tie.InvT-loop
-Inv-loop set members first slots₀ out₀ t n nothing next₀ untested j₀ slots out next j =
+Inv-loop members slots₀ out₀ t n next₀ untested j₀ slots out next j =
     (j ≤ untested) × (next ≤ n + 4 * j) × (length out ≡ length out₀) × (length slots ≡ length slots₀)
-    × (Some 16 10 set members first t j out₀ slots₀ n out slots next)
+    × ((set : List ℕ) (first : ℕ) → Some 16 10 set members first t j out₀ slots₀ n out slots next)
 
 abbrev μ-loop : tie.MeasureT-loop
-μ-loop set members first slots₀ out₀ t n nothing next₀ untested j₀ slots out next j = untested - j
-
-place-requires : tie.Need-place-requires Inv-loop μ-loop
-place-requires c κs = search needs
+μ-loop members slots₀ out₀ t n next₀ untested j₀ slots out next j = untested - j
 
 count-of-requires : tie.Need-count-of-requires Inv-loop μ-loop
 count-of-requires c κs = search needs
 
 loop-holds : tie.Need-loop-holds Inv-loop μ-loop
 loop-holds c =
-    let a = c .before .before .before .before .before .before .before .args in
-    let q = c .before .before .before .before .before .before .before .pre in
-    (omega arith, omega arith, refl, refl, some-none 16 10 rests-untest (now (a .set)) (now (a .members)) (a .first) (a .t) (q .0) (now (a .out)) (now (a .slots)) (a .n))
+    let a = c .before .before .before .before .args in
+    let q = c .before .before .before .before .pre in
+    (omega arith, omega arith, refl, refl, λ set first. some-none 16 10 rests-untest set (now (a .members)) first (a .t) (q .0) (now (a .out)) (now (a .slots)) (a .n))
 
 member-requires : tie.Need-member-requires Inv-loop μ-loop
 member-requires c κs = search needs
-
-cast-statement-at : tie.Need-cast-statement-at Inv-loop μ-loop
-cast-statement-at c = search needs
-
-add-statement-at : tie.Need-add-statement-at Inv-loop μ-loop
-add-statement-at c = search needs
-
-statement-at-requires : tie.Need-statement-at-requires Inv-loop μ-loop
-statement-at-requires c κs = search needs
 
 put-untest-requires : tie.Need-put-untest-requires Inv-loop μ-loop
 put-untest-requires c κs = search needs
@@ -57,13 +48,11 @@ loop-less c = search needs
 loop-again : tie.Need-loop-again Inv-loop μ-loop
 unfolding kinds
 loop-again c =
-    let a = c .before .before .before .before .before .before .before .before .before .before .before .before .before .before .before .before .before .before .before .before .args in
-    let q = c .before .before .before .before .before .before .before .before .before .before .before .before .before .before .before .before .before .before .before .before .pre in
-    let lies = c .before .before .before .before .before .before .before .before .before .before .before .before .before .before .place .ensures in
-    let counted = c .before .before .before .before .before .before .before .before .before .before .before .before .before .count-of .ensures in
-    let l = c .before .before .before .before .before .before .before .before .before .before .before .before .loop in
-    let named = c .before .before .before .before .before .before .before .before .before .before .member .ensures in
-    let read = c .before .before .before .before .before .before .before .before .before .statement-at .ensures in
+    let a = c .before .before .before .before .before .before .before .before .before .before .before .before .before .before .before .before .args in
+    let q = c .before .before .before .before .before .before .before .before .before .before .before .before .before .before .before .before .pre in
+    let counted = c .before .before .before .before .before .before .before .before .before .before .before .before .count-of .ensures in
+    let l = c .before .before .before .before .before .before .before .before .before .before .before .loop in
+    let named = c .before .before .before .before .before .before .before .before .before .member .ensures in
     let put = c .before .before .before .before .before .before .put-untest in
     let settled = c .before .before .settle in
     let room : l .next ≤ 2000000000 = let few = counted .1 in let h = q .1 in let m = l .inv .1 in omega arith in (
@@ -71,12 +60,12 @@ loop-again c =
       (let m = settled .ensures .2 in let h = l .inv .1 in omega arith),
       search needs,
       search needs,
-      some-more 16 10 rests-untest (now (a .set)) (now (a .members)) (a .first) (a .t) (q .0) (now (a .out)) (now (a .slots)) (a .n) (l .j) _ (l .out) (l .slots) (l .next) _ _ _
+      λ set first. some-more 16 10 rests-untest set (now (a .members)) first (a .t) (q .0) (now (a .out)) (now (a .slots)) (a .n) (l .j) _ (l .out) (l .slots) (l .next) _ _ _
           (λ S listed. let e = counted .0 S listed (omega arith) (q .0) in omega arith)
           (λ S listed. named S listed (omega arith) (q .0) (let e = counted .0 S listed (omega arith) (q .0) in omega arith))
-          (l .inv .4)
-          (λ S cs k count stands less small below others. settled .ensures .0 S cs k (l .out) _ (omega arith) refl (q .0) small (l .inv .3 ∙ q .2) below
-          (put .ensures .0 S cs k (read ∙ sym (stands .statementIs _ less)) (lies ∙ others no 0 0 refl) room)),
+          (l .inv .4 set first)
+          (λ S cs k count stands less small mine below others. settled .ensures .0 S cs k (l .out) _ (omega arith) refl (q .0) small (l .inv .3 ∙ q .2) below
+          (puts-as (chosen _ _ mine) (put .ensures .0 room))),
     )
 
 same-length : tie.Need-same-length Inv-loop μ-loop
@@ -88,12 +77,12 @@ same-length-2 c = search needs
 returns : tie.Need-returns Inv-loop μ-loop
 unfolding kinds
 returns c =
-    let a = c .before .before .before .before .before .before .before .before .before .args in
-    let q = c .before .before .before .before .before .before .before .before .before .pre in
+    let a = c .before .before .before .before .before .before .args in
+    let q = c .before .before .before .before .before .before .pre in
     let counted = c .before .before .count-of .ensures in
     let l = c .before .loop in (
-      some-line 16 10 rests-untest (now (a .set)) (now (a .members)) (a .first) (a .t) (q .0) (now (a .out)) (now (a .slots)) (a .n) (omega arith) refl (l .j)
-          (λ S listed. let e = counted .0 S listed (omega arith) (q .0) in omega arith) (l .out) (l .slots) (l .next) (l .inv .4),
+      (λ set first. some-line 16 10 rests-untest set (now (a .members)) first (a .t) (q .0) (now (a .out)) (now (a .slots)) (a .n) (omega arith) refl (l .j)
+          (λ S listed. let e = counted .0 S listed (omega arith) (q .0) in omega arith) (l .out) (l .slots) (l .next) (l .inv .4 set first)),
       (let few = counted .1 in let m = l .inv .1 in omega arith),
     )
 
@@ -103,13 +92,9 @@ untests-spec =
     (tie.spec
     Inv-loop
     μ-loop
-    place-requires
     count-of-requires
     loop-holds
     member-requires
-    cast-statement-at
-    add-statement-at
-    statement-at-requires
     put-untest-requires
     settle-requires
     add-j

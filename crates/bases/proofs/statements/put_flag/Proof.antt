@@ -12,6 +12,11 @@ use Rattle.bases.proofs.Given.{gives-ternary, puts-as}
 use borrow.Author.Needs.{needs}
 use Rattle.bases.proofs.statements.put_flag.Statement.{statement}
 use Rattle.bases.proofs.statements.put_flag.Tie as tie
+use Rattle.bases.proofs.statements.put_flag.Reads as reads
+use Rattle.bases.proofs.statements.put_flag.Lts as lts
+use Rattle.bases.proofs.statements.flag_place.Reads as flag-place-reads
+use Rattle.bases.proofs.written.put_none.Reads as put-none-reads
+use Rattle.bases.proofs.written.put_one.Reads as put-one-reads
 
 cast-put-none : tie.Need-cast-put-none
 cast-put-none c = search needs
@@ -22,16 +27,10 @@ put-none-requires c κs = search needs
 returns : tie.Need-returns
 returns c =
     let a = c .before .before .before .before .args in (
-      λ S cs k e h. puts-as (chosen _ _ (ap (λ (s : Statement). rests (s .number)) (sym e) ∙ c .before .if1 .taken))
+      λ S cs k e v w h. puts-as (chosen _ _ (ap (λ (s : Statement). rests (s .number)) (sym e) ∙ c .before .if1 .taken))
           (c .put-none .ensures .0 (a .n) flag (now (a .out)) refl (cast-test (eqb (a .i) 0))),
       c .put-none .ensures .1,
     )
-
-place-requires : tie.Need-place-requires
-place-requires c κs = search needs
-
-place-requires-2 : tie.Need-place-requires-2
-place-requires-2 c κs = search needs
 
 flag-place-requires : tie.Need-flag-place-requires
 flag-place-requires c κs = search needs
@@ -44,10 +43,10 @@ same-length c = search needs
 
 returns-2 : tie.Need-returns-2
 returns-2 c =
-    let a = c .before .before .before .before .before .before .before .before .before .before .args in (
-      λ S cs k e h. puts-as (passed _ _ (ap (λ (s : Statement). rests (s .number)) (sym e) ∙ c .before .before .before .before .before .before .before .if1 .left))
+    let a = c .before .before .before .before .before .before .before .before .args in (
+      λ S cs k e v w h. puts-as (passed _ _ (ap (λ (s : Statement). rests (s .number)) (sym e) ∙ c .before .before .before .before .before .if1 .left))
           (c .before .before .put-one .ensures .0 (placeOf (a .slots .now)) _
-          (gives-ternary (placeOf (a .slots .now)) (a .n) _ (if3 1) (slot choice 0 (a .t)) (slot no 0 0) (slot flag (a .t) (a .i)) (refl, (refl, refl)) (c .before .before .before .before .before .before .place .ensures) (c .before .before .before .before .before .place2 .ensures) (c .before .before .before .before .flag-place .ensures))),
+          (gives-ternary (placeOf (a .slots .now)) (a .n) _ (if3 1) (slot choice 0 (a .t)) (slot no 0 0) (slot flag (a .t) (a .i)) (refl, (refl, refl)) v w (c .before .before .before .before .flag-place .ensures))),
       c .before .before .put-one .ensures .1,
     )
 
@@ -58,8 +57,6 @@ put-flag-spec =
     cast-put-none
     put-none-requires
     returns
-    place-requires
-    place-requires-2
     flag-place-requires
     put-one-requires
     same-length

@@ -3,22 +3,21 @@ use denote.Ref.{now}
 use mathlib.Core.Path.{refl, sym, _∙_}
 use borrow.Author.Tests.{eq-eqb, ne-eqb}
 use Rattle.base.proofs.Choice.{chosen, passed}
-use Rattle.places.specs.Places.{placeOf}
 use Rattle.encoding.specs.Slots.{slot, accu, nought, no}
 use Rattle.table.specs.Programs.{equal2, top1}
 use Rattle.bases.proofs.Given.{gives-binary, gives-unary, gives-either, puts-as, puts-test}
 use borrow.Author.Needs.{needs}
 use Rattle.bases.proofs.statements.put_test.Statement.{statement}
 use Rattle.bases.proofs.statements.put_test.Tie as tie
+use Rattle.bases.proofs.statements.put_test.Reads as reads
+use Rattle.bases.proofs.statements.put_test.Lts as lts
+use Rattle.bases.proofs.written.formula.Reads as formula-reads
+use Rattle.bases.proofs.written.put_at.Reads as put-at-reads
+use Rattle.bases.proofs.written.put_one.Reads as put-one-reads
+use Rattle.bases.proofs.written.put_three.Reads as put-three-reads
 
 add-next : tie.Need-add-next
 add-next c = search needs
-
-place-requires : tie.Need-place-requires
-place-requires c κs = search needs
-
-place-requires-2 : tie.Need-place-requires-2
-place-requires-2 c κs = search needs
 
 put-one-requires : tie.Need-put-one-requires
 put-one-requires c κs = search needs
@@ -28,15 +27,12 @@ same-length c = search needs
 
 returns : tie.Need-returns
 returns c =
-    let a = c .before .before .before .before .before .before .before .before .before .args in (
-      λ S cs k e v h. puts-test S cs k (a .t) (a .i) _ (sym e) (puts-as (chosen _ _ (c .before .before .before .before .before .before .if1 .taken))
-          (c .before .before .put-one .ensures .0 (placeOf (a .slots .now)) _
-          (gives-binary (placeOf (a .slots .now)) (a .n) _ equal2 (slot accu (a .t) 0) (slot nought 0 0) (refl, (refl, refl)) refl refl (c .before .before .before .before .before .place .ensures) (c .before .before .before .before .place2 .ensures)))),
+    let a = c .before .before .before .before .before .before .args in (
+      λ S cs k t i at e v w z h. puts-test S cs k t i _ (sym e) (puts-as (chosen _ _ (c .before .before .before .before .if1 .taken))
+          (c .before .before .put-one .ensures .0 at _
+          (gives-binary at (a .n) _ equal2 (slot accu t 0) (slot nought 0 0) (refl, (refl, refl)) refl refl v w))),
       c .before .before .put-one .ensures .1,
     )
-
-place-requires-3 : tie.Need-place-requires-3
-place-requires-3 c κs = search needs
 
 put-one-requires-2 : tie.Need-put-one-requires-2
 put-one-requires-2 c κs = search needs
@@ -46,18 +42,12 @@ same-length-2 c = search needs
 
 returns-2 : tie.Need-returns-2
 returns-2 c =
-    let a = c .before .before .before .before .before .before .before .before .before .args in (
-      λ S cs k e v h. puts-test S cs k (a .t) (a .i) _ (sym e) (puts-as (passed _ _ (c .before .before .before .before .before .before .if1 .left) ∙ chosen _ _ (c .before .before .before .before .before .if2 .taken))
-          (c .before .before .put-one2 .ensures .0 (placeOf (a .slots .now)) _
-          (gives-unary (placeOf (a .slots .now)) (a .n) _ top1 (slot accu (a .t) 0) (refl, (refl, refl)) (c .before .before .before .before .place3 .ensures)))),
+    let a = c .before .before .before .before .before .before .before .args in (
+      λ S cs k t i at e v w z h. puts-test S cs k t i _ (sym e) (puts-as (passed _ _ (c .before .before .before .before .before .if1 .left) ∙ chosen _ _ (c .before .before .before .before .if2 .taken))
+          (c .before .before .put-one2 .ensures .0 at _
+          (gives-unary at (a .n) _ top1 (slot accu t 0) (refl, (refl, refl)) v))),
       c .before .before .put-one2 .ensures .1,
     )
-
-place-requires-4 : tie.Need-place-requires-4
-place-requires-4 c κs = search needs
-
-place-requires-5 : tie.Need-place-requires-5
-place-requires-5 c κs = search needs
 
 formula-requires : tie.Need-formula-requires
 formula-requires c κs = search needs
@@ -76,12 +66,12 @@ same-length-3 c = search needs
 
 returns-3 : tie.Need-returns-3
 returns-3 c =
-    let a = c .before .before .before .before .before .before .before .before .before .before .before .before .before .before .args in (
-      λ S cs k e v h. puts-test S cs k (a .t) (a .i) _ (sym e) (puts-as
-          (passed _ _ (c .before .before .before .before .before .before .before .before .before .before .before .if1 .left) ∙ passed _ _ (c .before .before .before .before .before .before .before .before .before .before .if2 .left) ∙ chosen _ _ (eq-eqb _ _ (c .before .before .before .before .before .before .before .before .before .if3 .taken)))
-          (c .before .before .put-three .ensures .0 (placeOf (a .slots .now)) _ h
-          (gives-either (placeOf (a .slots .now)) (a .n) _ (slot accu (a .t) 0) (slot nought 0 0) (refl, (refl, (refl, (refl, refl))))
-          (c .before .before .before .before .before .before .formula .ensures) (c .before .before .before .before .before .formula2 .ensures) (c .before .before .before .before .formula3 .ensures) (c .before .before .before .before .before .before .before .before .place4 .ensures) (c .before .before .before .before .before .before .before .place5 .ensures)))),
+    let a = c .before .before .before .before .before .before .before .before .before .before .before .args in (
+      λ S cs k t i at e v w z h. puts-test S cs k t i _ (sym e) (puts-as
+          (passed _ _ (c .before .before .before .before .before .before .before .before .before .if1 .left) ∙ passed _ _ (c .before .before .before .before .before .before .before .before .if2 .left) ∙ chosen _ _ (eq-eqb _ _ (c .before .before .before .before .before .before .before .if3 .taken)))
+          (c .before .before .put-three .ensures .0 at _ h
+          (gives-either at (a .n) _ (slot accu t 0) (slot nought 0 0) (refl, (refl, (refl, (refl, refl))))
+          (c .before .before .before .before .before .before .formula .ensures) (c .before .before .before .before .before .formula2 .ensures) (c .before .before .before .before .formula3 .ensures) v w))),
       c .before .before .put-three .ensures .1,
     )
 
@@ -90,10 +80,10 @@ put-at-requires c κs = search needs
 
 returns-4 : tie.Need-returns-4
 returns-4 c =
-    let a = c .before .before .before .before .before .before .args in (
-      λ S cs k e v h. puts-test S cs k (a .t) (a .i) _ (sym e) (puts-as
+    let a = c .before .before .before .before .before .args in (
+      λ S cs k t i at e v w z h. puts-test S cs k t i _ (sym e) (puts-as
           (passed _ _ (c .before .before .before .if1 .left) ∙ passed _ _ (c .before .before .if2 .left) ∙ passed _ _ (ne-eqb _ _ (c .before .if3 .left)))
-          (c .put-at .ensures .0 (placeOf (now (a .slots))) (a .n) (slot no 0 0) (now (a .out)) v)),
+          (c .put-at .ensures .0 at (a .n) (slot no 0 0) (now (a .out)) z)),
       c .put-at .ensures .1,
     )
 
@@ -102,17 +92,12 @@ put-test-spec =
     tie.close
     (tie.spec
     add-next
-    place-requires
-    place-requires-2
     put-one-requires
     same-length
     returns
-    place-requires-3
     put-one-requires-2
     same-length-2
     returns-2
-    place-requires-4
-    place-requires-5
     formula-requires
     formula-requires-2
     formula-requires-3
