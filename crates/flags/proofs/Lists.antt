@@ -16,14 +16,14 @@ use Rattle.encoding.specs.Steps.{skip, leads}
 use Rattle.members.specs.Members.{membersOf, namesTarget}
 use Rattle.members.proofs.Listed.{members-at, members-below, members-belong, members-order}
 use Rattle.links.proofs.Leads.{leads-elsewhere}
-use Rattle.flags.specs.Named.{Leads, Ways, WaysOf, put}
+use Rattle.flags.specs.Ways.{NamedFirst, Ways, WaysOf, withJump}
 
 -- ---- one jump more
 
 module _ (S : Set) (t : ℕ) (In More : ℕ → Type 0) (keep : (y : ℕ) → In y → More y) where
   -- the same for more statements, of which those that matter were there
-  widened : (it from later j : ℕ) → from ≤ later → Leads S t In it from j →
-      ((x : ℕ) → More x → later ≤ x → namesTarget (S .statement t x) j ≡ true → In x) → Leads S t More it later j
+  widened : (it from later j : ℕ) → from ≤ later → NamedFirst S t In it from j →
+      ((x : ℕ) → More x → later ≤ x → namesTarget (S .statement t x) j ≡ true → In x) → NamedFirst S t More it later j
   widened it from later j le old back = record {
     soonest = λ (x : ℕ) m (l : later ≤ x) e. old .soonest x (back x m l e) (omega arith) e;
     belongs = λ h. let b = old .belongs h in (keep it (b .0), b .1);
@@ -35,6 +35,7 @@ module _ (S : Set) (t : ℕ) (In More : ℕ → Type 0) (keep : (y : ℕ) → In
     whole = old .whole;
     first = λ (j : ℕ) h. widened (getD ways j 0) 0 0 j (omega arith) (old .first j h) (λ x m l e. back x m);
     next = λ (i j : ℕ) h m e. widened (getD ways (32 + i) 0) (i + 1) (i + 1) j (omega arith) (old .next i j h (back i m) e) (λ x n l f. back x n);
+    rises = λ (i j : ℕ) h m e. old .rises i j h (back i m) e;
   }
 
   -- jump i comes before the others
@@ -56,6 +57,7 @@ module _ (S : Set) (t : ℕ) (In More : ℕ → Type 0) (keep : (y : ℕ) → In
       next = λ (y j : ℕ) (h : j < 32) m e. widened (getD ways (32 + y) 0) (y + 1) (y + 1) j (omega arith)
           (old .next y j h (split y j m e (λ q. let n = named y j q e in omega arith)) e)
           (λ (x : ℕ) n l f. split x j n f (λ q. let g = named x j q f in omega arith));
+      rises = λ (y j : ℕ) (h : j < 32) m e. old .rises y j h (split y j m e (λ q. let n = named y j q e in omega arith)) e;
     }
 
     module _ (near : target < 32) where
@@ -63,7 +65,7 @@ module _ (S : Set) (t : ℕ) (In More : ℕ → Type 0) (keep : (y : ℕ) → In
       under = set ways (32 + i) (getD ways target 0)
 
       abbrev result : List ℕ
-      result = put ways i target
+      result = withJump ways i target
 
       under-length : length under ≡ 64
       under-length = length-set ways (32 + i) (getD ways target 0) ∙ old .whole
@@ -84,10 +86,10 @@ module _ (S : Set) (t : ℕ) (In More : ℕ → Type 0) (keep : (y : ℕ) → In
           getD-set-other under target (32 + y) i 0 (λ (e : 32 + y ≡ target). omega arith)
           ∙ getD-set-other ways (32 + i) (32 + y) (getD ways target 0) 0 (λ (e : 32 + y ≡ 32 + i). p (omega arith))
 
-      first-is : (j : ℕ) → j < 32 → Leads S t More (getD result j 0) 0 j
+      first-is : (j : ℕ) → j < 32 → NamedFirst S t More (getD result j 0) 0 j
       first-is j h = elim (ℕ-discrete j target) [
         | yes p ↦
-            subst (λ (it : ℕ). Leads S t More it 0 j) (sym (ap (λ (k : ℕ). getD result k 0) p ∙ at-target))
+            subst (λ (it : ℕ). NamedFirst S t More it 0 j) (sym (ap (λ (k : ℕ). getD result k 0) p ∙ at-target))
             (record {
               soonest = λ (x : ℕ) m l e. elim (ℕ-discrete x i) [
                 | yes q ↦ omega arith
@@ -96,23 +98,34 @@ module _ (S : Set) (t : ℕ) (In More : ℕ → Type 0) (keep : (y : ℕ) → In
               belongs = λ b. (new, and-true jumps (eq-eqb target j (sym p)));
             })
         | no p ↦
-            subst (λ (it : ℕ). Leads S t More it 0 j) (sym (at-other j h p))
+            subst (λ (it : ℕ). NamedFirst S t More it 0 j) (sym (at-other j h p))
             (widened (getD ways j 0) 0 0 j (omega arith) (old .first j h) (λ (x : ℕ) m l e. split x j m e (λ q. p (sym (named x j q e)))))
       ]
 
-      next-is : (y j : ℕ) → j < 32 → More y → namesTarget (S .statement t y) j ≡ true → Leads S t More (getD result (32 + y) 0) (y + 1) j
+      next-is : (y j : ℕ) → j < 32 → More y → namesTarget (S .statement t y) j ≡ true → NamedFirst S t More (getD result (32 + y) 0) (y + 1) j
       next-is y j h m e = elim (ℕ-discrete y i) [
         | yes q ↦
-            subst (λ (it : ℕ). Leads S t More it (y + 1) j)
+            subst (λ (it : ℕ). NamedFirst S t More it (y + 1) j)
             (sym (ap (λ (k : ℕ). getD result (32 + k) 0) q ∙ (at-new ∙ ap (λ (k : ℕ). getD ways k 0) (named y j q e))))
             (widened (getD ways j 0) 0 (y + 1) j (omega arith) (old .first j h)
             (λ (x : ℕ) n (l : y + 1 ≤ x) f. split x j n f (λ (r : x ≡ i). omega arith)))
         | no q ↦
             let there = split y j m e q in
             let b = later y there in
-            subst (λ (it : ℕ). Leads S t More it (y + 1) j) (sym (at-next y q))
+            subst (λ (it : ℕ). NamedFirst S t More it (y + 1) j) (sym (at-next y q))
             (widened (getD ways (32 + y) 0) (y + 1) (y + 1) j (omega arith) (old .next y j h there e)
             (λ (x : ℕ) n (l : y + 1 ≤ x) f. split x j n f (λ (r : x ≡ i). omega arith)))
+      ]
+
+      rises-is : (y j : ℕ) → j < 32 → More y → namesTarget (S .statement t y) j ≡ true → y < getD result (32 + y) 0
+      rises-is y j h m e = elim (ℕ-discrete y i) [
+        | yes q ↦
+            let it : getD result (32 + y) 0 ≡ getD ways j 0 = ap (λ (k : ℕ). getD result (32 + k) 0) q ∙ (at-new ∙ ap (λ (k : ℕ). getD ways k 0) (named y j q e)) in
+            elim (decLt (getD ways j 0) 32) [
+              | yes b ↦ let l = later (getD ways j 0) (old .first j h .belongs b .0) in omega arith
+              | no b ↦ omega arith
+            ]
+        | no q ↦ let it = at-next y q in let l = old .rises y j h (split y j m e q) e in omega arith
       ]
 
       pub ways-more : Ways S t More result
@@ -120,6 +133,7 @@ module _ (S : Set) (t : ℕ) (In More : ℕ → Type 0) (keep : (y : ℕ) → In
         whole = length-set under target i ∙ under-length;
         first = first-is;
         next = next-is;
+        rises = rises-is;
       }
 
 -- ---- the jumps from the member of number p on
@@ -145,6 +159,7 @@ module _ (S : Set) (t count : ℕ) (all : count ≡ S .count t) where
           belongs = λ (b : getD ways j 0 < 32). let e = empty j (omega arith) in absurd (omega arith);
         };
         next = λ (i j : ℕ) h f n. absurd (none i j f n);
+        rises = λ (i j : ℕ) h f n. absurd (none i j f n);
       }
 
   -- those from 0 on are all
@@ -187,7 +202,7 @@ module _ (S : Set) (t count : ℕ) (all : count ≡ S .count t) where
           ],
         )
 
-    pub ways-put : S .statement t one .argument < 32 → Ways S t (From S t count p) (put ways one (S .statement t one .argument))
+    pub ways-put : S .statement t one .argument < 32 → Ways S t (From S t count p) (withJump ways one (S .statement t one .argument))
     ways-put = ways-more S t (From S t count r) (From S t count p) keep ways old one (omega (arith, below)) (members-belong S 8 t (S .count t) p inside) new later split
 
     pub ways-kept : 32 ≤ S .statement t one .argument → Ways S t (From S t count p) ways
@@ -195,32 +210,38 @@ module _ (S : Set) (t count : ℕ) (all : count ≡ S .count t) where
 
 -- ---- what the lists say
 
-module _ (S : Set) (t count : ℕ) (few : count ≤ 32) (j : ℕ) (inside : j < count) where
+module _ (S : Set) (t count j : ℕ) (small : j < 32) where
   -- no jump names j
-  pub ways-unnamed : (ways : List ℕ) → WaysOf S t count ways → (getD ways j 0 < 32 → ⊥) → (x : ℕ) → x < count → namesTarget (S .statement t x) j ≡ false
-  ways-unnamed ways w none x h =
-      refuted (namesTarget (S .statement t x) j) (λ e. let l = w .first j (omega arith) .soonest x h (omega arith) e in none (omega arith))
+  pub ways-unnamed : count ≤ 32 → (ways : List ℕ) → WaysOf S t count ways → (getD ways j 0 < 32 → ⊥) → (x : ℕ) → x < count → namesTarget (S .statement t x) j ≡ false
+  ways-unnamed few ways w none x h =
+      refuted (namesTarget (S .statement t x) j) (λ e. let l = w .first j small .soonest x h (omega arith) e in none (omega arith))
 
   -- statements before the jump to look for do not lead to j, unless they stand before it
-  pub passed-over : (hit from : ℕ) → Leads S t (λ x. x < count) hit from j → (x : ℕ) → from ≤ x → x < count → x < hit → (suc x ≡ j → ⊥) → leads S [] 0 t j x ≡ skip
+  pub passed-over : (hit from : ℕ) → NamedFirst S t (λ x. x < count) hit from j → (x : ℕ) → from ≤ x → x < count → x < hit → (suc x ≡ j → ⊥) → leads S [] 0 t j x ≡ skip
   passed-over hit from l x p q h other =
       leads-elsewhere (S .statement t x) t j x (suc x)
       (refuted (namesTarget (S .statement t x) j) (λ e. let b = l .soonest x q p e in omega arith)) (ne-eqb (suc x) j other)
 
   -- from a later statement on
-  pub leads-later : (hit from later : ℕ) → from ≤ later → Leads S t (λ x. x < count) hit from j → Leads S t (λ x. x < count) hit later j
-  leads-later hit from later le l = record {
+  pub named-later : (hit from later : ℕ) → from ≤ later → NamedFirst S t (λ x. x < count) hit from j → NamedFirst S t (λ x. x < count) hit later j
+  named-later hit from later le l = record {
     soonest = λ (x : ℕ) h (p : later ≤ x) e. l .soonest x h (omega arith) e;
     belongs = l .belongs;
   }
 
-  -- the jump to look for after statement i
-  pub leads-after : (ways : List ℕ) → WaysOf S t count ways → (hit i next : ℕ) → i < count → (i < hit → next ≡ hit) → (hit ≤ i → next ≡ getD ways (32 + hit) 0) →
-      Leads S t (λ x. x < count) hit i j → Leads S t (λ x. x < count) next (i + 1) j
-  leads-after ways w hit i next within same other l = elim (decLt i hit) [
-    | yes h ↦ subst (λ (it : ℕ). Leads S t (λ x. x < count) it (i + 1) j) (sym (same h)) (leads-later hit i (i + 1) (omega arith) l)
+  -- the jump to look for after jump i, which names j
+  pub named-next : (ways : List ℕ) → WaysOf S t count ways → (i next : ℕ) → i < count → namesTarget (S .statement t i) j ≡ true →
+      (i < getD ways (32 + i) 0 → next ≡ getD ways (32 + i) 0) → NamedFirst S t (λ x. x < count) next (i + 1) j
+  named-next ways w i next within names is =
+      subst (λ (it : ℕ). NamedFirst S t (λ x. x < count) it (i + 1) j) (sym (is (w .rises i j small within names))) (w .next i j small within names)
+
+  -- the jump to look for after statement i, where that was `hit` from i on
+  pub named-past : count ≤ 32 → (ways : List ℕ) → WaysOf S t count ways → (hit i next : ℕ) → i < count → i ≤ hit →
+      (i < hit → next ≡ hit) → (hit ≤ i → i < getD ways (32 + i) 0 → next ≡ getD ways (32 + i) 0) →
+      NamedFirst S t (λ x. x < count) hit i j → NamedFirst S t (λ x. x < count) next (i + 1) j
+  named-past few ways w hit i next within due same other l = elim (decLt i hit) [
+    | yes h ↦ subst (λ (it : ℕ). NamedFirst S t (λ x. x < count) it (i + 1) j) (sym (same h)) (named-later hit i (i + 1) (omega arith) l)
     | no h ↦
-        let b = l .belongs (omega arith) in
-        subst (λ (it : ℕ). Leads S t (λ x. x < count) it (i + 1) j) (sym (other (omega arith)))
-        (leads-later (getD ways (32 + hit) 0) (hit + 1) (i + 1) (omega arith) (w .next hit j (omega arith) (b .0) (b .1)))
+        let here : hit ≡ i = omega arith in
+        named-next ways w i next within (subst (λ (x : ℕ). namesTarget (S .statement t x) j ≡ true) here (l .belongs (omega arith) .1)) (other (omega arith))
   ]

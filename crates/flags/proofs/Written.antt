@@ -1,18 +1,26 @@
--- A flag's tree with its links as the code asks for them. Assumes nothing.
-use Prim.Native.Nat.{ℕ, suc, _+_, _≤_, _<_}
-use mathlib.Core.Path.{_≡_, subst}
-use mathlib.Core.Bool.{false}
+-- A flag's tree with its links as the code asks for them, and what flags written leave as it is. Assumes nothing.
+use Prim.Native.Nat.{ℕ, zero, suc, _+_, _≤_, _<_}
+use mathlib.Core.Path.{_≡_, refl, ap, _∙_, subst}
+use mathlib.Core.Bool.{true, false, _&&_}
 use mathlib.Core.List.{List, []}
 use native.Mathlib.Omega.{arith}
+use lib.Dec.{eqb}
+use lib.ListN.{getD}
 use borrow.Author.Tests.{ne-eqb}
+use Rattle.base.proofs.Choice.{and-false, passed, cond-both}
 use Rattle.records.specs.Sets.{Set}
-use Rattle.encoding.specs.Slots.{flag, Slot, Term}
-use Rattle.encoding.specs.Steps.{Link as ChainLink, skip, linked, chain, base, leads}
-use Rattle.places.specs.Pieces.{WritesTree}
+use Rattle.table.specs.Programs.{Command, upto, nextAfter, placesAfter}
+use Rattle.table.proofs.Sequences.{places-++}
+use Rattle.encoding.specs.Slots.{Kind, kindNumber, flag, Slot, slot, same, Term}
+use Rattle.encoding.specs.Steps.{Link as ChainLink, skip, linked, chain, shape, base, leads, kept, entry}
+use Rattle.places.specs.Places.{placeOf}
+use Rattle.places.specs.Pieces.{Writes, WritesTree}
 use Rattle.places.proofs.Entries.{treeOf}
 use Rattle.members.specs.Members.{namesTarget}
 use Rattle.links.proofs.Leads.{leads-elsewhere}
 use Rattle.links.proofs.Trees.{chain-none, chain-more, chain-to}
+use Rattle.flags.specs.Ways.{NamedFirst, WaysOf}
+use Rattle.flags.proofs.Lists.{passed-over, named-later, named-next}
 
 -- the chain of a flag, its links as the code asks for them
 pub flag-chained : (S : Set) (cs : List ℕ) (k t j count : ℕ) → count ≡ S .count t → (places : Slot → ℕ) (out : List ℕ) (n : ℕ) (after : List ℕ) (m at : ℕ) →
@@ -46,3 +54,65 @@ module _ (places : Slot → ℕ) (S : Set) (t j count : ℕ) (inside : j < count
       (put (chain-to places leading tree start m out n at 0 i (omega arith)
       (λ (x : ℕ) (p : 0 ≤ x) (q : x < i). elsewhere x (omega arith) (λ (e : suc x ≡ j). omega arith))
       (chain-none places leading tree start m out n at w))))
+
+-- ---- the links of the jumps that name j
+
+-- the links of the statements before `low` are written, of those from `from` on and before `end`; `hit` is the jump to look for
+pub record Reached (places : Slot → ℕ) (S : Set) (t j count from end : ℕ) (tree : Term) (start : List ℕ) (m hit : ℕ) (out : List ℕ) (n at : ℕ) : Type 0 where
+  pub low : ℕ
+  pub since : from ≤ low
+  pub within : low ≤ end
+  pub due : low ≤ hit
+  pub soonest : NamedFirst S t (λ x. x < count) hit low j
+  pub written : WritesTree places (chain (leads S [] 0 t j) low tree) start m out n at
+
+-- j does not stand after one of the statements from `from` on and before `end`
+module _ (places : Slot → ℕ) (S : Set) (t j : ℕ) (small : j < 32) (count from end : ℕ) (inside : end ≤ count) (apart : (x : ℕ) → from ≤ x → x < end → (j ≡ x + 1 → ⊥))
+    (tree : Term) (start : List ℕ) (m hit : ℕ) (out : List ℕ) (n at : ℕ) (r : Reached places S t j count from end tree start m hit out n at) where
+  -- the statements before `hit` give no link
+  pub reached-to : (k : ℕ) → r .low ≤ k → k ≤ hit → k ≤ end → WritesTree places (chain (leads S [] 0 t j) k tree) start m out n at
+  reached-to k ahead before most =
+      chain-to places (leads S [] 0 t j) tree start m out n at (r .low) k ahead
+      (λ (x : ℕ) (p : r .low ≤ x) (q : x < k). passed-over S t count j small hit (r .low) (r .soonest) x p (omega arith) (omega arith)
+      (λ (e : suc x ≡ j). let s = r .since in apart x (omega arith) (omega arith) (omega arith)))
+      (r .written)
+
+  -- jump `hit` gives its link
+  pub reached-more : hit < end → namesTarget (S .statement t hit) j ≡ true → (ways : List ℕ) → WaysOf S t count ways → (next : ℕ) → hit < next →
+      (hit < getD ways (32 + hit) 0 → next ≡ getD ways (32 + hit) 0) → (out1 : List ℕ) (n1 at1 : ℕ) →
+      (WritesTree places (chain (leads S [] 0 t j) hit tree) start m out n at → WritesTree places (linked (leads S [] 0 t j hit) (chain (leads S [] 0 t j) hit tree)) start m out1 n1 at1) →
+      Reached places S t j count from end tree start m next out1 n1 at1
+  reached-more more names ways w next greater is out1 n1 at1 put = record {
+    low = hit + 1;
+    since = (let s = r .since in let d = r .due in omega arith);
+    within = omega arith;
+    due = omega arith;
+    soonest = named-next S t count j small ways w hit next (omega arith) names is;
+    written = chain-more places (leads S [] 0 t j) tree start m out1 n1 at1 hit (put (reached-to hit (r .due) (omega arith) (omega arith)));
+  }
+
+  -- no such jump is left
+  pub reached-all : end ≤ hit → (WritesTree places (chain (leads S [] 0 t j) end tree) start m out n at) × (NamedFirst S t (λ x. x < count) hit end j)
+  reached-all past = (reached-to end (r .within) past (omega arith), named-later S t count j small hit (r .low) end (r .within) (r .soonest))
+
+-- ---- values of other kinds
+
+-- values of one kind written leave them where they lay
+module _ (S : Set) (cs : List ℕ) (k : ℕ) (kind : Kind) (t : ℕ) (other : Kind) (a b : ℕ) (apart : eqb (kindNumber other) (kindNumber kind) ≡ false) where
+  entry-apart : (i : ℕ) (places : Slot → ℕ) (n : ℕ) → placesAfter same places n (entry S cs k kind t i) (slot other a b) ≡ places (slot other a b)
+  unfolding placesAfter
+  entry-apart i places n =
+      cond-both (λ (P : List (Command Slot)). placesAfter same places n P (slot other a b) ≡ places (slot other a b)) (kept S cs k (shape kind) t i)
+      (passed _ _ (and-false (eqb a t && eqb b i) apart)) refl
+
+  row-apart : (i : ℕ) (places : Slot → ℕ) (n : ℕ) → placesAfter same places n (upto (entry S cs k kind t) i) (slot other a b) ≡ places (slot other a b)
+  unfolding placesAfter upto
+  row-apart zero places n = refl
+  row-apart (suc i) places n =
+      let f = entry S cs k kind t in
+      ap (λ (g : Slot → ℕ). g (slot other a b)) (places-++ same places n (upto f i) (f i))
+      ∙ (entry-apart i (placesAfter same places n (upto f i)) (nextAfter same n (upto f i)) ∙ row-apart i places n)
+
+  pub row-others : (i : ℕ) (out slots : List ℕ) (n : ℕ) (out1 slots1 : List ℕ) (n1 : ℕ) → Writes (upto (entry S cs k kind t) i) out slots n out1 slots1 n1 →
+      placeOf slots1 (slot other a b) ≡ placeOf slots (slot other a b)
+  row-others i out slots n out1 slots1 n1 w = ap (λ (g : Slot → ℕ). g (slot other a b)) (w .places) ∙ row-apart i (placeOf slots) n

@@ -1,2 +1,2 @@
 -- The lists of the jumps that name each statement.
-pub mod Named
+pub mod Ways

@@ -2,29 +2,31 @@
 // A thread's statements stand from record `first` of the set on: the layout is read once.
 ghost use mathlib.Core.Path.{_≡_};
 ghost use mathlib.Core.List.{List, []};
-ghost use Prim.Native.Nat.{ℕ, suc, _+_, _≤_, _<_};
+ghost use Prim.Native.Nat.{ℕ, _+_, _-_, _≤_, _<_};
 ghost use lib.ListN.{length, getD};
 ghost use Rattle.records.specs.Sets.{Set, setBy};
-ghost use Rattle.encoding.specs.Slots.{Slot, Term, flag as flagKind};
+ghost use Rattle.encoding.specs.Slots.{Slot, slot, Term, choice, flag as flagKind, no as noKind};
 ghost use Rattle.encoding.specs.Steps.{chain as chainOf, leads as leadsOf, entry as entryOf, line as lineOf};
 ghost use Rattle.places.specs.Places.{placeOf, size};
 ghost use Rattle.places.specs.Pieces.{Writes, WritesTree};
 ghost use Rattle.members.specs.Held.{Held};
 ghost use Rattle.members.specs.Members.{Members};
-ghost use Rattle.flags.specs.Named.{WaysOf, put};
+ghost use Rattle.flags.specs.Ways.{NamedFirst, WaysOf, withJump};
 use links::Root;
 use links::edges;
 use links::put_link;
 use members::IS_JUMP;
 use members::count_of;
 use members::member;
+use places::kinds::CHOICE;
 use places::kinds::FLAG;
+use places::kinds::NO;
 use records::Layout;
 
 // Puts jump i, which names statement `target`, before the jumps listed for it.
 fn add_jump(ways: &mut [u8], i: u16, target: u16)
     ensures { λ _. ⌜ (length (now (ways .exit)) ≡ length (now (ways .entry)))
-        × (length (now (ways .entry)) ≡ 64 → i < 32 → target < 32 → now (ways .exit) ≡ put (now (ways .entry)) i target)
+        × (length (now (ways .entry)) ≡ 64 → i < 32 → target < 32 → now (ways .exit) ≡ withJump (now (ways .entry)) i target)
         × (32 ≤ target → now (ways .exit) ≡ now (ways .entry)) ⌝ }
 {
     if ways.len() != 64 {
@@ -65,41 +67,66 @@ fn way(ways: &[u8], j: u16) -> u16
     base::byte_at(ways, j as usize) as u16
 }
 
-// The jump to look for after statement i: `hit` where it comes later, else the next one that names what `hit` names.
-fn after(ways: &[u8], hit: u16, i: u16) -> u16
-    ensures { λ r. ⌜ (i < hit → r ≡ hit) × (hit ≤ i → r ≡ getD (now (ways .entry)) (32 + hit) 0) ⌝ }
+// The jump after jump i that names what i names, 32 or more if none. A number that is not greater is passed over,
+// so that a loop over a list ends whatever its bytes are.
+fn following(ways: &[u8], i: u16) -> u16
+    ensures { λ r. ⌜ (i < 32 → i < r) × (i < getD (now (ways .entry)) (32 + i) 0 → r ≡ getD (now (ways .entry)) (32 + i) 0) ⌝ }
+{
+    let next = base::byte_at(ways, 32 + (i as usize)) as u16;
+    if i < next {
+        return next;
+    }
+    32
+}
+
+// The jump to look for after statement i: `hit` where it comes later, else the one after jump i.
+fn past(ways: &[u8], hit: u16, i: u16) -> u16
+    ensures { λ r. ⌜ (i < 32 → i < r) × (i < hit → r ≡ hit)
+        × (hit ≤ i → i < getD (now (ways .entry)) (32 + i) 0 → r ≡ getD (now (ways .entry)) (32 + i) 0) ⌝ }
 {
     if i < hit {
         return hit;
     }
-    base::byte_at(ways, 32 + (hit as usize)) as u16
+    following(ways, i)
 }
 
-// The lesser of two numbers.
-fn earlier(a: u16, b: u16) -> u16
-    ensures { λ r. ⌜ (r ≤ a) × (r ≤ b) × (b ≤ a → r ≡ b) × (a < b → r ≡ a) ⌝ }
-{
-    if a < b {
-        return a;
-    }
-    b
+// A tree with links, and the jump to go on with.
+struct Named {
+    tree: Root,
+    hit: u16,
 }
 
-// The first statement, from statement `from` on, that is `hit` or stands before j; at most `count`.
-fn next_way(hit: u16, j: u16, from: u16, count: u16) -> u16
-    requires { ⌜ (from ≤ count) × (j < count) ⌝ }
-    ensures { λ r. ⌜ (from ≤ r) × (r ≤ count) × ((x : ℕ) → from ≤ x → x < r → (x < hit) × (suc x ≡ j → ⊥)) ⌝ }
+// Writes over a tree the links of the jumps that name one statement, from jump `hit` on and before statement `end`.
+fn named_links(
+    set: &[u8],
+    first: u32,
+    ways: &[u8],
+    slots: &[u32],
+    out: &mut [u8],
+    t: u8,
+    hit: u16,
+    end: u16,
+    n: u32,
+    base: u64,
+) -> Named
+    requires { ⌜ (first < 65536) × (end ≤ 32) × (n ≤ 1950000000) × (t < 4) ⌝ }
+    ensures { λ r. ⌜ ((S : Set) (tree : Term) (start : List ℕ) (m j count from : ℕ) → j < 32 → from ≤ hit → from ≤ end → end ≤ count
+        → ((x : ℕ) → from ≤ x → x < end → (j ≡ x + 1 → ⊥)) → WaysOf S t count (now (ways .entry)) → Held S (now (set .entry)) t first count
+        → NamedFirst S t (λ x. x < count) hit from j
+        → WritesTree (placeOf (now (slots .entry))) (chainOf (leadsOf S [] 0 t j) from tree) start m (now (out .entry)) n base
+        → (WritesTree (placeOf (now (slots .entry))) (chainOf (leadsOf S [] 0 t j) end tree) start m (now (out .exit)) (r .tree .next) (r .tree .at))
+        × (NamedFirst S t (λ x. x < count) (r .hit) end j))
+        × (end ≤ r .hit) × (r .tree .next ≤ n + (end - hit)) ⌝ }
 {
-    if hit < from {
-        return from;
+    let mut tree = Root { next: n, at: base };
+    let mut i = hit;
+    while i < end {
+        let statement = records::statement_at(set, first + (i as u32));
+        let link = edges::named(statement.number, slots, t, i);
+        tree = put_link(out, tree.next, tree.at, link);
+        i = following(ways, i);
     }
-    if j <= from {
-        return earlier(hit, count);
-    }
-    if hit < j {
-        return hit;
-    }
-    j - 1
+    Named { tree, hit: i }
 }
 
 // Writes the links of the flag of statement j over a tree, where jumps name j: those of the jumps, and that of the statement before.
@@ -121,17 +148,30 @@ fn jump_links(
         → WritesTree (placeOf (now (slots .entry))) (chainOf (leadsOf S [] 0 t j) count tree) start m (now (out .exit)) (r .next) (r .at))
         × (r .next ≤ n + 32) ⌝ }
 {
-    let mut tree = Root { next: n, at: base };
-    let mut hit = way(ways, j);
-    let mut i = next_way(hit, j, 0, count);
-    while i < count {
-        let statement = records::statement_at(set, first + (i as u32));
-        let link = edges::leads(statement, slots, t, j, i);
-        tree = put_link(out, tree.next, tree.at, link);
-        hit = after(ways, hit, i);
-        i = next_way(hit, j, i + 1, count);
+    let hit = way(ways, j);
+    if j == 0 {
+        let all = named_links(set, first, ways, slots, out, t, hit, count, n, base);
+        return all.tree;
     }
-    tree
+    let before = j - 1;
+    let earlier = named_links(set, first, ways, slots, out, t, hit, before, n, base);
+    let statement = records::statement_at(set, first + (before as u32));
+    let link = edges::leads(statement, slots, t, j, before);
+    let tree = put_link(out, earlier.tree.next, earlier.tree.at, link);
+    let next = past(ways, earlier.hit, before);
+    let later = named_links(
+        set,
+        first,
+        ways,
+        slots,
+        out,
+        t,
+        next,
+        count,
+        tree.next,
+        tree.at,
+    );
+    later.tree
 }
 
 // Writes the links of the flag of statement j over a tree. Where no jump names j only the statement before leads to it.
@@ -165,7 +205,7 @@ fn flag_links(
     Root { next: n, at: base }
 }
 
-// Writes the flag of statement j of thread t, of `count` statements.
+// Writes the flag of statement j of thread t, of `count` statements. `executes` and `no` are where the choice that t executes and bit 0 lie.
 fn flag(
     set: &[u8],
     first: u32,
@@ -175,16 +215,19 @@ fn flag(
     t: u8,
     j: u16,
     count: u16,
+    executes: u64,
+    no: u64,
     n: u32,
 ) -> u32
     requires { ⌜ (first < 65536) × (count ≤ 32) × (j < count) × (t < 4) × (n ≤ 1800000000) ⌝ }
     ensures { λ r. ⌜ ((S : Set) (cs : List ℕ) (k : ℕ) → count ≡ S .count t → WaysOf S t count (now (ways .entry)) → Held S (now (set .entry)) t first count
+        → executes ≡ placeOf (now (slots .entry)) (slot choice 0 t) → no ≡ placeOf (now (slots .entry)) (slot noKind 0 0)
         → length (now (slots .entry)) ≡ size → ((s : Slot) → placeOf (now (slots .entry)) s < n)
         → Writes (entryOf S cs k flagKind t j) (now (out .entry)) (now (slots .entry)) n (now (out .exit)) (now (slots .exit)) r)
         × (r ≤ n + 36) ⌝ }
 {
     let statement = records::statement_at(set, first + (j as u32));
-    let base = bases::put_flag(statement, slots, out, t, j, n);
+    let base = bases::put_flag(statement, slots, out, executes, no, t, j, n);
     let next = n + base.count;
     let tree = flag_links(set, first, ways, slots, out, t, j, count, next, base.root);
     places::set_place(slots, FLAG, t, j, tree.at);
@@ -210,10 +253,24 @@ fn each_flag(
 {
     let mut ways = [32u8; 64];
     list_jumps(set, first, members, &mut ways, t, count);
+    let executes = places::place(slots, CHOICE, 0, t as u16, 0);
+    let no = places::place(slots, NO, 0, 0, 0);
     let mut next = n;
     let mut j: u16 = 0;
     while j < count {
-        next = flag(set, first, &ways, slots, out, t, j, count, next);
+        next = flag(
+            set,
+            first,
+            &ways,
+            slots,
+            out,
+            t,
+            j,
+            count,
+            executes,
+            no,
+            next,
+        );
         j += 1;
     }
     next
@@ -245,6 +302,9 @@ pub fn flags(
         return n;
     }
     if slots.len() != 2304 {
+        return n;
+    }
+    if members.len() != 1452 {
         return n;
     }
     if 1700000000 < n {

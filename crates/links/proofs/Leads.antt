@@ -5,9 +5,9 @@ use mathlib.Core.Bool.{Bool, true, false, cond, not, _&&_, _||_}
 use mathlib.Core.List.{[]}
 use native.Mathlib.Numerals.{add-one}
 use lib.Dec.{eqb}
-use borrow.Author.Tests.{eqb-true, eq-eqb}
-use Rattle.base.proofs.Choice.{cond-ap, chosen, passed, or-true, or-false, and-left, and-false, and-right-false, and-yes, clash}
-use Rattle.records.specs.Instructions.{JMP, isJump}
+use borrow.Author.Tests.{eqb-true, eq-eqb, ne-eqb}
+use Rattle.base.proofs.Choice.{cond-ap, chosen, passed, or-true, or-false, and-true, and-left, and-right, and-false, and-right-false, and-yes, clash}
+use Rattle.records.specs.Instructions.{JMP, HALT, EXIT, isJump}
 use Rattle.records.specs.Sets.{Set}
 use Rattle.records.specs.declared.Statement.{Statement}
 use Rattle.table.specs.Formulas.{bitSort, AND, OR}
@@ -120,6 +120,35 @@ module _ (s : Statement) (t j i : ℕ) (after : j ≡ i + 1) (names : namesTarge
       pub follows-on : isConditional (s .number) ≡ false → leadsBy s t j i (i + 1) ≡ ifThen bitSort (slot active t i) (only yes)
       follows-on plain =
           leads-on s t j i (i + 1) goes (or-false straight (and-false (eqb (s .argument) (i + 1)) plain)) plain ∙ chosen _ _ next-is
+
+-- a jump does not rest
+jump-goes : (n : ℕ) → isJump n ≡ true → rests n ≡ false
+jump-goes n jumps = go (eqb n HALT) refl (eqb n EXIT) refl
+  where
+    go : (b : Bool) → eqb n HALT ≡ b → (d : Bool) → eqb n EXIT ≡ d → rests n ≡ false
+    go true e d f = clash jumps (ap (λ (m : ℕ). isJump m) (eqb-true n HALT e))
+    go false e true f = clash jumps (ap (λ (m : ℕ). isJump m) (eqb-true n EXIT f))
+    go false e false f = or-false e f
+
+-- how a jump that names j leads to it
+module _ (s : Statement) (t j i : ℕ) (names : namesTarget s j ≡ true) where
+  jumps : isJump (s .number) ≡ true
+  jumps = and-left (isJump (s .number)) (eqb (s .argument) j) names
+
+  hit : eqb (s .argument) j ≡ true
+  hit = and-right (isJump (s .number)) (eqb (s .argument) j) names
+
+  pub named-always : eqb (s .number) JMP ≡ true → leadsBy s t j i (i + 1) ≡ ifThen bitSort (slot active t i) (only yes)
+  named-always jump =
+      leads-always s t j i (i + 1) (jump-goes (s .number) jumps) (or-true (isConditional (s .number) && eqb (s .argument) (i + 1)) jump) ∙ chosen _ _ hit
+
+  -- j does not stand after it
+  pub named-test : eqb (s .number) JMP ≡ false → (j ≡ i + 1 → ⊥) →
+      leadsBy s t j i (i + 1) ≡ ifThen bitSort (slot active t i) (slot (cond (isPlain (s .number)) test untest) t i)
+  named-test straight apart =
+      let conditional : isConditional (s .number) ≡ true = and-true jumps (ap not straight) in
+      let other : eqb (s .argument) (i + 1) ≡ false = ne-eqb (s .argument) (i + 1) (λ e. apart (sym (eqb-true (s .argument) j hit) ∙ e)) in
+      leads-taken s t j i (i + 1) (jump-goes (s .number) jumps) (or-false straight (and-right-false (isConditional (s .number)) other)) conditional hit
 
 -- ---- links as places
 

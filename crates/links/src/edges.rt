@@ -1,6 +1,6 @@
 // The links of flags: from which statements control reaches a statement.
 ghost use mathlib.Core.Path.{_≡_};
-ghost use mathlib.Core.Bool.{cond, false};
+ghost use mathlib.Core.Bool.{cond, true, false};
 ghost use mathlib.Core.List.{[]};
 ghost use Prim.Native.Nat.{ℕ, _+_};
 ghost use Rattle.table.specs.Formulas.{bitSort};
@@ -89,4 +89,15 @@ pub fn follows(n: u8, slots: &[u32], t: u8, i: u16) -> Link
         return by_test(slots, !is_plain(n), t, i);
     }
     bit_if(slots, true, t, i)
+}
+
+// How jump i of thread t, of instruction n, leads to the statement that it names, where this is not the one after it.
+pub fn named(n: u8, slots: &[u32], t: u8, i: u16) -> Link
+    ensures { λ r. ⌜ ((S : Set) (j : ℕ) → n ≡ S .statement t i .number → namesTarget (S .statement t i) j ≡ true → (j ≡ i + 1 → ⊥)
+        → r ≡ placedLink (placeOf (now (slots .entry))) (leadsOf S [] 0 t j i)) ⌝ }
+{
+    if n == JMP {
+        return bit_if(slots, true, t, i);
+    }
+    by_test(slots, is_plain(n), t, i)
 }

@@ -1,9 +1,9 @@
 -- `flags::add_jump` meets its contract. Assumes nothing.
-use Prim.Native.Nat.{ℕ, _+_, _<_}
-use mathlib.Core.Path.{refl, sym, subst}
+use Prim.Native.Nat.{_+_}
+use mathlib.Core.Path.{refl}
 use native.Mathlib.Omega.{arith}
 use denote.Ref.{now}
-use lib.ListN.{length-set}
+use lib.ListN.{getD, length-set}
 use borrow.Author.Needs.{needs}
 use Rattle.flags.proofs.add_jump.Statement.{statement}
 use Rattle.flags.proofs.add_jump.Tie as tie
@@ -32,7 +32,8 @@ cast-ways c = search needs
 slice-write-ways-2 : tie.Need-slice-write-ways-2
 slice-write-ways-2 c =
     let a = c .before .before .before .before .args in
-    subst (λ (n : ℕ). a .target < n) (sym (length-set (now (a .ways)) (32 + a .i) _)) (omega arith)
+    let same = length-set (now (a .ways)) (32 + a .i) (getD (now (a .ways)) (a .target) 0) in
+    omega arith
 
 same-length : tie.Need-same-length
 same-length c = search needs

@@ -1,15 +1,18 @@
 -- `flags::each_flag` meets its contract. Assumes nothing.
 use Rattle.members.specs.Held.{Held}
-use Rattle.flags.specs.Named.{WaysOf}
+use Rattle.flags.specs.Ways.{WaysOf}
+use Rattle.flags.proofs.Written.{row-others}
 use Rattle.places.proofs.Pieces.{writes-row, writes-more, below-after}
 use Rattle.places.specs.Pieces.{Writes}
 use Rattle.places.specs.Places.{placeOf, size}
 use Rattle.encoding.specs.Steps.{entry}
-use Rattle.encoding.specs.Slots.{flag, Slot}
+use Rattle.encoding.specs.Slots.{Kind, kindNumber, choice, flag, no, Slot, slot}
 use Rattle.table.specs.Programs.{upto}
 use Rattle.records.specs.Sets.{Set}
 use Prim.Native.Nat.{ℕ, _+_, _-_, _*_, _≤_, _<_}
-use mathlib.Core.Path.{_≡_, refl, _∙_, subst}
+use mathlib.Core.Path.{_≡_, refl, sym, _∙_, subst}
+use mathlib.Core.Bool.{false}
+use lib.Dec.{eqb}
 use mathlib.Core.List.{List}
 use native.Mathlib.Omega.{arith}
 use denote.Ref.{now}
@@ -19,14 +22,14 @@ use Rattle.flags.proofs.each_flag.Statement.{statement}
 use Rattle.flags.proofs.each_flag.Tie as tie
 
 abbrev Inv-loop : tie.InvT-loop
-Inv-loop set first members slots₀ out₀ t count n ways next₀ j₀ slots out next j =
+Inv-loop set first members slots₀ out₀ t count n ways executes no' next₀ j₀ slots out next j =
     (j ≤ count) × (next ≤ n + 36 * j) × (length out ≡ length out₀) × (length slots ≡ length slots₀)
     × ((S : Set) (cs : List ℕ) (k : ℕ) → count ≡ S .count t → WaysOf S t count ways → Held S set t first count
     → length slots₀ ≡ size → ((s : Slot) → placeOf slots₀ s < n)
     → (Writes (upto (entry S cs k flag t) j) out₀ slots₀ n out slots next) × ((s : Slot) → placeOf slots s < next))
 
 abbrev μ-loop : tie.MeasureT-loop
-μ-loop set first members slots₀ out₀ t count n ways next₀ j₀ slots out next j = count - j
+μ-loop set first members slots₀ out₀ t count n ways executes no' next₀ j₀ slots out next j = count - j
 
 slice-aggregate-list-jumps : tie.Need-slice-aggregate-list-jumps Inv-loop μ-loop
 slice-aggregate-list-jumps c = search needs
@@ -34,9 +37,15 @@ slice-aggregate-list-jumps c = search needs
 list-jumps-requires : tie.Need-list-jumps-requires Inv-loop μ-loop
 list-jumps-requires c κs = search needs
 
+place-requires : tie.Need-place-requires Inv-loop μ-loop
+place-requires c κs = search needs
+
+place-requires-2 : tie.Need-place-requires-2 Inv-loop μ-loop
+place-requires-2 c κs = search needs
+
 loop-holds : tie.Need-loop-holds Inv-loop μ-loop
 loop-holds c =
-    let a = c .before .before .before .before .before .before .before .args in (
+    let a = c .before .before .before .before .before .before .before .before .before .before .before .args in (
       omega arith,
       omega arith,
       refl,
@@ -49,7 +58,7 @@ slice-aggregate-flag c = search needs
 
 flag-requires : tie.Need-flag-requires Inv-loop μ-loop
 flag-requires c κs =
-    let q = c .before .before .before .before .before .before .before .before .before .before .before .before .pre in
+    let q = c .before .before .before .before .before .before .before .before .before .before .before .before .before .before .before .before .pre in
     let few = q .1 in
     let small = q .3 in
     (q .0, q .1, omega arith, q .2, omega arith)
@@ -62,9 +71,11 @@ loop-less c = search needs
 
 loop-again : tie.Need-loop-again Inv-loop μ-loop
 loop-again c =
-    let a = c .before .before .before .before .before .before .before .before .before .before .before .before .before .before .before .before .before .args in
+    let a = c .before .before .before .before .before .before .before .before .before .before .before .before .before .before .before .before .before .before .before .before .before .args in
     let l = c .before .before .before .before .before .before .before .before .before .loop in
     let r = c .before .before .before .before .flag in
+    let choice-place = c .before .before .before .before .before .before .before .before .before .before .before .before .place in
+    let no-place = c .before .before .before .before .before .before .before .before .before .before .place2 in
     let more = r .ensures .1 in (
       omega arith,
       omega arith,
@@ -73,7 +84,9 @@ loop-again c =
       λ (S : Set) (cs : List ℕ) (k : ℕ) count-is listed known all below.
           let f = entry S cs k flag (a .t) in
           let so-far = l .inv .4 S cs k count-is listed known all below in
-          let w = r .ensures .0 S cs k count-is listed known (l .inv .3 ∙ all) (so-far .1) in
+          let kept : (other : Kind) (x y : ℕ) → eqb (kindNumber other) (kindNumber flag) ≡ false → placeOf (now (a .slots)) (slot other x y) ≡ placeOf (l .slots) (slot other x y) =
+          λ other x y apart. sym (row-others S cs k flag (a .t) other x y apart (l .j) (now (a .out)) (now (a .slots)) (a .n) (l .out) (l .slots) (l .next) (so-far .0)) in
+          let w = r .ensures .0 S cs k count-is listed known (choice-place .ensures ∙ kept choice 0 (a .t) refl) (no-place .ensures ∙ kept no 0 0 refl) (l .inv .3 ∙ all) (so-far .1) in
           (writes-more f (l .j) (now (a .out)) (now (a .slots)) (a .n) _ _ _ _ _ _ (so-far .0) w, below-after (f (l .j)) _ _ _ _ _ _ w (so-far .1)),
     )
 
@@ -85,10 +98,10 @@ same-length-2 c = search needs
 
 returns : tie.Need-returns Inv-loop μ-loop
 returns c =
-    let a = c .before .before .before .before .before .before .before .before .before .args in
+    let a = c .before .before .before .before .before .before .before .before .before .before .before .before .before .args in
     let l = c .before .loop in
-    let few = c .before .before .before .before .before .before .before .before .before .pre .1 in
-    let lists = c .before .before .before .list-jumps .ensures .1 in
+    let few = c .before .before .before .before .before .before .before .before .before .before .before .before .before .pre .1 in
+    let lists = c .before .before .before .before .before .before .before .list-jumps .ensures .1 in
     let j-is : l .j ≡ a .count = omega arith in (
       λ (S : Set) (cs : List ℕ) (k : ℕ) count-is members known all below.
           subst (λ (i : ℕ). Writes (upto (entry S cs k flag (a .t)) i) (now (a .out)) (now (a .slots)) (a .n) (l .out) (l .slots) (l .next))
@@ -104,6 +117,8 @@ each-flag-spec =
     μ-loop
     slice-aggregate-list-jumps
     list-jumps-requires
+    place-requires
+    place-requires-2
     loop-holds
     slice-aggregate-flag
     flag-requires

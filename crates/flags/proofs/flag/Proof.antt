@@ -54,9 +54,9 @@ returns c =
     let p = c .before .before .set-place .ensures in
     let most = g .ensures .1 in
     let links = r .ensures .1 in (
-      λ (S : Set) (cs : List ℕ) (k : ℕ) count-is listed known all below.
+      λ (S : Set) (cs : List ℕ) (k : ℕ) count-is listed known executes-is no-is all below.
           let places = placeOf (now (a .slots)) in
-          let put = g .ensures .0 S cs k (s .ensures ∙ sym (known (a .j) (omega arith))) room in
+          let put = g .ensures .0 S cs k (s .ensures ∙ sym (known (a .j) (omega arith))) executes-is no-is room in
           let w : WritesTree places (treeOf S cs k flag (a .t) (a .j)) (now (a .out)) (a .n) _ (r .result .next) (r .result .at) =
           flag-chained S cs k (a .t) (a .j) (a .count) count-is places (now (a .out)) (a .n) _ (r .result .next) (r .result .at)
           (r .ensures .0 S (base S cs k flag (a .t) (a .j)) (now (a .out)) (a .n) listed known

@@ -65,7 +65,7 @@ returns-2 c =
     let left = c .before .before .before .before .before .before .before .if1 .left in
     let room : a .n ≤ 2000000000 = omega arith in (
       λ (S : Set) (tree : Term) (start : List ℕ) (m : ℕ) listed known w.
-          let unnamed = ways-unnamed S (a .t) (a .count) few (a .j) within (now (a .ways)) listed (λ (e : getD (now (a .ways)) (a .j) 0 < 32). omega arith) in
+          let unnamed = ways-unnamed S (a .t) (a .count) (a .j) (omega arith) few (now (a .ways)) listed (λ (e : getD (now (a .ways)) (a .j) 0 < 32). omega arith) in
           let places = placeOf (now (a .slots)) in
           let links = leads S [] 0 (a .t) (a .j) in
           before-leads places S (a .t) (a .j) (a .count) within unnamed tree start m (a .j - 1) (omega arith)
@@ -85,7 +85,7 @@ returns-3 c =
     let way = c .before .before .way .ensures in
     let left = c .before .if1 .left in (
       λ (S : Set) (tree : Term) (start : List ℕ) (m : ℕ) listed known w.
-          let unnamed = ways-unnamed S (a .t) (a .count) few (a .j) within (now (a .ways)) listed (λ (e : getD (now (a .ways)) (a .j) 0 < 32). omega arith) in
+          let unnamed = ways-unnamed S (a .t) (a .count) (a .j) (omega arith) few (now (a .ways)) listed (λ (e : getD (now (a .ways)) (a .j) 0 < 32). omega arith) in
           none-lead (placeOf (now (a .slots))) S (a .t) (a .j) (a .count) (omega arith) unnamed tree start m (omega arith)
           (now (a .out)) (a .n) (a .base) w,
       omega arith,

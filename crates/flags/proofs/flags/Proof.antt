@@ -36,6 +36,11 @@ returns-3 c =
 returns-4 : tie.Need-returns-4
 returns-4 c =
     let a = c .before .before .before .before .before .before .before .before .before .args in
+    ((λ (cs : List ℕ) (k : ℕ) four few room members all below. absurd (c .if4 .taken (members .whole))), λ (room : a .n ≤ 1700000000). omega arith)
+
+returns-5 : tie.Need-returns-5
+returns-5 c =
+    let a = c .before .before .before .before .before .before .before .before .before .before .args in
     ((λ (cs : List ℕ) (k : ℕ) four few (room : a .n ≤ 1700000000) members all below. absurd (omega arith)), λ (room : a .n ≤ 1700000000). omega arith)
 
 first-requires : tie.Need-first-requires
@@ -50,9 +55,9 @@ same-length c = search needs
 same-length-2 : tie.Need-same-length-2
 same-length-2 c = search needs
 
-returns-5 : tie.Need-returns-5
-returns-5 c =
-    let a = c .before .before .before .before .before .before .before .before .before .before .before .before .before .before .before .before .before .args in
+returns-6 : tie.Need-returns-6
+returns-6 c =
+    let a = c .before .before .before .before .before .before .before .before .before .before .before .before .before .before .before .before .before .before .args in
     let r = c .before .before .before .before .each-flag in
     let start = c .before .before .before .before .before .before .before .first in (
       (λ (cs : List ℕ) (k : ℕ) four few room members all below.
@@ -72,8 +77,9 @@ flags-spec =
     returns-2
     returns-3
     returns-4
+    returns-5
     first-requires
     each-flag-requires
     same-length
     same-length-2
-    returns-5)
+    returns-6)

@@ -1,130 +1,121 @@
 -- `flags::jump_links` meets its contract. Assumes nothing.
-use Rattle.links.proofs.Trees.{chain-none, chain-more, chain-to}
-use Rattle.members.specs.Held.{Held}
-use Rattle.places.specs.Pieces.{WritesTree}
+use Rattle.links.proofs.Trees.{chain-none, chain-more}
 use Rattle.places.specs.Places.{placeOf}
 use Rattle.encoding.specs.Steps.{chain, leads}
 use Rattle.encoding.specs.Slots.{Term}
 use Rattle.records.specs.Sets.{Set}
 use Prim.Native.Nat.{ℕ, _+_, _-_, _≤_, _<_}
-use mathlib.Core.Path.{_≡_, refl, sym, _∙_, subst}
+use mathlib.Core.Path.{_≡_, sym, _∙_, subst}
 use mathlib.Core.List.{List, []}
 use native.Mathlib.Omega.{arith}
 use denote.Ref.{now}
-use lib.ListN.{length}
-use Rattle.flags.specs.Named.{Leads, WaysOf}
-use Rattle.flags.proofs.Lists.{passed-over, leads-later, leads-after}
+use Rattle.flags.specs.Ways.{NamedFirst, WaysOf}
+use Rattle.flags.proofs.Lists.{named-past}
 use borrow.Author.Needs.{needs}
 use Rattle.flags.proofs.jump_links.Statement.{statement}
 use Rattle.flags.proofs.jump_links.Tie as tie
 
-abbrev Inv-loop : tie.InvT-loop
-Inv-loop set first ways slots out₀ t j count n base tree₀ hit₀ i₀ out tree hit i =
-    (i ≤ count) × (tree .next ≤ n + i) × (length out ≡ length out₀)
-    × ((S : Set) → WaysOf S t count ways → Leads S t (λ x. x < count) hit i j)
-    × ((S : Set) (base-tree : Term) (start : List ℕ) (m : ℕ) → WaysOf S t count ways → Held S set t first count
-    → WritesTree (placeOf slots) base-tree start m out₀ n base
-    → WritesTree (placeOf slots) (chain (leads S [] 0 t j) i base-tree) start m out (tree .next) (tree .at))
+-- the first jump that names j
+heads : (c : tie.After-way) → let a = c .before .before .before .before .before .args in
+    (S : Set) → WaysOf S (a .t) (a .count) (now (a .ways)) → NamedFirst S (a .t) (λ x. x < a .count) (c .way .result) 0 (a .j)
+heads c =
+    let a = c .before .before .before .before .before .args in
+    let few = c .before .before .before .before .before .pre .1 in
+    let inside = c .before .before .before .before .before .pre .2 in
+    λ (S : Set) listed. subst (λ (it : ℕ). NamedFirst S (a .t) (λ x. x < a .count) it 0 (a .j)) (sym (c .way .ensures)) (listed .first (a .j) (omega arith))
 
-abbrev μ-loop : tie.MeasureT-loop
-μ-loop set first ways slots out₀ t j count n base tree₀ hit₀ i₀ out tree hit i = count - i
-
-way-requires : tie.Need-way-requires Inv-loop μ-loop
+way-requires : tie.Need-way-requires
 way-requires c κs = search needs
 
-next-way-requires : tie.Need-next-way-requires Inv-loop μ-loop
-next-way-requires c κs = search needs
+named-links-requires : tie.Need-named-links-requires
+named-links-requires c κs = search needs
 
-loop-holds : tie.Need-loop-holds Inv-loop μ-loop
-loop-holds c =
-    let a = c .before .before .before .before .before .before .args in
-    let few = c .before .before .before .before .before .before .pre .1 in
-    let inside = c .before .before .before .before .before .before .pre .2 in
-    let f = c .next-way .ensures in
-    let most = f .1 in
-    let heads : (S : Set) → WaysOf S (a .t) (a .count) (now (a .ways)) → Leads S (a .t) (λ x. x < a .count) (c .before .way .result) 0 (a .j) =
-    λ (S : Set) listed. subst (λ (it : ℕ). Leads S (a .t) (λ x. x < a .count) it 0 (a .j)) (sym (c .before .way .ensures)) (listed .first (a .j) (omega arith)) in (
-      most,
-      omega arith,
-      refl,
-      λ (S : Set) listed. leads-later S (a .t) (a .count) few (a .j) inside (c .before .way .result) 0 (c .next-way .result) (omega arith) (heads S listed),
-      λ (S : Set) (t : Term) (start : List ℕ) (m : ℕ) listed known w.
-          let links = leads S [] 0 (a .t) (a .j) in
-          chain-to (placeOf (now (a .slots))) links t start m (now (a .out)) (a .n) (a .base) 0 (c .next-way .result) (f .0)
-          (λ (x : ℕ) (p : 0 ≤ x) (q : x < c .next-way .result). let g = f .2 x p q in
-          passed-over S (a .t) (a .count) few (a .j) inside (c .before .way .result) 0 (heads S listed) x p (omega arith) (g .0) (g .1))
-          (chain-none (placeOf (now (a .slots))) links t start m (now (a .out)) (a .n) (a .base) w),
-    )
-
-cast-statement-at : tie.Need-cast-statement-at Inv-loop μ-loop
-cast-statement-at c = search needs
-
-add-statement-at : tie.Need-add-statement-at Inv-loop μ-loop
-add-statement-at c = search needs
-
-statement-at-requires : tie.Need-statement-at-requires Inv-loop μ-loop
-statement-at-requires c κs = search needs
-
-leads-requires : tie.Need-leads-requires Inv-loop μ-loop
-leads-requires c κs = search needs
-
-put-link-requires : tie.Need-put-link-requires Inv-loop μ-loop
-put-link-requires c κs = search needs
-
-after-requires : tie.Need-after-requires Inv-loop μ-loop
-after-requires c κs = search needs
-
-add-next-way : tie.Need-add-next-way Inv-loop μ-loop
-add-next-way c = search needs
-
-next-way-requires-2 : tie.Need-next-way-requires-2 Inv-loop μ-loop
-next-way-requires-2 c κs = search needs
-
-loop-less : tie.Need-loop-less Inv-loop μ-loop
-loop-less c = let f = c .next-way2 .ensures .0 in omega arith
-
-loop-again : tie.Need-loop-again Inv-loop μ-loop
-loop-again c =
-    let a = c .before .before .before .before .before .before .before .before .before .before .before .before .before .before .before .before .args in
-    let few = c .before .before .before .before .before .before .before .before .before .before .before .before .before .before .before .before .pre .1 in
-    let inside = c .before .before .before .before .before .before .before .before .before .before .before .before .before .before .before .before .pre .2 in
-    let small = c .before .before .before .before .before .before .before .before .before .before .before .before .before .before .before .before .pre .3 in
-    let l = c .before .before .before .before .before .before .before .before .before .loop in
-    let p = c .before .before .before .before .put-link in
-    let s = c .before .before .before .before .before .before .before .statement-at in
-    let g = c .before .after in
-    let f = c .next-way2 .ensures in
-    let most = f .1 in
-    let later = f .0 in
-    let one = p .ensures .1 in
-    let room : l .tree .next ≤ 2000000000 = omega arith in
-    let listed-on : (S : Set) → WaysOf S (a .t) (a .count) (now (a .ways)) → Leads S (a .t) (λ x. x < a .count) (g .result) (l .i + 1) (a .j) =
-    λ (S : Set) listed. leads-after S (a .t) (a .count) few (a .j) inside (now (a .ways)) listed (l .hit) (l .i) (g .result) (omega arith) (g .ensures .0) (g .ensures .1) (l .inv .3 S listed) in (
-      most,
-      omega arith,
-      p .kept .0 ∙ l .inv .2,
-      λ (S : Set) listed. leads-later S (a .t) (a .count) few (a .j) inside (g .result) (l .i + 1) (c .next-way2 .result) later (listed-on S listed),
-      λ (S : Set) (t : Term) (start : List ℕ) (m : ℕ) listed known w.
-          let links = leads S [] 0 (a .t) (a .j) in
-          chain-to (placeOf (now (a .slots))) links t start m _ _ _ (l .i + 1) (c .next-way2 .result) later
-          (λ (x : ℕ) (q : l .i + 1 ≤ x) (r : x < c .next-way2 .result). let h = f .2 x q r in
-          passed-over S (a .t) (a .count) few (a .j) inside (g .result) (l .i + 1) (listed-on S listed) x q (omega arith) (h .0) (h .1))
-          (chain-more (placeOf (now (a .slots))) links t start m _ _ _ (l .i)
-          (p .ensures .0 (placeOf (now (a .slots))) (links (l .i)) (chain links (l .i) t) start m room
-          (c .before .before .before .before .before .before .leads .ensures S (s .ensures ∙ sym (known (l .i) (omega arith)))) (l .inv .4 S t start m listed known w))),
-    )
-
-same-length : tie.Need-same-length Inv-loop μ-loop
+same-length : tie.Need-same-length
 same-length c = search needs
 
-returns : tie.Need-returns Inv-loop μ-loop
+returns : tie.Need-returns
 returns c =
-    let a = c .before .before .before .before .before .before .before .before .args in
-    let l = c .before .loop in
-    let i-is : l .i ≡ a .count = omega arith in (
-      λ (S : Set) (t : Term) (start : List ℕ) (m : ℕ) listed known w.
-          subst (λ (k : ℕ). WritesTree (placeOf (now (a .slots))) (chain (leads S [] 0 (a .t) (a .j)) k t) start m (l .out) (l .tree .next) (l .tree .at))
-          i-is (l .inv .4 S t start m listed known w),
+    let a = c .before .before .before .before .before .before .before .before .before .before .before .args in
+    let few = c .before .before .before .before .before .before .before .before .before .before .before .pre .1 in
+    let inside = c .before .before .before .before .before .before .before .before .before .before .before .pre .2 in
+    let all = c .before .before .before .named-links in
+    let most = all .ensures .2 in
+    let zero = c .before .before .before .before .before .if1 .taken in (
+      λ (S : Set) (tree : Term) (start : List ℕ) (m : ℕ) listed known w.
+          all .ensures .0 S tree start m (a .j) (a .count) 0 (omega arith) (omega arith) (omega arith) (omega arith)
+          (λ (x : ℕ) (p : 0 ≤ x) (q : x < a .count) (e : a .j ≡ x + 1). omega arith) listed known (heads (c .before .before .before .before .before .before) S listed)
+          (chain-none (placeOf (now (a .slots))) (leads S [] 0 (a .t) (a .j)) tree start m (now (a .out)) (a .n) (a .base) w) .0,
+      omega arith,
+    )
+
+sub-before : tie.Need-sub-before
+sub-before c = search needs
+
+named-links-requires-2 : tie.Need-named-links-requires-2
+named-links-requires-2 c κs = search needs
+
+cast-statement-at : tie.Need-cast-statement-at
+cast-statement-at c = search needs
+
+add-statement-at : tie.Need-add-statement-at
+add-statement-at c = search needs
+
+statement-at-requires : tie.Need-statement-at-requires
+statement-at-requires c κs = search needs
+
+leads-requires : tie.Need-leads-requires
+leads-requires c κs = search needs
+
+put-link-requires : tie.Need-put-link-requires
+put-link-requires c κs = search needs
+
+past-requires : tie.Need-past-requires
+past-requires c κs = search needs
+
+named-links-requires-3 : tie.Need-named-links-requires-3
+named-links-requires-3 c κs =
+    let q = c .before .before .before .before .before .before .before .before .before .before .before .before .before .before .before .before .before .before .pre in
+    let few = q .1 in
+    let inside = q .2 in
+    let small = q .3 in
+    let most = c .before .before .before .before .before .before .before .before .before .before .named-links2 .ensures .2 in
+    let one = c .before .before .before .before .put-link .ensures .1 in
+    (q .0, q .1, omega arith, q .4)
+
+same-length-2 : tie.Need-same-length-2
+same-length-2 c = search needs
+
+returns-2 : tie.Need-returns-2
+returns-2 c =
+    let a = c .before .before .before .before .before .before .before .before .before .before .before .before .before .before .before .before .before .before .before .before .before .before .args in
+    let q = c .before .before .before .before .before .before .before .before .before .before .before .before .before .before .before .before .before .before .before .before .before .before .pre in
+    let few = q .1 in
+    let inside = q .2 in
+    let small = q .3 in
+    let later = c .before .before .before .named-links3 in
+    let g = c .before .before .before .before .before .past in
+    let p = c .before .before .before .before .before .before .before .before .put-link in
+    let link = c .before .before .before .before .before .before .before .before .before .before .leads in
+    let s = c .before .before .before .before .before .before .before .before .before .before .before .statement-at in
+    let earlier = c .before .before .before .before .before .before .before .before .before .before .before .before .before .before .named-links2 in
+    let due = earlier .ensures .1 in
+    let most = earlier .ensures .2 in
+    let one = p .ensures .1 in
+    let rest = later .ensures .2 in
+    let ahead = g .ensures .0 (omega arith) in
+    let room : earlier .result .tree .next ≤ 2000000000 = omega arith in (
+      λ (S : Set) (tree : Term) (start : List ℕ) (m : ℕ) listed known w.
+          let places = placeOf (now (a .slots)) in
+          let links = leads S [] 0 (a .t) (a .j) in
+          let before = earlier .ensures .0 S tree start m (a .j) (a .count) 0 (omega arith) (omega arith) (omega arith) (omega arith)
+          (λ (x : ℕ) (l : 0 ≤ x) (r : x < a .j - 1) (e : a .j ≡ x + 1). omega arith) listed known (heads (c .before .before .before .before .before .before .before .before .before .before .before .before .before .before .before .before .before) S listed)
+          (chain-none places links tree start m (now (a .out)) (a .n) (a .base) w) in
+          later .ensures .0 S tree start m (a .j) (a .count) (a .j - 1 + 1) (omega arith) (omega arith) (omega arith) (omega arith)
+          (λ (x : ℕ) (l : a .j - 1 + 1 ≤ x) (r : x < a .count) (e : a .j ≡ x + 1). omega arith) listed known
+          (named-past S (a .t) (a .count) (a .j) (omega arith) few (now (a .ways)) listed (earlier .result .hit) (a .j - 1) (g .result) (omega arith) due (g .ensures .1) (g .ensures .2) (before .1))
+          (chain-more places links tree start m _ _ _ (a .j - 1)
+          (p .ensures .0 places (links (a .j - 1)) (chain links (a .j - 1) tree) start m room
+          (link .ensures S (s .ensures ∙ sym (known (a .j - 1) (omega arith)))) (before .0))) .0,
       omega arith,
     )
 
@@ -132,20 +123,18 @@ pub jump-links-spec : {M : Type 1} → statement M
 jump-links-spec =
     tie.close
     (tie.spec
-    Inv-loop
-    μ-loop
     way-requires
-    next-way-requires
-    loop-holds
+    named-links-requires
+    same-length
+    returns
+    sub-before
+    named-links-requires-2
     cast-statement-at
     add-statement-at
     statement-at-requires
     leads-requires
     put-link-requires
-    after-requires
-    add-next-way
-    next-way-requires-2
-    loop-less
-    loop-again
-    same-length
-    returns)
+    past-requires
+    named-links-requires-3
+    same-length-2
+    returns-2)

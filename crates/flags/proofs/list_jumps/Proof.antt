@@ -10,7 +10,7 @@ use Rattle.records.specs.declared.Statement.{Statement}
 use Rattle.members.specs.Held.{Held}
 use Rattle.members.specs.Members.{Members, membersOf}
 use Rattle.members.proofs.Listed.{members-below}
-use Rattle.flags.specs.Named.{Ways, put}
+use Rattle.flags.specs.Ways.{Ways, withJump}
 use Rattle.flags.proofs.Lists.{From, ways-none, ways-all, ways-put, ways-kept}
 use borrow.Author.Needs.{needs}
 use Rattle.flags.proofs.list_jumps.Statement.{statement}
@@ -80,7 +80,7 @@ loop-again c =
           elim (decLt (s .result .argument) 32) [
             | yes near ↦
                 subst (Ways S (a .t) (From S (a .t) (a .count) p))
-                (sym (put-in .ensures .1 (l .inv .1 ∙ room) (omega arith) near ∙ (λ z. put (l .ways) (i-is z) (target-is z))))
+                (sym (put-in .ensures .1 (l .inv .1 ∙ room) (omega arith) near ∙ (λ z. withJump (l .ways) (i-is z) (target-is z))))
                 (ways-put S (a .t) (a .count) all few p (l .p) (omega arith) there (l .ways) old (omega arith))
             | no far ↦
                 subst (Ways S (a .t) (From S (a .t) (a .count) p)) (sym (put-in .ensures .2 (omega arith)))
