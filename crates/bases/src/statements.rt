@@ -4,7 +4,7 @@ ghost use mathlib.Core.List.{List};
 ghost use Prim.Native.Nat.{ℕ, _≤_};
 ghost use Rattle.records.specs.Sets.{Set};
 ghost use Rattle.table.specs.Programs.{Binary, binaryNumber, binarySort, ref, unary, not1, binary, and2};
-ghost use Rattle.encoding.specs.Slots.{Kind, Slot, slot, kindNumber, startPlace, choice, active, address, loaded, swaps, result, test, untest, flag, accu, accu as accuKind, no, no as noKind, nought, nought as noughtKind, argument};
+ghost use Rattle.encoding.specs.Slots.{Kind, Slot, slot, kindNumber, startPlace, choice, active, address, loaded, swaps, result, test, flag, accu, accu as accuKind, no, no as noKind, nought, nought as noughtKind, argument};
 ghost use Rattle.encoding.specs.Steps.{base as baseOf};
 ghost use Rattle.places.specs.Places.{placeOf};
 ghost use Rattle.bases.specs.Fews.{Puts, loadOf};
@@ -53,14 +53,7 @@ pub fn flag_place(slots: &[u32], t: u8, i: u16) -> u64
 }
 
 // Statement i of thread t executes; `executes` is where the choice that the thread executes lies.
-pub fn put_active(
-    slots: &[u32],
-    out: &mut [u8],
-    executes: u64,
-    t: u8,
-    i: u16,
-    n: u32,
-) -> Written
+pub fn put_active(slots: &[u32], out: &mut [u8], executes: u64, t: u8, i: u16, n: u32) -> Written
     ensures { λ r. ⌜ (executes ≡ placeOf (now (slots .entry)) (slot choice 0 t) → n ≤ 2000000000
         → Puts r (placeOf (now (slots .entry))) n (binary and2 (ref (slot flag t i)) (ref (slot choice 0 t))) (now (out .entry)) (now (out .exit))) × (r .count ≤ 4) ⌝ }
 {

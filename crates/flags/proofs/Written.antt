@@ -1,20 +1,15 @@
--- A flag's tree with its links as the code asks for them, and what flags written leave as it is. Assumes nothing.
-use Prim.Native.Nat.{ℕ, zero, suc, _+_, _≤_, _<_}
-use mathlib.Core.Path.{_≡_, refl, ap, _∙_, subst}
-use mathlib.Core.Bool.{true, false, _&&_}
+-- A flag's tree with its links as the code asks for them. Assumes nothing.
+use Prim.Native.Nat.{ℕ, suc, _+_, _≤_, _<_}
+use mathlib.Core.Path.{_≡_, subst}
+use mathlib.Core.Bool.{true, false}
 use mathlib.Core.List.{List, []}
 use native.Mathlib.Omega.{arith}
-use lib.Dec.{eqb}
 use lib.ListN.{getD}
 use borrow.Author.Tests.{ne-eqb}
-use Rattle.base.proofs.Choice.{and-false, passed, cond-both}
 use Rattle.records.specs.Sets.{Set}
-use Rattle.table.specs.Programs.{Command, upto, nextAfter, placesAfter}
-use Rattle.table.proofs.Sequences.{places-++}
-use Rattle.encoding.specs.Slots.{Kind, kindNumber, flag, Slot, slot, same, Term}
-use Rattle.encoding.specs.Steps.{Link as ChainLink, skip, linked, chain, shape, base, leads, kept, entry}
-use Rattle.places.specs.Places.{placeOf}
-use Rattle.places.specs.Pieces.{Writes, WritesTree}
+use Rattle.encoding.specs.Slots.{flag, Slot, Term}
+use Rattle.encoding.specs.Steps.{Link as ChainLink, skip, linked, chain, base, leads}
+use Rattle.places.specs.Pieces.{WritesTree}
 use Rattle.places.proofs.Entries.{treeOf}
 use Rattle.members.specs.Members.{namesTarget}
 use Rattle.links.proofs.Leads.{leads-elsewhere}
@@ -94,25 +89,3 @@ module _ (places : Slot → ℕ) (S : Set) (t j : ℕ) (small : j < 32) (count f
   -- no such jump is left
   pub reached-all : end ≤ hit → (WritesTree places (chain (leads S [] 0 t j) end tree) start m out n at) × (NamedFirst S t (λ x. x < count) hit end j)
   reached-all past = (reached-to end (r .within) past (omega arith), named-later S t count j small hit (r .low) end (r .within) (r .soonest))
-
--- ---- values of other kinds
-
--- values of one kind written leave them where they lay
-module _ (S : Set) (cs : List ℕ) (k : ℕ) (kind : Kind) (t : ℕ) (other : Kind) (a b : ℕ) (apart : eqb (kindNumber other) (kindNumber kind) ≡ false) where
-  entry-apart : (i : ℕ) (places : Slot → ℕ) (n : ℕ) → placesAfter same places n (entry S cs k kind t i) (slot other a b) ≡ places (slot other a b)
-  unfolding placesAfter
-  entry-apart i places n =
-      cond-both (λ (P : List (Command Slot)). placesAfter same places n P (slot other a b) ≡ places (slot other a b)) (kept S cs k (shape kind) t i)
-      (passed _ _ (and-false (eqb a t && eqb b i) apart)) refl
-
-  row-apart : (i : ℕ) (places : Slot → ℕ) (n : ℕ) → placesAfter same places n (upto (entry S cs k kind t) i) (slot other a b) ≡ places (slot other a b)
-  unfolding placesAfter upto
-  row-apart zero places n = refl
-  row-apart (suc i) places n =
-      let f = entry S cs k kind t in
-      ap (λ (g : Slot → ℕ). g (slot other a b)) (places-++ same places n (upto f i) (f i))
-      ∙ (entry-apart i (placesAfter same places n (upto f i)) (nextAfter same n (upto f i)) ∙ row-apart i places n)
-
-  pub row-others : (i : ℕ) (out slots : List ℕ) (n : ℕ) (out1 slots1 : List ℕ) (n1 : ℕ) → Writes (upto (entry S cs k kind t) i) out slots n out1 slots1 n1 →
-      placeOf slots1 (slot other a b) ≡ placeOf slots (slot other a b)
-  row-others i out slots n out1 slots1 n1 w = ap (λ (g : Slot → ℕ). g (slot other a b)) (w .places) ∙ row-apart i (placeOf slots) n

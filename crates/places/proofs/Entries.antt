@@ -1,13 +1,15 @@
 -- Entries and lines: what they depend on, and how they are written. Assumes nothing.
-use Prim.Native.Nat.{ℕ}
+use Prim.Native.Nat.{ℕ, zero, suc}
 use mathlib.Core.Path.{_≡_, refl, ap, sym, _∙_, subst}
-use mathlib.Core.Bool.{true, false}
+use mathlib.Core.Bool.{true, false, _&&_}
 use mathlib.Core.List.{List, [], _∷_}
+use lib.Dec.{eqb}
 use lib.ListN.{length}
-use Rattle.base.proofs.Choice.{chosen, passed}
+use Rattle.base.proofs.Choice.{and-false, chosen, passed, cond-both}
 use Rattle.records.specs.Sets.{Set}
-use Rattle.table.specs.Programs.{Command, sets, put, compiled, nextAfter, placesAfter}
-use Rattle.encoding.specs.Slots.{Kind, choice, active, opening, shut, barred, held, waits, may, none, fit, one, address, loaded, swaps, result, test, untest, flushTo, writeTo, flushValue, writeValue, raised, exits, codes, heap, val, adr, mem, accu, full, halted, flag, mark, halts, ended, code, no, yes, nought, unit, argument, Slot, slot, same, Term, kindAt}
+use Rattle.table.specs.Programs.{Command, sets, put, compiled, upto, nextAfter, placesAfter}
+use Rattle.table.proofs.Sequences.{places-++}
+use Rattle.encoding.specs.Slots.{Kind, kindNumber, choice, active, opening, shut, barred, held, waits, may, none, fit, one, address, loaded, swaps, result, test, untest, flushTo, writeTo, flushValue, writeValue, raised, exits, codes, heap, val, adr, mem, accu, full, halted, flag, mark, halts, ended, code, no, yes, nought, unit, argument, Slot, slot, same, Term, kindAt}
 use Rattle.encoding.specs.Steps.{Shape, perChoice, perThread, perStatement, perCheckpoint, perMark, beforeThread, beforeChoice, single, shape, chain, link, links, base, tree, kept, entry, line}
 use Rattle.places.specs.Places.{placeOf}
 use Rattle.places.specs.Pieces.{Writes, WritesTree}
@@ -106,3 +108,25 @@ pub line-at : (S : Set) (cs : List ℕ) (k kind l a : ℕ) → kind ≡ l → (o
     Writes (line S cs k (kindAt l) a) out slots n after slotsAfter m → Writes (line S cs k (kindAt kind) a) out slots n after slotsAfter m
 line-at S cs k kind l a e out slots n after slotsAfter m w =
     subst (λ (i : ℕ). Writes (line S cs k (kindAt i) a) out slots n after slotsAfter m) (sym e) w
+
+-- ---- values of other kinds
+
+-- values of one kind written leave them where they lay
+module _ (S : Set) (cs : List ℕ) (k : ℕ) (kind : Kind) (t : ℕ) (other : Kind) (a b : ℕ) (apart : eqb (kindNumber other) (kindNumber kind) ≡ false) where
+  pub entry-apart : (i : ℕ) (places : Slot → ℕ) (n : ℕ) → placesAfter same places n (entry S cs k kind t i) (slot other a b) ≡ places (slot other a b)
+  unfolding placesAfter
+  entry-apart i places n =
+      cond-both (λ (P : List (Command Slot)). placesAfter same places n P (slot other a b) ≡ places (slot other a b)) (kept S cs k (shape kind) t i)
+      (passed _ _ (and-false (eqb a t && eqb b i) apart)) refl
+
+  row-apart : (i : ℕ) (places : Slot → ℕ) (n : ℕ) → placesAfter same places n (upto (entry S cs k kind t) i) (slot other a b) ≡ places (slot other a b)
+  unfolding placesAfter upto
+  row-apart zero places n = refl
+  row-apart (suc i) places n =
+      let f = entry S cs k kind t in
+      ap (λ (g : Slot → ℕ). g (slot other a b)) (places-++ same places n (upto f i) (f i))
+      ∙ (entry-apart i (placesAfter same places n (upto f i)) (nextAfter same n (upto f i)) ∙ row-apart i places n)
+
+  pub row-others : (i : ℕ) (out slots : List ℕ) (n : ℕ) (out1 slots1 : List ℕ) (n1 : ℕ) → Writes (upto (entry S cs k kind t) i) out slots n out1 slots1 n1 →
+      placeOf slots1 (slot other a b) ≡ placeOf slots (slot other a b)
+  row-others i out slots n out1 slots1 n1 w = ap (λ (g : Slot → ℕ). g (slot other a b)) (w .places) ∙ row-apart i (placeOf slots) n

@@ -15,13 +15,13 @@ use Rattle.places.specs.Places.{placeOf}
 use Rattle.places.specs.Pieces.{Writes}
 use Rattle.places.specs.Idle.{Idle}
 use Rattle.places.proofs.Pieces.{writes-row, writes-more, below-after}
-use Rattle.places.proofs.Entries.{line-at}
+use Rattle.places.proofs.Entries.{line-at, entry-apart}
 use Rattle.places.proofs.Idle.{idle-entry, idle-written, no-load, no-swap, no-result, no-test, no-untest}
 use Rattle.bases.specs.Fews.{ofStatement}
 use Rattle.members.specs.Members.{members, membersOf, Members}
 use Rattle.members.proofs.Listed.{members-below, members-belong}
 use Rattle.values.specs.Lines.{Stands, Listed}
-use Rattle.values.proofs.Values.{Others, entry-apart, statement-columns, stands-by}
+use Rattle.values.proofs.Values.{Others, statement-columns, stands-by}
 use Rattle.values.proofs.Members.{belongs, members-none, members-in, members-out, member-at}
 
 -- ---- classes whose other statements have no such value

@@ -1,5 +1,5 @@
 -- Kinds that have one value for each statement: their trees, their number, and rows of them written. Assumes nothing.
-use Prim.Native.Nat.{ℕ, zero, suc, _+_, _<_}
+use Prim.Native.Nat.{ℕ, _+_, _<_}
 use mathlib.Core.Path.{_≡_, refl, ap, sym, _∙_, subst}
 use mathlib.Core.Bool.{Bool, true, false, not, _&&_, _||_, true≢false}
 use mathlib.Core.List.{List, [], _∷_}
@@ -9,17 +9,16 @@ use native.Mathlib.Omega.{arith}
 use borrow.Author.Tests.{eqb-true, ne-eqb}
 use Rattle.base.specs.Below.{every}
 use Rattle.base.proofs.Below.{every-at}
-use Rattle.base.proofs.Choice.{and-left, and-right, and-false, or-false, chosen, passed, cond-both}
+use Rattle.base.proofs.Choice.{and-left, and-right, or-false, chosen}
 use Rattle.records.specs.declared.Layout.{Layout}
 use Rattle.records.specs.Sets.{Set, setBy}
-use Rattle.table.specs.Programs.{Command, upto, nextAfter, placesAfter}
-use Rattle.table.proofs.Sequences.{places-++}
-use Rattle.encoding.specs.Slots.{Kind, kindNumber, Slot, slot, same, Term, kinds, kindAt}
+use Rattle.table.specs.Programs.{upto}
+use Rattle.encoding.specs.Slots.{Kind, kindNumber, Slot, slot, Term, kinds, kindAt}
 use Rattle.encoding.specs.Steps.{Shape, perChoice, perThread, perStatement, perCheckpoint, perMark, beforeThread, beforeChoice, single, shape, chain, link, links, base, columns, kept, entry, line}
 use Rattle.places.specs.Places.{wide, width, placeOf}
 use Rattle.places.specs.Pieces.{Writes, WritesTree}
 use Rattle.places.proofs.Pieces.{below-after, writes-row, writes-more}
-use Rattle.places.proofs.Entries.{treeOf, line-at}
+use Rattle.places.proofs.Entries.{treeOf, line-at, row-others}
 use Rattle.bases.specs.Fews.{ofStatement}
 use Rattle.bases.proofs.Given.{Apart}
 use Rattle.members.proofs.Held.{held}
@@ -102,21 +101,6 @@ abbrev pub Others : (kind : ℕ) (slots slotsAfter : List ℕ) → Type 0
 Others kind slots slotsAfter =
     (other : Kind) (a b : ℕ) → eqb (kindNumber other) (kindNumber (kindAt kind)) ≡ false → placeOf slots (slot other a b) ≡ placeOf slotsAfter (slot other a b)
 
-module _ (S : Set) (cs : List ℕ) (k : ℕ) (kind : Kind) (t : ℕ) (other : Kind) (a b : ℕ) (apart : eqb (kindNumber other) (kindNumber kind) ≡ false) where
-  pub entry-apart : (i : ℕ) (places : Slot → ℕ) (n : ℕ) → placesAfter same places n (entry S cs k kind t i) (slot other a b) ≡ places (slot other a b)
-  unfolding placesAfter
-  entry-apart i places n =
-      cond-both (λ (P : List (Command Slot)). placesAfter same places n P (slot other a b) ≡ places (slot other a b)) (kept S cs k (shape kind) t i)
-      (passed _ _ (and-false (eqb a t && eqb b i) apart)) refl
-
-  row-apart : (i : ℕ) (places : Slot → ℕ) (n : ℕ) → placesAfter same places n (upto (entry S cs k kind t) i) (slot other a b) ≡ places (slot other a b)
-  unfolding placesAfter upto
-  row-apart zero places n = refl
-  row-apart (suc i) places n =
-      let f = entry S cs k kind t in
-      ap (λ (g : Slot → ℕ). g (slot other a b)) (places-++ same places n (upto f i) (f i))
-      ∙ (entry-apart i (placesAfter same places n (upto f i)) (nextAfter same n (upto f i)) ∙ row-apart i places n)
-
 -- ---- rows
 
 -- the values of the first i statements are written
@@ -139,7 +123,7 @@ module _ (kind : ℕ) (set : List ℕ) (first count t : ℕ) (out slots : List �
       let w = row S cs k stands below in
       writes-more f i out slots n out1 slots1 n1 out2 slots2 n2 w
       (one S cs k stands (below-after (upto f i) out slots n out1 slots1 n1 w below)
-      (λ other a b apart. sym (ap (λ (g : Slot → ℕ). g (slot other a b)) (w .places) ∙ row-apart S cs k (kindAt kind) t other a b apart i (placeOf slots) n)))
+      (λ other a b apart. sym (row-others S cs k (kindAt kind) t other a b apart i out slots n out1 slots1 n1 w)))
 
   -- those of all statements are the line
   pub row-line : kind < 41 → ofStatement kind ≡ true → (i : ℕ) → i ≡ count → (out1 slots1 : List ℕ) (n1 : ℕ) →

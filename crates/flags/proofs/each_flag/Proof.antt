@@ -1,7 +1,7 @@
 -- `flags::each_flag` meets its contract. Assumes nothing.
 use Rattle.members.specs.Held.{Held}
 use Rattle.flags.specs.Ways.{WaysOf}
-use Rattle.flags.proofs.Written.{row-others}
+use Rattle.places.proofs.Entries.{row-others}
 use Rattle.places.proofs.Pieces.{writes-row, writes-more, below-after}
 use Rattle.places.specs.Pieces.{Writes}
 use Rattle.places.specs.Places.{placeOf, size}
