@@ -1,7 +1,7 @@
 -- The table of CHECKs by checkpoint: how it is made, and what it says. Assumes nothing.
 use Prim.Native.Nat.{ℕ, _+_, _*_, _≤_, _<_}
 use mathlib.Core.Path.{_≡_, refl, ap, sym, _∙_, subst}
-use mathlib.Core.Bool.{Bool, true, false}
+use mathlib.Core.Bool.{true}
 use mathlib.Core.List.{List}
 use native.Mathlib.Omega.{arith}
 use native.Mathlib.Decide.{ℕ-discrete, decLt}
@@ -20,8 +20,8 @@ use Rattle.members.specs.Members.{membersOf}
 use Rattle.members.proofs.Contains.{contains-at, contains-none}
 use Rattle.members.proofs.Listed.{members-at, members-below, members-belong, members-order}
 use Rattle.links.specs.Lists.{Leads}
-use Rattle.links.specs.Contained.{Contained, Distinct, Lists, ListsOf, Made, put}
-use Rattle.links.proofs.Lists.{lists-none, lists-moved, lists-as, lists-more}
+use Rattle.links.specs.Contained.{Contained, Distinct, ListsOf, Made, put}
+use Rattle.links.proofs.Growing.{lists-none, lists-as, lists-more}
 use Rattle.links.proofs.Trees.{chain-to}
 
 -- ---- one number more
@@ -167,10 +167,10 @@ module _ (S : Set) (cs : List ℕ) (most : length cs ≤ 8) (few : (t : ℕ) →
       -- what is kept for other threads
       module _ (c : ℕ) (column : c < 8) where
         others : (u : ℕ) → u < 4 → (u ≡ t → ⊥) → ListsOf S cs u (λ x. x < S .count u) table → ListsOf S cs u (λ x. x < S .count u) (put table t c one)
-        others u h other =
-            lists-moved (λ p. isCheck S u (getD cs p 0)) (length cs) (λ x. x < S .count u) _ _ _ _
+        others u h other lists =
+            lists-as (λ p. isCheck S u (getD cs p 0)) (length cs) (λ x. x < S .count u) (λ x. x < S .count u) (λ (y : ℕ) i. i) _ _ _ _ lists (λ (p y : ℕ) k i e. i)
             (λ (p : ℕ) (k : p < length cs). put-heads table (old .whole) t c one row column small u p h (omega arith) (λ (e : 8 * u + p ≡ 8 * t + c). other (omega arith)))
-            (λ (x : ℕ) (k : x < S .count u). let f = few u h in let s = small in
+            (λ (p x : ℕ) k (i : x < S .count u) is. let f = few u h in let s = small in
             put-nexts table (old .whole) t c one row column small u x (λ (e : 32 * u + x ≡ 32 * t + one). other (omega arith)))
 
         making-put : ListsOf S cs t (From S t j) (put table t c one) → Making S cs t (From S t j) (put table t c one)

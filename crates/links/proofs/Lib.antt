@@ -2,8 +2,8 @@
 pub mod Chained
 pub mod Checks
 pub mod Givers
+pub mod Growing
 pub mod Leads
-pub mod Lists
 pub mod Points
 pub mod Skips
 pub mod Threads

@@ -8,30 +8,12 @@ ghost use Rattle.step.specs.Machine.{contains as containsOf};
 ghost use Rattle.places.specs.Places.{listed};
 ghost use Rattle.members.specs.Members.{Members};
 ghost use Rattle.links.specs.Contained.{Contained, Distinct, Made, put};
+use crate::lists::first;
 use members::IS_CHECK;
 use members::count_of;
 use members::member;
 use places::Points;
 use records::Layout;
-
-// The first CHECK of thread t for checkpoint p, by the table; 32 if none.
-pub fn first(table: &[u8], t: u8, p: u16) -> u16
-    ensures { λ r. ⌜ r ≡ getD (now (table .entry)) (8 * t + p) 0 ⌝ }
-{
-    base::byte_at(table, 8 * (t as usize) + (p as usize)) as u16
-}
-
-// The CHECK of thread t after CHECK i for the same checkpoint, by the table; 32 if none.
-// It comes after i for every table, so that a loop over a list ends.
-pub fn following(table: &[u8], t: u8, i: u16) -> u16
-    ensures { λ r. ⌜ (i < 32 → i < r) × (i < getD (now (table .entry)) (32 + 32 * t + i) 0 → r ≡ getD (now (table .entry)) (32 + 32 * t + i) 0) ⌝ }
-{
-    let next = base::byte_at(table, 32 + 32 * (t as usize) + (i as usize)) as u16;
-    if i < next {
-        return next;
-    }
-    32
-}
 
 // Whether thread t contains checkpoint p, by the table.
 pub fn contains(table: &[u8], t: u8, p: u16) -> bool

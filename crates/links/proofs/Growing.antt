@@ -19,15 +19,6 @@ module _ (P : ℕ → ℕ → Bool) (n : ℕ) where
     onwards = λ (p x : ℕ) h i e. absurd (none p x i e);
   }
 
-  -- the same numbers, kept elsewhere
-  pub lists-moved : (In : ℕ → Type 0) (head next head' next' : ℕ → ℕ) → ((p : ℕ) → p < n → head' p ≡ head p) → ((x : ℕ) → In x → next' x ≡ next x) →
-      Lists P n In head next → Lists P n In head' next'
-  lists-moved In head next head' next' same after old = record {
-    heads = λ (p : ℕ) h. subst (λ (it : ℕ). Leads In (P p) it 0) (sym (same p h)) (old .heads p h);
-    nexts = λ (p x : ℕ) h i e. subst (λ (it : ℕ). Leads In (P p) it (x + 1)) (sym (after x i)) (old .nexts p x h i e);
-    onwards = λ (p x : ℕ) h i e. subst (λ (it : ℕ). x < it) (sym (after x i)) (old .onwards p x h i e);
-  }
-
   module _ (In More : ℕ → Type 0) (keep : (y : ℕ) → In y → More y) where
     -- the same for more statements, of which those that matter were there
     widened : (p it from later : ℕ) → from ≤ later → Leads In (P p) it from → ((x : ℕ) → More x → later ≤ x → P p x ≡ true → In x) → Leads More (P p) it later
@@ -37,7 +28,7 @@ module _ (P : ℕ → ℕ → Bool) (n : ℕ) where
     }
 
     module _ (head next head' next' : ℕ → ℕ) (old : Lists P n In head next) where
-      -- the statements that matter are the same
+      -- the statements that matter and their numbers are the same
       pub lists-as : ((p y : ℕ) → p < n → More y → P p y ≡ true → In y) → ((p : ℕ) → p < n → head' p ≡ head p) →
           ((p y : ℕ) → p < n → In y → P p y ≡ true → next' y ≡ next y) → Lists P n More head' next'
       lists-as back same after = record {
