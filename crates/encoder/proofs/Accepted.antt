@@ -19,7 +19,9 @@ use Rattle.encoding.specs.Checkpoints.{checkpoints}
 use Rattle.encoding.specs.Encodings.{encoded, tableOf}
 use Rattle.encoding.specs.Slots.{Slot}
 use Rattle.encoding.proofs.Begun.{start-below}
+use Rattle.encoding.proofs.Distinct.{first-checkpoints-differ}
 use Rattle.encoding.proofs.Listed.{few}
+use Rattle.links.specs.Contained.{Distinct}
 use Rattle.places.specs.Places.{listed, size}
 use Rattle.places.specs.declared.Points.{Points}
 use Rattle.places.proofs.Starts.{place-replicate}
@@ -35,6 +37,10 @@ module _ (set : List ℕ) (layout : Layout) (points : Points) (ok : setAccepted 
 
   pub points-are : listed points ≡ checkpoints (setOf set)
   points-are = p ∙ (ap (λ (S : Set). take 8 (checkpoints S)) read ∙ take-all 8 (checkpoints (setOf set)) (few set ok))
+
+  -- each is listed once
+  pub points-differ : Distinct (listed points)
+  points-differ = subst Distinct (sym p) (first-checkpoints-differ 8 (setBy set layout))
 
   counts : (t : ℕ) → setOf set .count t ≤ 32
   counts t = elim (decLt t (setOf set .threads)) [

@@ -14,7 +14,7 @@ ghost use Rattle.encoding.specs.Encodings.{mapDemand, starting, goalTree, first
 ghost use Rattle.encoding.specs.Slots.{Slot, same, code as codeKind};
 ghost use Rattle.encoding.specs.Steps.{only, word0, step as stepOf};
 ghost use Rattle.places.specs.Places.{placeOf, listed, size as placesCount};
-ghost use Rattle.links.specs.Contained.{Contained};
+ghost use Rattle.links.specs.Contained.{Contained, Distinct};
 ghost use Rattle.members.specs.Members.{Members};
 ghost use Rattle.encoder.specs.Answers.{sizeAnswer, encodeAnswer, tableOutput};
 ghost use Rattle.places.specs.Pieces.{Writes, Limits};
@@ -411,12 +411,13 @@ fn all_steps(
 // Writes a table that fits.
 fn write(set: &[u8], layout: Layout, points: Points, map: &[u8], bound: u8, table: &mut [u8])
     requires { ⌜ (Limits layout points (replicate placesCount 0) 4) × (cells (now map) ≤ 128) × (bound ≤ 64)
-        × (16 * length (encodedOf (setBy (now set) layout) (listed points) (now map) bound) ≤ length (now table)) ⌝ }
+        × (16 * length (encodedOf (setBy (now set) layout) (listed points) (now map) bound) ≤ length (now table))
+        × (Distinct (listed points)) ⌝ }
     ensures { λ _. ⌜ now (table .exit) ≡ writtenAt (now (table .entry)) 0 (encodedOf (setBy (now (set .entry)) layout) (listed points) (now (map .entry)) bound) ⌝ }
 {
     let mut members = [0u8; 1452];
     members::make(set, layout, &mut members);
-    let mut contained = [0u8; 32];
+    let mut contained = [32u8; 160];
     links::contained::make(set, layout, points, &members, &mut contained);
     let mut slots = [0u32; 2304];
     firsts(table);

@@ -6,6 +6,7 @@ pub mod Begun
 pub mod Blocks
 pub mod Bytes
 pub mod Demands
+pub mod Distinct
 pub mod Ends
 pub mod Failing
 pub mod Leads

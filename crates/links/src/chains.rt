@@ -4,16 +4,17 @@ ghost use mathlib.Core.Bool.{true};
 ghost use mathlib.Core.List.{List};
 ghost use Prim.Native.Nat.{ℕ, _+_, _≤_, _<_};
 ghost use lib.ListN.{length};
-ghost use Rattle.records.specs.Sets.{Set, setBy};
+ghost use Rattle.records.specs.Sets.{Set};
 ghost use Rattle.encoding.specs.Slots.{Term, kindAt, opening, waits, raised};
 ghost use Rattle.encoding.specs.Steps.{link as linkOf, links as linksOf, chain as chainOf};
 ghost use Rattle.places.specs.Pieces.{WritesTree};
-ghost use Rattle.places.specs.Places.{placeOf, listed, size};
+ghost use Rattle.places.specs.Places.{placeOf, size};
 ghost use Rattle.links.specs.Chained.{chained};
 ghost use Rattle.links.specs.Contained.{Contained};
-ghost use Rattle.members.specs.Members.{Members};
 ghost use Rattle.links.specs.Placed.{placedLink};
 use crate::Link;
+use crate::lists::first;
+use crate::lists::following;
 use crate::parts::AND;
 use crate::parts::OR;
 use crate::parts::bit_if;
@@ -23,56 +24,40 @@ use crate::parts::halts;
 use crate::parts::one;
 use crate::written::Root;
 use crate::written::put_link;
-use members::IS_CHECK;
-use members::count_of;
-use members::first;
-use members::member;
-use places::Points;
 use places::kinds;
-use records::Layout;
 
-// Writes the links that the statements of thread a give to the chain of RAISED for checkpoint b over a tree: only CHECKs are read.
+// Writes the links that the CHECKs of thread t give to the chain of RAISED for checkpoint p over a tree: only these are visited.
 pub fn raised_chain(
-    set: &[u8],
-    layout: Layout,
-    points: Points,
-    members: &[u8],
+    table: &[u8],
     slots: &[u32],
     out: &mut [u8],
-    a: u8,
-    b: u16,
+    t: u8,
+    p: u16,
     n: u32,
     base: u64,
 ) -> Root
-    ensures { λ r. ⌜ ((tree : Term) (start : List ℕ) (m : ℕ) → a < 4 → n ≤ 1900000000 → length (now (slots .entry)) ≡ size
-        → Members (setBy (now (set .entry)) layout) (now (members .entry))
+    ensures { λ r. ⌜ ((S : Set) (cs : List ℕ) (tree : Term) (start : List ℕ) (m : ℕ) → t < S .threads → p < length cs → n ≤ 1900000000 → length (now (slots .entry)) ≡ size
+        → Contained S cs (now (table .entry))
         → WritesTree (placeOf (now (slots .entry))) tree start m (now (out .entry)) n base
-        → WritesTree (placeOf (now (slots .entry)))
-        (chainOf (linkOf (setBy (now (set .entry)) layout) (listed points) 0 raised a b) (setBy (now (set .entry)) layout .count a) tree)
-        start m (now (out .exit)) (r .next) (r .at))
+        → WritesTree (placeOf (now (slots .entry))) (chainOf (linkOf S cs 0 raised t p) (S .count t) tree) start m (now (out .exit)) (r .next) (r .at))
         × (r .next ≤ n + 32) ⌝ }
 {
     let mut tree = Root { next: n, at: base };
     // With these known, the compiler drops the tests of places in the loop.
-    if 4 <= a {
+    if 4 <= t {
         return tree;
     }
     if slots.len() != 2304 {
         return tree;
     }
-    if members.len() != 1452 {
+    if table.len() != 160 {
         return tree;
     }
-    let point = places::checkpoint(points, b);
-    let from = first(layout, a);
-    let many = count_of(members, IS_CHECK, a);
-    let mut j: u16 = 0;
-    while j < many {
-        let i = member(members, IS_CHECK, a, j);
-        let s = records::statement_at(set, from + (i as u32));
-        let link = bit_if(slots, s.argument == point, a, i);
+    let mut i = first(table, t, p);
+    while i < 32 {
+        let link = bit_if(slots, true, t, i);
         tree = put_link(out, tree.next, tree.at, link);
-        j += 1;
+        i = following(table, t, i);
     }
     tree
 }
@@ -148,7 +133,7 @@ pub fn opening_chain(
     if slots.len() != 2304 {
         return tree;
     }
-    if table.len() != 32 {
+    if table.len() != 160 {
         return tree;
     }
     if 4 < threads {
@@ -184,7 +169,7 @@ pub fn waits_chain(
     if slots.len() != 2304 {
         return tree;
     }
-    if table.len() != 32 {
+    if table.len() != 160 {
         return tree;
     }
     if 8 < count {

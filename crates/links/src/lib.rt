@@ -3,6 +3,7 @@ pub mod chains;
 pub mod contained;
 pub mod edges;
 mod given;
+mod lists;
 mod parts;
 mod written;
 

@@ -62,7 +62,7 @@ pub fn openings(
     if slots.len() != 2304 {
         return n;
     }
-    if table.len() != 32 {
+    if table.len() != 160 {
         return n;
     }
     if 4 < threads {
@@ -125,7 +125,7 @@ pub fn waits(
     if slots.len() != 2304 {
         return n;
     }
-    if table.len() != 32 {
+    if table.len() != 160 {
         return n;
     }
     if 4 < threads {
@@ -166,13 +166,10 @@ fn put_marked(
 
 // Writes the mark of thread t at checkpoint p, if the thread contains it.
 fn entry(
-    set: &[u8],
-    layout: Layout,
-    points: Points,
-    members: &[u8],
     table: &[u8],
     slots: &mut [u32],
     out: &mut [u8],
+    threads: u8,
     step: u8,
     kind: u8,
     t: u8,
@@ -180,27 +177,16 @@ fn entry(
     n: u32,
 ) -> u32
     requires { ⌜ (n ≤ 1800000000) × (t < 4) × (p < 8) ⌝ }
-    ensures { λ r. ⌜ (marked kind ≡ true → Limits layout points (now (slots .entry)) n → Members (setBy (now (set .entry)) layout) (now (members .entry))
-        → Contained (setBy (now (set .entry)) layout) (listed points) (now (table .entry)) → t < layout .threads → p < length (listed points)
-        → Writes (entryOf (setBy (now (set .entry)) layout) (listed points) step (kindAt kind) t p) (now (out .entry)) (now (slots .entry)) n (now (out .exit)) (now (slots .exit)) r)
+    ensures { λ r. ⌜ ((S : Set) (cs : List ℕ) → S .threads ≡ threads → marked kind ≡ true → t < S .threads → p < length cs → Contained S cs (now (table .entry)) → length (now (slots .entry)) ≡ size
+        → ((s : Slot) → placeOf (now (slots .entry)) s < n)
+        → Writes (entryOf S cs step (kindAt kind) t p) (now (out .entry)) (now (slots .entry)) n (now (out .exit)) (now (slots .exit)) r)
         × (r ≤ n + 36) ⌝ }
 {
     if links::contained::contains(table, t, p) {
-        let base = put_marked(slots, out, layout.threads, step, kind, t, p, n);
+        let base = put_marked(slots, out, threads, step, kind, t, p, n);
         let next = n + base.count;
         if kind == kinds::RAISED {
-            let tree = links::chains::raised_chain(
-                set,
-                layout,
-                points,
-                members,
-                slots,
-                out,
-                t,
-                p,
-                next,
-                base.root,
-            );
+            let tree = links::chains::raised_chain(table, slots, out, t, p, next, base.root);
             places::set_place(slots, kind, t, p, tree.at);
             return tree.next;
         }
@@ -210,44 +196,28 @@ fn entry(
     n
 }
 
-// Writes the marks of thread t.
+// Writes the marks of thread t, for so many checkpoints.
 fn line(
-    set: &[u8],
-    layout: Layout,
-    points: Points,
-    members: &[u8],
     table: &[u8],
     slots: &mut [u32],
     out: &mut [u8],
+    threads: u8,
+    count: u16,
     step: u8,
     kind: u8,
     t: u8,
     n: u32,
 ) -> u32
-    requires { ⌜ (n ≤ 1700000000) × (t < 4) ⌝ }
-    ensures { λ r. ⌜ (marked kind ≡ true → Limits layout points (now (slots .entry)) n → Members (setBy (now (set .entry)) layout) (now (members .entry))
-        → Contained (setBy (now (set .entry)) layout) (listed points) (now (table .entry)) → t < layout .threads
-        → Writes (lineOf (setBy (now (set .entry)) layout) (listed points) step (kindAt kind) t) (now (out .entry)) (now (slots .entry)) n (now (out .exit)) (now (slots .exit)) r)
+    requires { ⌜ (n ≤ 1700000000) × (count ≤ 8) × (t < 4) ⌝ }
+    ensures { λ r. ⌜ ((S : Set) (cs : List ℕ) → S .threads ≡ threads → length cs ≡ count → marked kind ≡ true → t < S .threads → Contained S cs (now (table .entry)) → length (now (slots .entry)) ≡ size
+        → ((s : Slot) → placeOf (now (slots .entry)) s < n)
+        → Writes (lineOf S cs step (kindAt kind) t) (now (out .entry)) (now (slots .entry)) n (now (out .exit)) (now (slots .exit)) r)
         × (r ≤ n + 288) ⌝ }
 {
-    let many = places::points_count(points);
     let mut next = n;
     let mut p: u16 = 0;
-    while p < many {
-        next = entry(
-            set,
-            layout,
-            points,
-            members,
-            table,
-            slots,
-            out,
-            step,
-            kind,
-            t,
-            p,
-            next,
-        );
+    while p < count {
+        next = entry(table, slots, out, threads, step, kind, t, p, next);
         p += 1;
     }
     next
@@ -277,29 +247,18 @@ pub fn marks(
     if slots.len() != 2304 {
         return n;
     }
-    if table.len() != 32 {
+    if table.len() != 160 {
         return n;
     }
     if 4 < layout.threads {
         return n;
     }
     let many = layout.threads;
+    let count = places::points_count(points);
     let mut next = n;
     let mut t: u8 = 0;
     while t < many {
-        next = line(
-            set,
-            layout,
-            points,
-            members,
-            table,
-            slots,
-            out,
-            step,
-            kind,
-            t,
-            next,
-        );
+        next = line(table, slots, out, many, count, step, kind, t, next);
         t += 1;
     }
     next

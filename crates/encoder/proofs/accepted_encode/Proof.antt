@@ -13,7 +13,7 @@ use Rattle.table.proofs.Written.{written-table}
 use Rattle.encoding.specs.Encodings.{tableOf}
 use Rattle.encoder.specs.Answers.{encodeAnswer}
 use Rattle.encoder.specs.declared.Answer.the-variants.{Encoded}
-use Rattle.encoder.proofs.Accepted.{bound-zero, bound-large, bound-fits, limits-start, table-is}
+use Rattle.encoder.proofs.Accepted.{bound-zero, bound-large, bound-fits, limits-start, points-differ, table-is}
 use Rattle.encoder.proofs.accepted_encode.Statement.{statement}
 use Rattle.encoder.proofs.accepted_encode.Tie as tie
 
@@ -67,7 +67,7 @@ write-requires c κs =
     let p = c .before .before .before .before .before .before .before .before .before .pre in
     let points = c .before .before .before .points in
     let t = c .before .before .table-records .ensures .0 in
-    (limits-start (now (a .set)) (a .layout) (points .result) (p .0) (p .2) (points .ensures), few-cells 128 (now (a .map)) (p .1), omega arith, omega arith)
+    (limits-start (now (a .set)) (a .layout) (points .result) (p .0) (p .2) (points .ensures), few-cells 128 (now (a .map)) (p .1), omega arith, omega arith, points-differ (now (a .set)) (a .layout) (points .result) (p .0) (p .2) (points .ensures))
 
 cast-t16 : tie.Need-cast-t16
 cast-t16 c =

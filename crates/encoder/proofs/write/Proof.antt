@@ -69,7 +69,7 @@ all-steps-requires c κs =
       (let l = w .1 in omega arith),
       p .2,
       members,
-      c .before .before .before .before .before .before .before .before .before .before .before .before .before .before .before .before .make2 .ensures .1 refl (p .0 .fourThreads) members,
+      c .before .before .before .before .before .before .before .before .before .before .before .before .before .before .before .before .make2 .ensures .1 refl (p .0 .fourThreads) members (p .4),
       ended-room S cs (now (a .map)) (a .bound) (now (a .table)) _ _ _ _ (c .before .before .before .before .before .before .before .before .before .before .before .before .before .firsts .ensures) (w .0) (p .3),
       idle-written S (early S cs (now (a .map))) (idle-++ S (starting S cs) (upto (mapDemand (now (a .map))) (cells (now (a .map)))) (idle-++ S (block S cs 0 unit) (block S cs 0 argument) (idle-block S cs 0 unit) (idle-block S cs 0 argument))
           (idle-upto S (mapDemand (now (a .map))) (λ j. idle-needs S _ [] (idle-none S)) (cells (now (a .map))))) _ _ _ _ _ _ (w .0) (idle-start S 2304),

@@ -1,19 +1,18 @@
 -- `marks::line` meets its contract. Assumes nothing.
-use Rattle.places.specs.Pieces.{Writes, Limits}
-use Rattle.places.specs.Places.{listed}
-use Rattle.places.proofs.Pieces.{writes-row, writes-more, limits-after}
-use Rattle.members.specs.Members.{Members}
+use Rattle.places.specs.Pieces.{Writes}
+use Rattle.places.specs.Places.{placeOf, size}
+use Rattle.places.proofs.Pieces.{writes-row, writes-more, below-after}
 use Rattle.links.specs.Contained.{Contained}
-use Rattle.links.proofs.Points.{listed-most}
 use Rattle.marks.specs.Marked.{marked}
 use Rattle.marks.proofs.Marked.{marked-columns}
 use Rattle.encoding.specs.Steps.{entry}
-use Rattle.encoding.specs.Slots.{kindAt}
+use Rattle.encoding.specs.Slots.{Slot, kindAt}
 use Rattle.table.specs.Programs.{upto}
-use Rattle.records.specs.Sets.{setBy}
+use Rattle.records.specs.Sets.{Set}
 use Prim.Native.Nat.{ℕ, _+_, _-_, _*_, _≤_, _<_}
 use mathlib.Core.Path.{_≡_, refl, sym, _∙_, subst}
 use mathlib.Core.Bool.{true}
+use mathlib.Core.List.{List}
 use native.Mathlib.Omega.{arith}
 use lib.ListN.{length}
 use denote.Ref.{now}
@@ -22,42 +21,32 @@ use Rattle.marks.proofs.line.Statement.{statement}
 use Rattle.marks.proofs.line.Tie as tie
 
 abbrev Inv-loop : tie.InvT-loop
-Inv-loop set layout points members table slots₀ out₀ step kind t n many next₀ p₀ slots out next p =
-    (p ≤ many) × (many ≤ 8) × (n ≤ 1700000000) × (next ≤ n + 36 * p) × (length out ≡ length out₀) × (length slots ≡ length slots₀)
-    × (marked kind ≡ true → Limits layout points slots₀ n → Members (setBy set layout) members → Contained (setBy set layout) (listed points) table → t < layout .threads
-    → (Limits layout points slots next) × (Writes (upto (entry (setBy set layout) (listed points) step (kindAt kind) t) p) out₀ slots₀ n out slots next))
-    × (many ≡ length (listed points))
+Inv-loop table slots₀ out₀ threads count step kind t n next₀ p₀ slots out next p =
+    (p ≤ count) × (next ≤ n + 36 * p) × (length out ≡ length out₀) × (length slots ≡ length slots₀)
+    × ((S : Set) (cs : List ℕ) → S .threads ≡ threads → length cs ≡ count → marked kind ≡ true → t < S .threads → Contained S cs table → length slots₀ ≡ size
+    → ((s : Slot) → placeOf slots₀ s < n)
+    → ((s : Slot) → placeOf slots s < next) × (Writes (upto (entry S cs step (kindAt kind) t) p) out₀ slots₀ n out slots next))
 
 abbrev μ-loop : tie.MeasureT-loop
-μ-loop set layout points members table slots₀ out₀ step kind t n many next₀ p₀ slots out next p = many - p
-
-points-count-requires : tie.Need-points-count-requires Inv-loop μ-loop
-points-count-requires c κs = search needs
+μ-loop table slots₀ out₀ threads count step kind t n next₀ p₀ slots out next p = count - p
 
 loop-holds : tie.Need-loop-holds Inv-loop μ-loop
 loop-holds c =
-    let a = c .before .before .before .before .before .before .args in
-    let room = c .before .before .before .before .before .before .pre .0 in
-    let eight : length (a .points .numbers) ≡ 8 = search needs in
-    let few = listed-most (a .points) eight in
-    let e = c .points-count .ensures in
-    let S = setBy (now (a .set)) (a .layout) in
-    let f = entry S (listed (a .points)) (a .step) (kindAt (a .kind)) (a .t) in (
-      omega arith,
-      omega arith,
+    let a = c .before .before .before .args in (
       omega arith,
       omega arith,
       refl,
       refl,
-      λ is l members k row. (l, writes-row f (now (a .out)) (now (a .slots)) (a .n)),
-      e,
+      λ (S : Set) (cs : List ℕ) threads columns is row k all below. (below, writes-row (entry S cs (a .step) (kindAt (a .kind)) (a .t)) (now (a .out)) (now (a .slots)) (a .n)),
     )
 
 entry-requires : tie.Need-entry-requires Inv-loop μ-loop
 entry-requires c κs =
+    let q = c .before .before .before .before .before .before .before .pre in
+    let small = q .0 in
+    let few = q .1 in
     let l = c .before .before .before .loop in
-    let row = c .before .before .before .before .before .before .before .before .before .before .pre .1 in
-    (omega arith, row, omega arith)
+    (omega arith, q .2, omega arith)
 
 add-p : tie.Need-add-p Inv-loop μ-loop
 add-p c = search needs
@@ -67,26 +56,21 @@ loop-less c = search needs
 
 loop-again : tie.Need-loop-again Inv-loop μ-loop
 loop-again c =
-    let a = c .before .before .before .before .before .before .before .before .before .before .before .before .before .before .before .args in
+    let a = c .before .before .before .before .before .before .before .before .before .before .before .before .args in
     let l = c .before .before .before .before .before .before .before .before .loop in
     let r = c .before .before .before .before .entry in
-    let added = r .ensures .1 in
-    let e = l .inv .7 in
     let going = c .before .before .before .before .before .before .before .loop-test .taken in
-    let S = setBy (now (a .set)) (a .layout) in
-    let cs = listed (a .points) in
-    let f = entry S cs (a .step) (kindAt (a .kind)) (a .t) in (
+    let added = r .ensures .1 in (
       omega arith,
-      l .inv .1,
-      l .inv .2,
       omega arith,
       search needs,
       search needs,
-      λ is (limits : Limits (a .layout) (a .points) (now (a .slots)) (a .n)) members k row.
-          let before = l .inv .6 is limits members k row in
-          let w = r .ensures .0 is (before .0) members k row (omega arith) in
-          (limits-after (a .layout) (a .points) (f (l .p)) _ _ _ _ _ _ w (before .0), writes-more f (l .p) (now (a .out)) (now (a .slots)) (a .n) _ _ _ _ _ _ (before .1) w),
-      e,
+      λ (S : Set) (cs : List ℕ) threads (columns : length cs ≡ a .count) is row k (all : length (now (a .slots)) ≡ size) below.
+          let f = entry S cs (a .step) (kindAt (a .kind)) (a .t) in
+          let before = l .inv .4 S cs threads columns is row k all below in
+          let here : l .p < length cs = omega arith in
+          let w = r .ensures .0 S cs threads is row here k (l .inv .3 ∙ all) (before .0) in
+          (below-after (f (l .p)) _ _ _ _ _ _ w (before .0), writes-more f (l .p) (now (a .out)) (now (a .slots)) (a .n) _ _ _ _ _ _ (before .1) w),
     )
 
 same-length : tie.Need-same-length Inv-loop μ-loop
@@ -97,15 +81,13 @@ same-length-2 c = search needs
 
 returns : tie.Need-returns Inv-loop μ-loop
 returns c =
-    let a = c .before .before .before .before .before .before .before .before .args in
-    let l = c .before .loop in
-    let S = setBy (now (a .set)) (a .layout) in
-    let cs = listed (a .points) in
-    let e = c .before .before .points-count .ensures in
-    let p-is : l .p ≡ length cs = omega arith in (
-      (λ is (limits : Limits (a .layout) (a .points) (now (a .slots)) (a .n)) members k row.
+    let a = c .before .before .before .before .before .args in
+    let few = c .before .before .before .before .before .pre .1 in
+    let l = c .before .loop in (
+      (λ (S : Set) (cs : List ℕ) threads (columns : length cs ≡ a .count) is row k all below.
+          let end : l .p ≡ length cs = omega arith in
           subst (λ (j : ℕ). Writes (upto (entry S cs (a .step) (kindAt (a .kind)) (a .t)) j) (now (a .out)) (now (a .slots)) (a .n) (l .out) (l .slots) (l .next))
-          (p-is ∙ sym (marked-columns S cs (a .step) (a .t) (a .kind) is)) (l .inv .6 is limits members k row .1)),
+          (end ∙ sym (marked-columns S cs (a .step) (a .t) (a .kind) is)) (l .inv .4 S cs threads columns is row k all below .1)),
       omega arith,
     )
 
@@ -115,7 +97,6 @@ line-spec =
     (tie.spec
     Inv-loop
     μ-loop
-    points-count-requires
     loop-holds
     entry-requires
     add-p

@@ -1,18 +1,19 @@
 -- `marks::marks` meets its contract. Assumes nothing.
 use Rattle.places.specs.Pieces.{Writes, Limits}
-use Rattle.places.specs.Places.{listed}
-use Rattle.places.proofs.Pieces.{writes-row, writes-more, limits-after}
-use Rattle.members.specs.Members.{Members}
+use Rattle.places.specs.Places.{placeOf, listed, size}
+use Rattle.places.proofs.Pieces.{writes-row, writes-more, below-after}
 use Rattle.links.specs.Contained.{Contained}
+use Rattle.links.proofs.Points.{listed-most}
 use Rattle.marks.specs.Marked.{marked}
 use Rattle.marks.proofs.Marked.{marked-rows}
 use Rattle.encoding.specs.Steps.{line}
-use Rattle.encoding.specs.Slots.{kindAt}
+use Rattle.encoding.specs.Slots.{Slot, kindAt}
 use Rattle.table.specs.Programs.{upto}
-use Rattle.records.specs.Sets.{setBy}
-use Prim.Native.Nat.{ℕ, _+_, _-_, _*_, _≤_}
+use Rattle.records.specs.Sets.{Set, setBy}
+use Prim.Native.Nat.{ℕ, _+_, _-_, _*_, _≤_, _<_}
 use mathlib.Core.Path.{_≡_, refl, sym, _∙_, subst}
 use mathlib.Core.Bool.{true}
+use mathlib.Core.List.{List}
 use native.Mathlib.Omega.{arith}
 use lib.ListN.{length}
 use denote.Ref.{now}
@@ -21,14 +22,13 @@ use Rattle.marks.proofs.marks.Statement.{statement}
 use Rattle.marks.proofs.marks.Tie as tie
 
 abbrev Inv-loop : tie.InvT-loop
-Inv-loop set layout points members table slots₀ out₀ step kind n many next₀ t₀ slots out next t =
-    (t ≤ many) × (many ≤ 4) × (n ≤ 1600000000) × (next ≤ n + 288 * t) × (length out ≡ length out₀) × (length slots ≡ length slots₀)
-    × (marked kind ≡ true → Limits layout points slots₀ n → Members (setBy set layout) members → Contained (setBy set layout) (listed points) table
-    → (Limits layout points slots next) × (Writes (upto (line (setBy set layout) (listed points) step (kindAt kind)) t) out₀ slots₀ n out slots next))
-    × (many ≡ layout .threads)
+Inv-loop set members table slots₀ out₀ step kind n many count next₀ t₀ slots out next t =
+    (t ≤ many) × (many ≤ 4) × (count ≤ 8) × (n ≤ 1600000000) × (next ≤ n + 288 * t) × (length out ≡ length out₀) × (length slots ≡ length slots₀)
+    × ((S : Set) (cs : List ℕ) → S .threads ≡ many → length cs ≡ count → marked kind ≡ true → Contained S cs table → length slots₀ ≡ size → ((s : Slot) → placeOf slots₀ s < n)
+    → ((s : Slot) → placeOf slots s < next) × (Writes (upto (line S cs step (kindAt kind)) t) out₀ slots₀ n out slots next))
 
 abbrev μ-loop : tie.MeasureT-loop
-μ-loop set layout points members table slots₀ out₀ step kind n many next₀ t₀ slots out next t = many - t
+μ-loop set members table slots₀ out₀ step kind n many count next₀ t₀ slots out next t = many - t
 
 returns : tie.Need-returns Inv-loop μ-loop
 returns c =
@@ -50,27 +50,31 @@ returns-4 c =
     let a = c .before .before .before .before .before .before .before .before .before .before .args in
     ((λ is (l : Limits (a .layout) (a .points) (now (a .slots)) (a .n)) room members k. let four = l .fourThreads in absurd (omega arith)), λ room. omega arith)
 
+points-count-requires : tie.Need-points-count-requires Inv-loop μ-loop
+points-count-requires c κs = search needs
+
 loop-holds : tie.Need-loop-holds Inv-loop μ-loop
 loop-holds c =
-    let a = c .before .before .before .before .before .before .before .before .before .before .args in
-    let room = c .before .before .before .before .if1 .left in
-    let four = c .if4 .left in
-    let S = setBy (now (a .set)) (a .layout) in
-    let f = line S (listed (a .points)) (a .step) (kindAt (a .kind)) in (
+    let a = c .before .before .before .before .before .before .before .before .before .before .before .args in
+    let room = c .before .before .before .before .before .if1 .left in
+    let four = c .before .if4 .left in
+    let eight : length (a .points .numbers) ≡ 8 = search needs in
+    let few = listed-most (a .points) eight in
+    let e = c .points-count .ensures in (
+      omega arith,
       omega arith,
       omega arith,
       omega arith,
       omega arith,
       refl,
       refl,
-      λ is l members k. (l, writes-row f (now (a .out)) (now (a .slots)) (a .n)),
-      refl,
+      λ (S : Set) (cs : List ℕ) threads columns is k all below. (below, writes-row (line S cs (a .step) (kindAt (a .kind))) (now (a .out)) (now (a .slots)) (a .n)),
     )
 
 line-requires : tie.Need-line-requires Inv-loop μ-loop
 line-requires c κs =
     let l = c .before .before .before .loop in
-    (omega arith, omega arith)
+    (omega arith, l .inv .2, omega arith)
 
 add-t : tie.Need-add-t Inv-loop μ-loop
 add-t c = search needs
@@ -80,26 +84,24 @@ loop-less c = search needs
 
 loop-again : tie.Need-loop-again Inv-loop μ-loop
 loop-again c =
-    let a = c .before .before .before .before .before .before .before .before .before .before .before .before .before .before .before .before .before .before .before .args in
+    let a = c .before .before .before .before .before .before .before .before .before .before .before .before .before .before .before .before .before .before .before .before .args in
     let l = c .before .before .before .before .before .before .before .before .loop in
     let r = c .before .before .before .before .line in
-    let added = r .ensures .1 in
-    let e = l .inv .7 in
     let going = c .before .before .before .before .before .before .before .loop-test .taken in
-    let S = setBy (now (a .set)) (a .layout) in
-    let cs = listed (a .points) in
-    let f = line S cs (a .step) (kindAt (a .kind)) in (
+    let added = r .ensures .1 in (
       omega arith,
       l .inv .1,
       l .inv .2,
+      l .inv .3,
       omega arith,
       search needs,
       search needs,
-      λ is (limits : Limits (a .layout) (a .points) (now (a .slots)) (a .n)) members k.
-          let before = l .inv .6 is limits members k in
-          let w = r .ensures .0 is (before .0) members k (omega arith) in
-          (limits-after (a .layout) (a .points) (f (l .t)) _ _ _ _ _ _ w (before .0), writes-more f (l .t) (now (a .out)) (now (a .slots)) (a .n) _ _ _ _ _ _ (before .1) w),
-      e,
+      λ (S : Set) (cs : List ℕ) (threads : S .threads ≡ a .layout .threads) columns is k (all : length (now (a .slots)) ≡ size) below.
+          let f = line S cs (a .step) (kindAt (a .kind)) in
+          let before = l .inv .7 S cs threads columns is k all below in
+          let here : l .t < S .threads = omega arith in
+          let w = r .ensures .0 S cs threads columns is here k (l .inv .6 ∙ all) (before .0) in
+          (below-after (f (l .t)) _ _ _ _ _ _ w (before .0), writes-more f (l .t) (now (a .out)) (now (a .slots)) (a .n) _ _ _ _ _ _ (before .1) w),
     )
 
 same-length : tie.Need-same-length Inv-loop μ-loop
@@ -110,14 +112,15 @@ same-length-2 c = search needs
 
 returns-5 : tie.Need-returns-5 Inv-loop μ-loop
 returns-5 c =
-    let a = c .before .before .before .before .before .before .before .before .before .before .before .before .args in
+    let a = c .before .before .before .before .before .before .before .before .before .before .before .before .before .args in
     let l = c .before .loop in
     let S = setBy (now (a .set)) (a .layout) in
     let cs = listed (a .points) in
+    let e = c .before .before .points-count .ensures in
     let t-is : l .t ≡ a .layout .threads = omega arith in (
       (λ is (limits : Limits (a .layout) (a .points) (now (a .slots)) (a .n)) room members k.
           subst (λ (j : ℕ). Writes (upto (line S cs (a .step) (kindAt (a .kind))) j) (now (a .out)) (now (a .slots)) (a .n) (l .out) (l .slots) (l .next))
-          (t-is ∙ sym (marked-rows S cs (a .step) (a .kind) is)) (l .inv .6 is limits members k .1)),
+          (t-is ∙ sym (marked-rows S cs (a .step) (a .kind) is)) (l .inv .7 S cs refl (sym e) is k (limits .allPlaces) (limits .below) .1)),
       λ room. omega arith,
     )
 
@@ -131,6 +134,7 @@ marks-spec =
     returns-2
     returns-3
     returns-4
+    points-count-requires
     loop-holds
     line-requires
     add-t

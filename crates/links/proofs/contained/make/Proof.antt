@@ -1,15 +1,15 @@
 -- `links::contained::make` meets its contract. Assumes nothing.
-use Prim.Native.Nat.{ℕ, _+_, _-_, _*_, _≤_, _<_}
+use Prim.Native.Nat.{_-_, _≤_}
 use mathlib.Core.Path.{_≡_, refl, _∙_}
 use native.Mathlib.Omega.{arith}
-use lib.ListN.{length}
+use lib.ListN.{length, replicate}
 use denote.Ref.{now}
 use Rattle.records.specs.Sets.{setBy}
 use Rattle.places.specs.Places.{listed}
 use Rattle.members.specs.Members.{Members}
-use Rattle.links.specs.Contained.{SaysTo}
+use Rattle.links.specs.Contained.{Distinct, Made}
+use Rattle.links.proofs.Checks.{made-none, made-all}
 use Rattle.links.proofs.Points.{listed-most}
-use Rattle.links.proofs.Says.{says-none, says-all}
 use borrow.Author.Needs.{needs}
 use Rattle.links.proofs.contained.make.Statement.{statement}
 use Rattle.links.proofs.contained.make.Tie as tie
@@ -17,7 +17,7 @@ use Rattle.links.proofs.contained.make.Tie as tie
 abbrev Inv-loop : tie.InvT-loop
 Inv-loop set layout points members table₀ many t₀ table t =
     (t ≤ many) × (many ≤ 4) × (length (listed points) ≤ 8) × (length table ≡ length table₀)
-    × (length table₀ ≡ 32 → Members (setBy set layout) members → SaysTo (setBy set layout) (listed points) table (8 * t))
+    × (table₀ ≡ replicate 160 32 → Members (setBy set layout) members → Distinct (listed points) → Made (setBy set layout) (listed points) t table)
 
 abbrev μ-loop : tie.MeasureT-loop
 μ-loop set layout points members table₀ many t₀ table t = many - t
@@ -25,19 +25,20 @@ abbrev μ-loop : tie.MeasureT-loop
 returns : tie.Need-returns Inv-loop μ-loop
 returns c =
     let a = c .before .before .before .before .args in
-    (refl, λ room (four : a .layout .threads ≤ 4) members. absurd (omega arith))
+    (refl, λ empty (four : a .layout .threads ≤ 4) members distinct. absurd (omega arith))
 
 loop-holds : tie.Need-loop-holds Inv-loop μ-loop
 loop-holds c =
     let a = c .before .before .before .before .args in
+    let S = setBy (now (a .set)) (a .layout) in
     let four = c .if1 .left in
     let eight : length (a .points .numbers) ≡ 8 = search needs in
-    let few = listed-most (a .points) eight in (
+    let most = listed-most (a .points) eight in (
       omega arith,
       omega arith,
-      few,
+      most,
       refl,
-      λ room members. says-none (setBy (now (a .set)) (a .layout)) (listed (a .points)) (now (a .table)) few,
+      λ empty (members : Members S (now (a .members))) distinct. made-none S (listed (a .points)) most (members .few) (now (a .table)) empty,
     )
 
 make-thread-requires : tie.Need-make-thread-requires Inv-loop μ-loop
@@ -60,8 +61,7 @@ loop-again c =
       l .inv .1,
       l .inv .2,
       w .ensures .0 ∙ l .inv .3,
-      λ room members (u q : ℕ) (inside : q < length (listed (a .points))) (h : 8 * u + q < 8 * (l .t + 1)).
-          w .ensures .1 (l .inv .3 ∙ room) (omega arith) members (l .inv .4 room members) u q inside (omega arith),
+      λ empty members distinct. w .ensures .1 (omega arith) members distinct (l .inv .4 empty members distinct),
     )
 
 same-length : tie.Need-same-length Inv-loop μ-loop
@@ -70,10 +70,11 @@ same-length c = search needs
 returns-2 : tie.Need-returns-2 Inv-loop μ-loop
 returns-2 c =
     let a = c .before .before .before .before .before .before .args in
+    let S = setBy (now (a .set)) (a .layout) in
     let l = c .before .loop in (
       l .inv .3,
-      λ room four members.
-          says-all (setBy (now (a .set)) (a .layout)) (listed (a .points)) (l .table) (l .inv .2) (l .t) (omega arith) (omega arith) (l .inv .3 ∙ room) (l .inv .4 room members),
+      λ empty four (members : Members S (now (a .members))) distinct.
+          made-all S (listed (a .points)) (l .inv .2) (members .few) (l .t) (omega arith) (omega arith) (l .table) (l .inv .4 empty members distinct),
     )
 
 pub make-spec : {M : Type 1} → statement M
