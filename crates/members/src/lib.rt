@@ -5,7 +5,6 @@ ghost use lib.ListN.{length, getD, replicate};
 ghost use Rattle.records.specs.Sets.{Set, setBy};
 ghost use Rattle.members.specs.Members.{inClass, membersOf, Members, Filled};
 
-pub mod checks;
 mod statements;
 
 use records::Layout;
