@@ -6,8 +6,7 @@ use mathlib.Core.List.{List}
 use native.Mathlib.Omega.{arith}
 use native.Mathlib.Decide.{ℕ-discrete, decLt}
 use lib.Dec.{eqb, ltb}
-use lib.ListN.{length, set, getD, replicate, length-set, length-replicate, getD-replicate}
-use lib.Seq.{getD-set-same, getD-set-other}
+use lib.ListN.{length, getD, replicate, length-replicate, getD-replicate}
 use borrow.Author.Tests.{eq-eqb, eqb-true, lt-ltb, le-ltb}
 use Rattle.base.proofs.Choice.{and-true, and-left, and-right, refuted, passed}
 use Rattle.records.specs.Instructions.{CHECK}
@@ -18,49 +17,26 @@ use Rattle.encoding.specs.Steps.{skip, link, chain}
 use Rattle.places.specs.Pieces.{WritesTree}
 use Rattle.members.specs.Members.{membersOf}
 use Rattle.members.proofs.Contains.{contains-at, contains-none}
-use Rattle.members.proofs.Listed.{members-at, members-below, members-belong, members-order}
+use Rattle.members.proofs.Listed.{members-below, members-belong}
 use Rattle.links.specs.Lists.{Leads}
 use Rattle.links.specs.Contained.{Contained, Distinct, ListsOf, Made, put}
-use Rattle.links.proofs.Growing.{lists-none, lists-as, lists-more}
+use Rattle.links.proofs.Growing.{lists-as, put-length, put-head, put-next, put-others, From, from-none, from-all, from-same, from-more}
 use Rattle.links.proofs.Trees.{chain-to}
 
 -- ---- one number more
 
-module _ (table : List ℕ) (whole : length table ≡ 160) (t p i : ℕ) (row : t < 4) (column : p < 8) (few : i < 32) where
-  abbrev under : List ℕ
-  under = set table (32 + 32 * t + i) (getD table (8 * t + p) 0)
-
-  under-length : length under ≡ 160
-  under-length = length-set table (32 + 32 * t + i) (getD table (8 * t + p) 0) ∙ whole
-
-  pub put-length : length (put table t p i) ≡ 160
-  put-length = length-set under (8 * t + p) i ∙ under-length
-
-  put-head : getD (put table t p i) (8 * t + p) 0 ≡ i
-  put-head = getD-set-same under (8 * t + p) i 0 (let e = under-length in omega arith)
-
+module _ (table : List ℕ) (t p i : ℕ) (few : i < 32) where
   put-heads : (u q : ℕ) → u < 4 → q < 8 → (8 * u + q ≡ 8 * t + p → ⊥) → getD (put table t p i) (8 * u + q) 0 ≡ getD table (8 * u + q) 0
-  put-heads u q h k other =
-      getD-set-other under (8 * t + p) (8 * u + q) i 0 other
-      ∙ getD-set-other table (32 + 32 * t + i) (8 * u + q) (getD table (8 * t + p) 0) 0 (λ (e : 8 * u + q ≡ 32 + 32 * t + i). omega arith)
+  put-heads u q h k other = put-others table (32 + 32 * t + i) (8 * t + p) i (8 * u + q) other (λ (e : 8 * u + q ≡ 32 + 32 * t + i). omega arith)
 
-  put-next : getD (put table t p i) (32 + 32 * t + i) 0 ≡ getD table (8 * t + p) 0
-  put-next =
-      getD-set-other under (8 * t + p) (32 + 32 * t + i) i 0 (λ (e : 32 + 32 * t + i ≡ 8 * t + p). omega arith)
-      ∙ getD-set-same table (32 + 32 * t + i) (getD table (8 * t + p) 0) 0 (omega arith)
+  put-nexts : t < 4 → p < 8 → (u y : ℕ) → (32 * u + y ≡ 32 * t + i → ⊥) → getD (put table t p i) (32 + 32 * u + y) 0 ≡ getD table (32 + 32 * u + y) 0
+  put-nexts row column u y other =
+      put-others table (32 + 32 * t + i) (8 * t + p) i (32 + 32 * u + y)
+      (λ (e : 32 + 32 * u + y ≡ 8 * t + p). omega arith) (λ (e : 32 + 32 * u + y ≡ 32 + 32 * t + i). other (omega arith))
 
-  put-nexts : (u y : ℕ) → (32 * u + y ≡ 32 * t + i → ⊥) → getD (put table t p i) (32 + 32 * u + y) 0 ≡ getD table (32 + 32 * u + y) 0
-  put-nexts u y other =
-      getD-set-other under (8 * t + p) (32 + 32 * u + y) i 0 (λ (e : 32 + 32 * u + y ≡ 8 * t + p). omega arith)
-      ∙ getD-set-other table (32 + 32 * t + i) (32 + 32 * u + y) (getD table (8 * t + p) 0) 0 (λ (e : 32 + 32 * u + y ≡ 32 + 32 * t + i). other (omega arith))
+-- ---- the table while a thread's CHECKs are listed
 
--- ---- a thread's CHECKs from the member of number j on
-
--- statement x of thread t comes after its first j CHECKs
-abbrev pub From : Set → (t j : ℕ) → ℕ → Type 0
-From S t j x = (x < S .count t) × ((q : ℕ) → q < j → getD (membersOf S 7 t) q 0 < x)
-
--- the table while thread t is listed: its statements that are In, and the threads before
+-- of thread t its statements that are In, and the threads before
 pub record Making (S : Set) (cs : List ℕ) (t : ℕ) (In : ℕ → Type 0) (table : List ℕ) : Type 0 where
   pub whole : length table ≡ 160
   pub before : (u : ℕ) → u < t → u < 4 → ListsOf S cs u (λ x. x < S .count u) table
@@ -89,76 +65,38 @@ module _ (S : Set) (cs : List ℕ) (most : length cs ≤ 8) (few : (t : ℕ) →
   }
 
   module _ (t : ℕ) (row : t < 4) where
+    checks : (p x : ℕ) → isCheck S t (getD cs p 0) x ≡ true → eqb (S .statement t x .number) CHECK ≡ true
+    checks p x = and-left (eqb (S .statement t x .number) CHECK) (eqb (S .statement t x .argument) (getD cs p 0))
+
     -- no CHECK comes after all of them
-    pub making-none : (j : ℕ) → j ≡ length (membersOf S 7 t) → (table : List ℕ) → Made S cs t table → Making S cs t (From S t j) table
+    pub making-none : (j : ℕ) → j ≡ length (membersOf S 7 t) → (table : List ℕ) → Made S cs t table → Making S cs t (From S 7 t j) table
     making-none j e table m = record {
       whole = m .whole;
       before = m .before;
-      here =
-          lists-none (λ p. isCheck S t (getD cs p 0)) (length cs) (From S t j) (λ p. getD table (8 * t + p) 0) (λ x. getD table (32 + 32 * t + x) 0)
-          (λ (p x : ℕ) f is.
-          let at = members-at S 7 t (S .count t) x (f .0) (and-left (eqb (S .statement t x .number) CHECK) (eqb (S .statement t x .argument) (getD cs p 0)) is) in
-          let i = at .inside in
-          let h = at .here in
-          let b = f .1 (at .place) (omega arith) in
-          omega arith)
-          (λ (p : ℕ) (h : p < length cs). m .after t p (omega arith) row (omega arith));
+      here = from-none S 7 t (λ p. isCheck S t (getD cs p 0)) (length cs) checks j e _ _ (λ (p : ℕ) (h : p < length cs). m .after t p (omega arith) row (omega arith));
       after = λ (u p : ℕ) (l : t < u) h k. m .after u p (omega arith) h k;
     }
 
     -- those from 0 on are all
-    pub making-all : (j : ℕ) → j ≡ 0 → (table : List ℕ) → Making S cs t (From S t j) table → Made S cs (t + 1) table
+    pub making-all : (j : ℕ) → j ≡ 0 → (table : List ℕ) → Making S cs t (From S 7 t j) table → Made S cs (t + 1) table
     making-all j e table m = record {
       whole = m .whole;
       before = λ (u : ℕ) (l : u < t + 1) h. elim (ℕ-discrete u t) [
         | yes same ↦
             subst (λ (v : ℕ). ListsOf S cs v (λ x. x < S .count v) table) (sym same)
-            (lists-as (λ p. isCheck S t (getD cs p 0)) (length cs) (From S t j) (λ x. x < S .count t) (λ (y : ℕ) f. f .0) _ _ _ _ (m .here)
-            (λ (p y : ℕ) k i is. (i, λ (q : ℕ) (b : q < j). absurd (omega arith))) (λ p k. refl) (λ p y k i is. refl))
+            (from-all S 7 t (λ p. isCheck S t (getD cs p 0)) (length cs) checks j e _ _ (m .here))
         | no other ↦ m .before u (omega arith) h
       ];
       after = λ (u p : ℕ) (l : t + 1 ≤ u) h k. m .after u p (omega arith) h k;
     }
 
     -- the CHECK before
-    module _ (j r : ℕ) (next : r ≡ j + 1) (inside : j < length (membersOf S 7 t)) (table : List ℕ) (old : Making S cs t (From S t r) table) where
+    module _ (j r : ℕ) (next : r ≡ j + 1) (inside : j < length (membersOf S 7 t)) (table : List ℕ) (old : Making S cs t (From S 7 t r) table) where
       abbrev one : ℕ
       one = getD (membersOf S 7 t) j 0
 
-      below : one < S .count t
-      below = members-below S 7 t (S .count t) j inside
-
       small : one < 32
-      small = let b = below in let f = few t row in omega arith
-
-      keep : (y : ℕ) → From S t r y → From S t j y
-      keep y f = (f .0, λ (q : ℕ) (l : q < j). f .1 q (omega arith))
-
-      later : (y : ℕ) → From S t r y → one < y
-      later y f = f .1 j (omega arith)
-
-      new : From S t j one
-      new = (below, λ (q : ℕ) (l : q < j). members-order S 7 t (S .count t) q j l inside)
-
-      split : (p y : ℕ) → From S t j y → isCheck S t (getD cs p 0) y ≡ true → (y ≡ one → ⊥) → From S t r y
-      split p y f n other =
-          let at = members-at S 7 t (S .count t) y (f .0) (and-left (eqb (S .statement t y .number) CHECK) (eqb (S .statement t y .argument) (getD cs p 0)) n) in
-          let i = at .inside in
-          let h = at .here in
-          let past : j < at .place = elim (decLt (at .place) j) [
-            | yes l ↦ let b = f .1 (at .place) l in absurd (omega arith)
-            | no l ↦ elim (ℕ-discrete (at .place) j) [
-              | yes same ↦ absurd (other (sym h ∙ ap (λ (k : ℕ). getD (membersOf S 7 t) k 0) same))
-              | no apart ↦ omega arith
-            ]
-          ] in
-          let o = members-order S 7 t (S .count t) j (at .place) past i in (
-            f .0,
-            λ (q : ℕ) (l : q < r). elim (ℕ-discrete q j) [
-              | yes e ↦ let g : getD (membersOf S 7 t) q 0 ≡ one = ap (λ (k : ℕ). getD (membersOf S 7 t) k 0) e in omega arith
-              | no e ↦ f .1 q (omega arith)
-            ],
-          )
+      small = let b = members-below S 7 t (S .count t) j inside in let f = few t row in omega arith
 
       -- the number of the checkpoint that it is of
       named : (p : ℕ) → isCheck S t (getD cs p 0) one ≡ true → getD cs p 0 ≡ S .statement t one .argument
@@ -169,48 +107,49 @@ module _ (S : Set) (cs : List ℕ) (most : length cs ≤ 8) (few : (t : ℕ) →
         others : (u : ℕ) → u < 4 → (u ≡ t → ⊥) → ListsOf S cs u (λ x. x < S .count u) table → ListsOf S cs u (λ x. x < S .count u) (put table t c one)
         others u h other lists =
             lists-as (λ p. isCheck S u (getD cs p 0)) (length cs) (λ x. x < S .count u) (λ x. x < S .count u) (λ (y : ℕ) i. i) _ _ _ _ lists (λ (p y : ℕ) k i e. i)
-            (λ (p : ℕ) (k : p < length cs). put-heads table (old .whole) t c one row column small u p h (omega arith) (λ (e : 8 * u + p ≡ 8 * t + c). other (omega arith)))
+            (λ (p : ℕ) (k : p < length cs). put-heads table t c one small u p h (omega arith) (λ (e : 8 * u + p ≡ 8 * t + c). other (omega arith)))
             (λ (p x : ℕ) k (i : x < S .count u) is. let f = few u h in let s = small in
-            put-nexts table (old .whole) t c one row column small u x (λ (e : 32 * u + x ≡ 32 * t + one). other (omega arith)))
+            put-nexts table t c one small row column u x (λ (e : 32 * u + x ≡ 32 * t + one). other (omega arith)))
 
-        making-put : ListsOf S cs t (From S t j) (put table t c one) → Making S cs t (From S t j) (put table t c one)
+        after-one : (y : ℕ) → one < y → getD (put table t c one) (32 + 32 * t + y) 0 ≡ getD table (32 + 32 * t + y) 0
+        after-one y l = put-nexts table t c one small row column t y (λ (e : 32 * t + y ≡ 32 * t + one). omega arith)
+
+        making-put : ListsOf S cs t (From S 7 t j) (put table t c one) → Making S cs t (From S 7 t j) (put table t c one)
         making-put lists = record {
-          whole = put-length table (old .whole) t c one row column small;
+          whole = put-length table (32 + 32 * t + one) (8 * t + c) one ∙ old .whole;
           before = λ (u : ℕ) (l : u < t) h. others u h (λ (e : u ≡ t). omega arith) (old .before u l h);
           here = lists;
           after = λ (u p : ℕ) (l : t < u) (h : u < 4) (k : p < 8).
-              put-heads table (old .whole) t c one row column small u p h k (λ (e : 8 * u + p ≡ 8 * t + c). omega arith) ∙ old .after u p l h k;
+              put-heads table t c one small u p h k (λ (e : 8 * u + p ≡ 8 * t + c). omega arith) ∙ old .after u p l h k;
         }
 
         -- it is put before the CHECKs of its checkpoint
-        pub making-more : Distinct cs → c < length cs → getD cs c 0 ≡ S .statement t one .argument → Making S cs t (From S t j) (put table t c one)
+        pub making-more : Distinct cs → c < length cs → getD cs c 0 ≡ S .statement t one .argument → Making S cs t (From S 7 t j) (put table t c one)
         making-more distinct listed is =
             making-put
-            (lists-more (λ p. isCheck S t (getD cs p 0)) (length cs) (From S t r) (From S t j) keep _ _ _ _ (old .here) one c small listed new
+            (from-more S 7 t (λ p. isCheck S t (getD cs p 0)) (length cs) checks j r next inside _ _ _ _ (old .here) after-one c small listed
             (and-true (members-belong S 7 t (S .count t) j inside) (eq-eqb (S .statement t one .argument) (getD cs c 0) (sym is)))
-            (λ (p : ℕ) k e. distinct p c k listed (named p e ∙ sym is)) later split
-            (put-head table (old .whole) t c one row column small)
-            (λ (p : ℕ) (k : p < length cs) other. put-heads table (old .whole) t c one row column small t p row (omega arith) (λ (e : 8 * t + p ≡ 8 * t + c). other (omega arith)))
-            (put-next table (old .whole) t c one row column small)
-            (λ (y : ℕ) f. let l = later y f in put-nexts table (old .whole) t c one row column small t y (λ (e : 32 * t + y ≡ 32 * t + one). omega arith)))
+            (λ (p : ℕ) k e. distinct p c k listed (named p e ∙ sym is))
+            (put-head table (32 + 32 * t + one) (8 * t + c) one (let w = old .whole in omega arith))
+            (λ (p : ℕ) (k : p < length cs) other. put-heads table t c one small t p row (omega arith) (λ (e : 8 * t + p ≡ 8 * t + c). other (omega arith)))
+            (put-next table (32 + 32 * t + one) (8 * t + c) one (let w = old .whole in let s = small in omega arith) (λ (e : 32 + 32 * t + one ≡ 8 * t + c). omega arith)))
 
       -- its checkpoint is not listed
       module _ (unlisted : (p : ℕ) → p < length cs → getD cs p 0 ≡ S .statement t one .argument → ⊥) where
-        back : (p y : ℕ) → p < length cs → From S t j y → isCheck S t (getD cs p 0) y ≡ true → From S t r y
-        back p y h f is = split p y f is (λ (e : y ≡ one). unlisted p h (named p (ap (λ (x : ℕ). isCheck S t (getD cs p 0) x) (sym e) ∙ is)))
+        none : (p : ℕ) → p < length cs → isCheck S t (getD cs p 0) one ≡ true → ⊥
+        none p h is = unlisted p h (named p is)
 
-        pub making-other : (c : ℕ) → c < 8 → length cs ≤ c → Making S cs t (From S t j) (put table t c one)
+        pub making-other : (c : ℕ) → c < 8 → length cs ≤ c → Making S cs t (From S 7 t j) (put table t c one)
         making-other c column past =
             making-put c column
-            (lists-as (λ p. isCheck S t (getD cs p 0)) (length cs) (From S t r) (From S t j) keep _ _ _ _ (old .here) back
-            (λ (p : ℕ) (k : p < length cs). put-heads table (old .whole) t c one row column small t p row (omega arith) (λ (e : 8 * t + p ≡ 8 * t + c). omega arith))
-            (λ (p y : ℕ) k f is. let l = later y f in put-nexts table (old .whole) t c one row column small t y (λ (e : 32 * t + y ≡ 32 * t + one). omega arith)))
+            (from-same S 7 t (λ p. isCheck S t (getD cs p 0)) (length cs) checks j r next inside _ _ _ _ (old .here) (after-one c column) none
+            (λ (p : ℕ) (k : p < length cs). put-heads table t c one small t p row (omega arith) (λ (e : 8 * t + p ≡ 8 * t + c). omega arith)))
 
-        pub making-kept : Making S cs t (From S t j) table
+        pub making-kept : Making S cs t (From S 7 t j) table
         making-kept = record {
           whole = old .whole;
           before = old .before;
-          here = lists-as (λ p. isCheck S t (getD cs p 0)) (length cs) (From S t r) (From S t j) keep _ _ _ _ (old .here) back (λ p k. refl) (λ p y k f is. refl);
+          here = from-same S 7 t (λ p. isCheck S t (getD cs p 0)) (length cs) checks j r next inside _ _ _ _ (old .here) (λ y l. refl) none (λ p k. refl);
           after = old .after;
         }
 

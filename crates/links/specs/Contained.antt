@@ -2,12 +2,12 @@
 -- then 32 numbers for each thread, the next CHECK of the same checkpoint after each statement; 32 where there is none. Assumes nothing.
 use Prim.Native.Nat.{ℕ, _+_, _*_, _≤_, _<_}
 use mathlib.Core.Path.{_≡_}
-use mathlib.Core.Bool.{Bool, true}
+use mathlib.Core.Bool.{true}
 use mathlib.Core.List.{List}
 use lib.ListN.{length, set, getD}
 use Rattle.records.specs.Sets.{Set}
 use Rattle.step.specs.Machine.{isCheck}
-use Rattle.links.specs.Lists.{Leads}
+use Rattle.links.specs.Lists.{Leads, Lists}
 
 pub record Contained (S : Set) (cs : List ℕ) (table : List ℕ) : Type 0 where
   pub whole : length table ≡ 160
@@ -24,12 +24,6 @@ abbrev pub Distinct : List ℕ → Type 0
 Distinct cs = (p q : ℕ) → p < length cs → q < length cs → getD cs p 0 ≡ getD cs q 0 → p ≡ q
 
 -- ---- the table while it is made
-
--- n lists of the statements that are In, of which list p has those of which P p holds, each list by its first statement and the next after each
-pub record Lists (P : ℕ → ℕ → Bool) (n : ℕ) (In : ℕ → Type 0) (head next : ℕ → ℕ) : Type 0 where
-  pub heads : (p : ℕ) → p < n → Leads In (P p) (head p) 0
-  pub nexts : (p x : ℕ) → p < n → In x → P p x ≡ true → Leads In (P p) (next x) (x + 1)
-  pub onwards : (p x : ℕ) → p < n → In x → P p x ≡ true → x < next x
 
 -- those of thread t by checkpoint
 abbrev pub ListsOf : Set → List ℕ → (t : ℕ) → (ℕ → Type 0) → List ℕ → Type 0

@@ -22,7 +22,7 @@ heads c =
     let a = c .before .before .before .before .before .args in
     let few = c .before .before .before .before .before .pre .1 in
     let inside = c .before .before .before .before .before .pre .2 in
-    λ (S : Set) listed. subst (λ (it : ℕ). NamedFirst S (a .t) (λ x. x < a .count) it 0 (a .j)) (sym (c .way .ensures)) (listed .first (a .j) (omega arith))
+    λ (S : Set) listed. subst (λ (it : ℕ). NamedFirst S (a .t) (λ x. x < a .count) it 0 (a .j)) (sym (c .way .ensures)) (listed .lists .heads (a .j) (omega arith))
 
 way-requires : tie.Need-way-requires
 way-requires c κs = search needs

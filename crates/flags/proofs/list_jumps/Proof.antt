@@ -10,8 +10,9 @@ use Rattle.records.specs.declared.Statement.{Statement}
 use Rattle.members.specs.Held.{Held}
 use Rattle.members.specs.Members.{Members, membersOf}
 use Rattle.members.proofs.Listed.{members-below}
+use Rattle.links.proofs.Growing.{From}
 use Rattle.flags.specs.Ways.{Ways, withJump}
-use Rattle.flags.proofs.Lists.{From, ways-none, ways-all, ways-put, ways-kept}
+use Rattle.flags.proofs.Lists.{ways-none, ways-all, ways-put, ways-kept}
 use borrow.Author.Needs.{needs}
 use Rattle.flags.proofs.list_jumps.Statement.{statement}
 use Rattle.flags.proofs.list_jumps.Tie as tie
@@ -20,7 +21,7 @@ abbrev Inv-loop : tie.InvT-loop
 Inv-loop set first members ways₀ t count p₀ ways p =
     (p ≤ p₀) × (length ways ≡ length ways₀)
     × ((S : Set) → count ≡ S .count t → Members S members → Held S set t first count
-    → length ways₀ ≡ 64 → ((k : ℕ) → k < 64 → getD ways₀ k 0 ≡ 32) → Ways S t (From S t count p) ways)
+    → length ways₀ ≡ 64 → ((k : ℕ) → k < 64 → getD ways₀ k 0 ≡ 32) → Ways S t (From S 8 t p) ways)
 
 abbrev μ-loop : tie.MeasureT-loop
 μ-loop set first members ways₀ t count p₀ ways p = p
@@ -33,7 +34,7 @@ loop-holds c =
     let a = c .before .before .before .before .args in
     let four = c .before .before .before .before .pre .1 in
     let many = c .count-of .ensures .0 in
-    (omega arith, refl, λ (S : Set) all members known room empty. ways-none S (a .t) (a .count) all (c .count-of .result) (many S members (omega arith) four) (now (a .ways)) room empty)
+    (omega arith, refl, λ (S : Set) all members known room empty. ways-none S (a .t) (c .count-of .result) (many S members (omega arith) four) (now (a .ways)) room empty)
 
 sub-p : tie.Need-sub-p Inv-loop μ-loop
 sub-p c = search needs
@@ -79,12 +80,12 @@ loop-again c =
           let old = l .inv .2 S all members known room empty in
           elim (decLt (s .result .argument) 32) [
             | yes near ↦
-                subst (Ways S (a .t) (From S (a .t) (a .count) p))
+                subst (Ways S (a .t) (From S 8 (a .t) p))
                 (sym (put-in .ensures .1 (l .inv .1 ∙ room) (omega arith) near ∙ (λ z. withJump (l .ways) (i-is z) (target-is z))))
-                (ways-put S (a .t) (a .count) all few p (l .p) (omega arith) there (l .ways) old (omega arith))
+                (ways-put S (a .t) p (l .p) (omega arith) there (l .ways) old (omega arith) (omega arith))
             | no far ↦
-                subst (Ways S (a .t) (From S (a .t) (a .count) p)) (sym (put-in .ensures .2 (omega arith)))
-                (ways-kept S (a .t) (a .count) all few p (l .p) (omega arith) there (l .ways) old (omega arith))
+                subst (Ways S (a .t) (From S 8 (a .t) p)) (sym (put-in .ensures .2 (omega arith)))
+                (ways-kept S (a .t) p (l .p) (omega arith) there (l .ways) old (omega arith))
           ],
     )
 
@@ -96,7 +97,7 @@ returns c =
     let a = c .before .before .before .before .before .before .args in
     let l = c .before .loop in (
       l .inv .1,
-      λ (S : Set) all members known room empty. ways-all S (a .t) (a .count) all (l .p) (omega arith) (l .ways) (l .inv .2 S all members known room empty),
+      λ (S : Set) all members known room empty. ways-all S (a .t) (l .p) (omega arith) (a .count) all (l .ways) (l .inv .2 S all members known room empty),
     )
 
 pub list-jumps-spec : {M : Type 1} → statement M

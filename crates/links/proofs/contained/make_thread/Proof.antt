@@ -13,7 +13,8 @@ use Rattle.members.specs.Members.{Members, membersOf}
 use Rattle.members.proofs.Held.{held, held-member}
 use Rattle.members.proofs.Listed.{members-below}
 use Rattle.links.specs.Contained.{Distinct, Made, put}
-use Rattle.links.proofs.Checks.{From, Making, making-none, making-all, making-more, making-other, making-kept}
+use Rattle.links.proofs.Checks.{Making, making-none, making-all, making-more, making-other, making-kept}
+use Rattle.links.proofs.Growing.{From}
 use Rattle.links.proofs.Points.{listed-most}
 use borrow.Author.Needs.{needs}
 use Rattle.links.proofs.contained.make_thread.Statement.{statement}
@@ -23,7 +24,7 @@ abbrev Inv-loop : tie.InvT-loop
 Inv-loop set points members table₀ t from j₀ table j =
     (j ≤ j₀) × (from < 65536) × (length (listed points) ≤ 8) × (length table ≡ length table₀)
     × ((S : Set) → t < 4 → Members S members → Held S set t from (S .count t) → Distinct (listed points) → Made S (listed points) t table₀
-    → Making S (listed points) t (From S t j) table)
+    → Making S (listed points) t (From S 7 t j) table)
 
 abbrev μ-loop : tie.MeasureT-loop
 μ-loop set points members table₀ t from j₀ table j = j
@@ -102,16 +103,16 @@ loop-again c =
           λ far (p : ℕ) (h : p < length cs) e. point .ensures .2 p (omega arith) (e ∙ sym number-is) in
           elim (decLt (point .result) (length cs)) [
             | yes near ↦
-                subst (Making S cs (a .t) (From S (a .t) j))
+                subst (Making S cs (a .t) (From S 7 (a .t) j))
                 (sym (put-in .ensures .1 (old .whole) row (omega arith) (omega arith) ∙ ap (put (l .table) (a .t) (point .result)) i-is))
                 (making-more S cs most (members .few) (a .t) row j (l .j) (omega arith) there (l .table) old (point .result) (omega arith) distinct near (point .ensures .1 near ∙ number-is))
             | no far ↦ elim (decLt (point .result) 8) [
               | yes column ↦
-                  subst (Making S cs (a .t) (From S (a .t) j))
+                  subst (Making S cs (a .t) (From S 7 (a .t) j))
                   (sym (put-in .ensures .1 (old .whole) row column (omega arith) ∙ ap (put (l .table) (a .t) (point .result)) i-is))
                   (making-other S cs most (members .few) (a .t) row j (l .j) (omega arith) there (l .table) old (unlisted (omega arith)) (point .result) column (omega arith))
               | no past ↦
-                  subst (Making S cs (a .t) (From S (a .t) j)) (sym (put-in .ensures .2 (omega arith)))
+                  subst (Making S cs (a .t) (From S 7 (a .t) j)) (sym (put-in .ensures .2 (omega arith)))
                   (making-kept S cs most (members .few) (a .t) row j (l .j) (omega arith) there (l .table) old (unlisted (omega arith)))
             ]
           ],
