@@ -14,7 +14,7 @@ ghost use Rattle.places.specs.Pieces.{Writes, Limits};
 ghost use Rattle.places.specs.Idle.{Idle};
 ghost use Rattle.bases.specs.Fews.{ofStatement};
 ghost use Rattle.links.specs.Chained.{chained};
-ghost use Rattle.links.specs.Contained.{Contained};
+ghost use Rattle.checkpoints.specs.Contained.{Contained};
 ghost use Rattle.members.specs.Members.{Members};
 ghost use Rattle.blocks.specs.Entries.{BareEntry, GivenEntry, ByThread, AfterThread};
 use places::Points;

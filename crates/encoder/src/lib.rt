@@ -14,7 +14,7 @@ ghost use Rattle.encoding.specs.Encodings.{mapDemand, starting, goalTree, first
 ghost use Rattle.encoding.specs.Slots.{Slot, same, code as codeKind};
 ghost use Rattle.encoding.specs.Steps.{only, word0, step as stepOf};
 ghost use Rattle.places.specs.Places.{placeOf, listed, size as placesCount};
-ghost use Rattle.links.specs.Contained.{Contained, Distinct};
+ghost use Rattle.checkpoints.specs.Contained.{Contained, Distinct};
 ghost use Rattle.members.specs.Members.{Members};
 ghost use Rattle.encoder.specs.Answers.{sizeAnswer, encodeAnswer, tableOutput};
 ghost use Rattle.places.specs.Pieces.{Writes, Limits};
@@ -418,7 +418,7 @@ fn write(set: &[u8], layout: Layout, points: Points, map: &[u8], bound: u8, tabl
     let mut members = [0u8; 1452];
     members::make(set, layout, &mut members);
     let mut contained = [32u8; 160];
-    links::contained::make(set, layout, points, &members, &mut contained);
+    checkpoints::contained::make(set, layout, points, &members, &mut contained);
     let mut slots = [0u32; 2304];
     firsts(table);
     let first = before_steps(set, layout, points, &members, map, &mut slots, table);

@@ -14,7 +14,7 @@ use Rattle.records.specs.Sets.{Set}
 use Rattle.encoding.specs.Steps.{skip, leads}
 use Rattle.members.specs.Members.{membersOf, namesTarget}
 use Rattle.members.proofs.Listed.{members-belong}
-use Rattle.links.proofs.Growing.{widened, put-length, put-head, put-next, put-others, From, from-none, from-all, from-same, from-more}
+use Rattle.checkpoints.proofs.Growing.{widened, put-length, put-head, put-next, put-others, From, from-none, from-all, from-same, from-more}
 use Rattle.links.proofs.Leads.{leads-elsewhere}
 use Rattle.flags.specs.Ways.{naming, NamedFirst, Ways, WaysOf, withJump}
 

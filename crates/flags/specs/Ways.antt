@@ -6,7 +6,7 @@ use mathlib.Core.List.{List}
 use lib.ListN.{length, set, getD}
 use Rattle.records.specs.Sets.{Set}
 use Rattle.members.specs.Members.{namesTarget}
-use Rattle.links.specs.Lists.{Leads, Lists}
+use Rattle.checkpoints.specs.Lists.{Leads, Lists}
 
 -- statement x of thread t is a jump to j
 abbrev pub naming : Set → (t j x : ℕ) → Bool

@@ -10,11 +10,9 @@ ghost use Rattle.encoding.specs.Steps.{link as linkOf, links as linksOf, chain 
 ghost use Rattle.places.specs.Pieces.{WritesTree};
 ghost use Rattle.places.specs.Places.{placeOf, size};
 ghost use Rattle.links.specs.Chained.{chained};
-ghost use Rattle.links.specs.Contained.{Contained};
+ghost use Rattle.checkpoints.specs.Contained.{Contained};
 ghost use Rattle.links.specs.Placed.{placedLink};
 use crate::Link;
-use crate::lists::first;
-use crate::lists::following;
 use crate::parts::AND;
 use crate::parts::OR;
 use crate::parts::bit_if;
@@ -24,6 +22,8 @@ use crate::parts::halts;
 use crate::parts::one;
 use crate::written::Root;
 use crate::written::put_link;
+use checkpoints::lists::first;
+use checkpoints::lists::following;
 use places::kinds;
 
 // Writes the links that the CHECKs of thread t give to the chain of RAISED for checkpoint p over a tree: only these are visited.

@@ -1,9 +1,7 @@
 // The links of a table's chains, and chains written over a tree (crate encoding: `link`, `links`, `chain`).
 pub mod chains;
-pub mod contained;
 pub mod edges;
 mod given;
-mod lists;
 mod parts;
 mod written;
 

@@ -7,10 +7,10 @@ ghost use lib.ListN.{length, getD};
 ghost use Rattle.records.specs.Sets.{Set};
 ghost use Rattle.step.specs.Machine.{contains as containsOf};
 ghost use Rattle.places.specs.Places.{placeFrom};
-ghost use Rattle.links.specs.Contained.{Contained};
+ghost use Rattle.checkpoints.specs.Contained.{Contained};
 ghost use Rattle.links.specs.Placed.{noLink, ifLink, bitLink};
 use crate::Link;
-use crate::contained::contains;
+use checkpoints::contained::contains;
 use places::kinds;
 use places::place;
 

@@ -11,7 +11,7 @@ ghost use Rattle.places.specs.Places.{placeOf, listed, size};
 ghost use Rattle.places.specs.Pieces.{Writes, Limits};
 ghost use Rattle.bases.specs.Fews.{Puts};
 ghost use Rattle.members.specs.Members.{Members};
-ghost use Rattle.links.specs.Contained.{Contained};
+ghost use Rattle.checkpoints.specs.Contained.{Contained};
 ghost use Rattle.marks.specs.Marked.{marked};
 use bases::Written;
 use places::Points;
@@ -182,7 +182,7 @@ fn entry(
         → Writes (entryOf S cs step (kindAt kind) t p) (now (out .entry)) (now (slots .entry)) n (now (out .exit)) (now (slots .exit)) r)
         × (r ≤ n + 36) ⌝ }
 {
-    if links::contained::contains(table, t, p) {
+    if checkpoints::contained::contains(table, t, p) {
         let base = put_marked(slots, out, threads, step, kind, t, p, n);
         let next = n + base.count;
         if kind == kinds::RAISED {

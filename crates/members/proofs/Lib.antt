@@ -1,5 +1,4 @@
 -- Laws of the members of classes, of a thread's statements and of its checkpoints.
-pub mod Contains
 pub mod Filling
 pub mod Held
 pub mod Listed

@@ -11,7 +11,7 @@ use Rattle.encoding.specs.Steps.{blocks, ruled, step}
 use Rattle.places.specs.Places.{listed}
 use Rattle.places.proofs.Pieces.{writes-++, limits-after}
 use Rattle.places.proofs.Idle.{idle-none, idle-needs, idle-written}
-use Rattle.links.proofs.Points.{listed-most}
+use Rattle.checkpoints.proofs.Counted.{listed-most}
 use Rattle.blocks.proofs.Sequence.{ready-blocks}
 use borrow.Author.Needs.{needs}
 use Rattle.blocks.proofs.one_step.Statement.{statement}

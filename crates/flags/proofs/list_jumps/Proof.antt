@@ -10,7 +10,7 @@ use Rattle.records.specs.declared.Statement.{Statement}
 use Rattle.members.specs.Held.{Held}
 use Rattle.members.specs.Members.{Members, membersOf}
 use Rattle.members.proofs.Listed.{members-below}
-use Rattle.links.proofs.Growing.{From}
+use Rattle.checkpoints.proofs.Growing.{From}
 use Rattle.flags.specs.Ways.{Ways, withJump}
 use Rattle.flags.proofs.Lists.{ways-none, ways-all, ways-put, ways-kept}
 use borrow.Author.Needs.{needs}

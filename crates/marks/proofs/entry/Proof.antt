@@ -5,7 +5,7 @@ use Rattle.places.specs.Pieces.{WritesTree}
 use Rattle.places.specs.Places.{placeOf}
 use Rattle.places.proofs.Entries.{entry-none, entry-kept, treeOf}
 use Rattle.places.proofs.Rows.{width-least}
-use Rattle.links.specs.Contained.{Contained}
+use Rattle.checkpoints.specs.Contained.{Contained}
 use Rattle.bases.proofs.Given.{put-written}
 use Rattle.encoding.specs.Steps.{base, shape, kept}
 use Rattle.encoding.specs.Slots.{kindAt}

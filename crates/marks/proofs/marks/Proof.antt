@@ -2,8 +2,8 @@
 use Rattle.places.specs.Pieces.{Writes, Limits}
 use Rattle.places.specs.Places.{placeOf, listed, size}
 use Rattle.places.proofs.Pieces.{writes-row, writes-more, below-after}
-use Rattle.links.specs.Contained.{Contained}
-use Rattle.links.proofs.Points.{listed-most}
+use Rattle.checkpoints.specs.Contained.{Contained}
+use Rattle.checkpoints.proofs.Counted.{listed-most}
 use Rattle.marks.specs.Marked.{marked}
 use Rattle.marks.proofs.Marked.{marked-rows}
 use Rattle.encoding.specs.Steps.{line}

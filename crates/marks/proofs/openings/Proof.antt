@@ -2,7 +2,7 @@
 use Rattle.places.specs.Pieces.{Writes}
 use Rattle.places.specs.Places.{placeOf, size}
 use Rattle.places.proofs.Pieces.{writes-row, writes-more, below-after}
-use Rattle.links.specs.Contained.{Contained}
+use Rattle.checkpoints.specs.Contained.{Contained}
 use Rattle.marks.proofs.Blocks.{openings-written}
 use Rattle.encoding.specs.Steps.{entry}
 use Rattle.encoding.specs.Slots.{Slot, opening}

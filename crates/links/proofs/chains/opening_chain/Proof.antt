@@ -1,5 +1,5 @@
 -- `links::chains::opening_chain` meets its contract. Assumes nothing.
-use Rattle.links.specs.Contained.{Contained}
+use Rattle.checkpoints.specs.Contained.{Contained}
 use Rattle.links.proofs.Leads.{and-placed}
 use Rattle.step.specs.Machine.{contains}
 use Rattle.records.specs.Sets.{Set}

@@ -12,9 +12,9 @@ use Rattle.encoding.specs.Slots.{Term, slot, active, raised, yes}
 use Rattle.encoding.specs.Steps.{only, link, chain}
 use Rattle.places.specs.Pieces.{WritesTree}
 use Rattle.places.specs.Places.{placeOf}
-use Rattle.links.specs.Contained.{Contained}
-use Rattle.links.specs.Lists.{Leads}
-use Rattle.links.proofs.Checks.{Reached, reached}
+use Rattle.checkpoints.specs.Contained.{Contained}
+use Rattle.checkpoints.specs.Lists.{Leads}
+use Rattle.links.proofs.Raised.{Reached, reached}
 use Rattle.links.proofs.Leads.{if-placed}
 use Rattle.links.proofs.Trees.{chain-none, chain-more}
 use borrow.Author.Needs.{needs}

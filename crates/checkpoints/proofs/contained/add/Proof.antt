@@ -1,12 +1,12 @@
--- `links::contained::add` meets its contract. Assumes nothing.
+-- `checkpoints::contained::add` meets its contract. Assumes nothing.
 use Prim.Native.Nat.{ℕ, _+_, _*_, _<_}
 use mathlib.Core.Path.{refl, sym, subst}
 use native.Mathlib.Omega.{arith}
 use denote.Ref.{now}
 use lib.ListN.{length-set}
 use borrow.Author.Needs.{needs}
-use Rattle.links.proofs.contained.add.Statement.{statement}
-use Rattle.links.proofs.contained.add.Tie as tie
+use Rattle.checkpoints.proofs.contained.add.Statement.{statement}
+use Rattle.checkpoints.proofs.contained.add.Tie as tie
 
 returns : tie.Need-returns
 returns c = (refl, λ all row column few. absurd (c .if1 .taken all), λ far. refl)

@@ -8,20 +8,15 @@ use native.Mathlib.Decide.{ℕ-discrete, decLt}
 use lib.Dec.{eqb, ltb}
 use lib.ListN.{length, getD, replicate, length-replicate, getD-replicate}
 use borrow.Author.Tests.{eq-eqb, eqb-true, lt-ltb, le-ltb}
-use Rattle.base.proofs.Choice.{and-true, and-left, and-right, refuted, passed}
+use Rattle.base.proofs.Choice.{and-true, and-left, and-right, refuted}
 use Rattle.records.specs.Instructions.{CHECK}
 use Rattle.records.specs.Sets.{Set}
 use Rattle.step.specs.Machine.{isCheck, contains}
-use Rattle.encoding.specs.Slots.{Slot, Term, raised}
-use Rattle.encoding.specs.Steps.{skip, link, chain}
-use Rattle.places.specs.Pieces.{WritesTree}
 use Rattle.members.specs.Members.{membersOf}
-use Rattle.members.proofs.Contains.{contains-at, contains-none}
+use Rattle.checkpoints.proofs.Contains.{contains-at, contains-none}
 use Rattle.members.proofs.Listed.{members-below, members-belong}
-use Rattle.links.specs.Lists.{Leads}
-use Rattle.links.specs.Contained.{Contained, Distinct, ListsOf, Made, put}
-use Rattle.links.proofs.Growing.{lists-as, put-length, put-head, put-next, put-others, From, from-none, from-all, from-same, from-more}
-use Rattle.links.proofs.Trees.{chain-to}
+use Rattle.checkpoints.specs.Contained.{Contained, Distinct, ListsOf, Made, put}
+use Rattle.checkpoints.proofs.Growing.{lists-as, put-length, put-head, put-next, put-others, From, from-none, from-all, from-same, from-more}
 
 -- ---- one number more
 
@@ -168,21 +163,3 @@ module _ (S : Set) (cs table : List ℕ) (k : Contained S cs table) (t p : ℕ) 
         (λ (x : ℕ) (i : x < S .count t). refuted (isCheck S t (getD cs p 0) x)
         (λ e. let few = k .fewStatements t row in let l = k .first t p row column .soonest x i (omega arith) e in omega arith)))
   ]
-
--- the chain of RAISED, where statement `it` is the next CHECK to visit: it is written up to there, or whole
-pub record Reached (S : Set) (cs : List ℕ) (t p : ℕ) (places : Slot → ℕ) (tree : Term) (start : List ℕ) (m : ℕ) (out : List ℕ) (n at it : ℕ) : Type 0 where
-  pub there : it < 32 → (it < S .count t) × (isCheck S t (getD cs p 0) it ≡ true) × WritesTree places (chain (link S cs 0 raised t p) it tree) start m out n at
-  pub done : 32 ≤ it → WritesTree places (chain (link S cs 0 raised t p) (S .count t) tree) start m out n at
-
-pub reached : (S : Set) (cs : List ℕ) (t p : ℕ) → S .count t ≤ 32 → (places : Slot → ℕ) (tree : Term) (start : List ℕ) (m : ℕ) (out : List ℕ) (n at it from : ℕ) →
-    from ≤ it → from ≤ S .count t → Leads (λ x. x < S .count t) (isCheck S t (getD cs p 0)) it from →
-    WritesTree places (chain (link S cs 0 raised t p) from tree) start m out n at → Reached S cs t p places tree start m out n at it
-reached S cs t p few places tree start m out n at it from onward most l w = record {
-  there = λ h. let b = l .belongs h in let i = b .0 in
-      (b .0, b .1, chain-to places (link S cs 0 raised t p) tree start m out n at from it onward (λ (x : ℕ) (q : from ≤ x) (r : x < it). none x q (omega arith) r) w);
-  done = λ (h : 32 ≤ it).
-      chain-to places (link S cs 0 raised t p) tree start m out n at from (S .count t) most (λ (x : ℕ) (q : from ≤ x) (r : x < S .count t). none x q r (omega arith)) w;
-}
-  where
-    none : (x : ℕ) → from ≤ x → x < S .count t → x < it → link S cs 0 raised t p x ≡ skip
-    none x q i r = passed _ _ (refuted (isCheck S t (getD cs p 0) x) (λ e. let b = l .soonest x i q e in omega arith))

@@ -1,15 +1,15 @@
--- `links::contained::contains` meets its contract. Assumes nothing.
+-- `checkpoints::contained::contains` meets its contract. Assumes nothing.
 use Prim.Native.Nat.{ℕ}
 use mathlib.Core.Path.{ap, _∙_}
 use mathlib.Core.List.{List}
 use lib.Dec.{ltb}
 use denote.Ref.{now}
 use Rattle.records.specs.Sets.{Set}
-use Rattle.links.specs.Contained.{Contained}
-use Rattle.links.proofs.Checks.{says}
+use Rattle.checkpoints.specs.Contained.{Contained}
+use Rattle.checkpoints.proofs.Checks.{says}
 use borrow.Author.Needs.{needs}
-use Rattle.links.proofs.contained.contains.Statement.{statement}
-use Rattle.links.proofs.contained.contains.Tie as tie
+use Rattle.checkpoints.proofs.contained.contains.Statement.{statement}
+use Rattle.checkpoints.proofs.contained.contains.Tie as tie
 
 first-requires : tie.Need-first-requires
 first-requires c κs = search needs

@@ -1,4 +1,4 @@
--- `links::contained::make` meets its contract. Assumes nothing.
+-- `checkpoints::contained::make` meets its contract. Assumes nothing.
 use Prim.Native.Nat.{_-_, _≤_}
 use mathlib.Core.Path.{_≡_, refl, _∙_}
 use native.Mathlib.Omega.{arith}
@@ -7,12 +7,12 @@ use denote.Ref.{now}
 use Rattle.records.specs.Sets.{setBy}
 use Rattle.places.specs.Places.{listed}
 use Rattle.members.specs.Members.{Members}
-use Rattle.links.specs.Contained.{Distinct, Made}
-use Rattle.links.proofs.Checks.{made-none, made-all}
-use Rattle.links.proofs.Points.{listed-most}
+use Rattle.checkpoints.specs.Contained.{Distinct, Made}
+use Rattle.checkpoints.proofs.Checks.{made-none, made-all}
+use Rattle.checkpoints.proofs.Counted.{listed-most}
 use borrow.Author.Needs.{needs}
-use Rattle.links.proofs.contained.make.Statement.{statement}
-use Rattle.links.proofs.contained.make.Tie as tie
+use Rattle.checkpoints.proofs.contained.make.Statement.{statement}
+use Rattle.checkpoints.proofs.contained.make.Tie as tie
 
 abbrev Inv-loop : tie.InvT-loop
 Inv-loop set layout points members table₀ many t₀ table t =

@@ -10,7 +10,7 @@ use lib.Seq.{getD-set-same, getD-set-other}
 use Rattle.records.specs.Sets.{Set}
 use Rattle.members.specs.Members.{inClass, membersOf}
 use Rattle.members.proofs.Listed.{members-at, members-below, members-order}
-use Rattle.links.specs.Lists.{Leads, Lists}
+use Rattle.checkpoints.specs.Lists.{Leads, Lists}
 
 -- the same for more statements, of which those that matter were there
 pub widened : (In More : ℕ → Type 0) → ((y : ℕ) → In y → More y) → (P : ℕ → Bool) (it from later : ℕ) → from ≤ later → Leads In P it from →

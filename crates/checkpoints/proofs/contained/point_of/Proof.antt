@@ -1,4 +1,4 @@
--- `links::contained::point_of` meets its contract. Assumes nothing.
+-- `checkpoints::contained::point_of` meets its contract. Assumes nothing.
 use Prim.Native.Nat.{ℕ, _+_, _-_, _≤_, _<_}
 use mathlib.Core.Path.{_≡_, ap, sym, _∙_}
 use native.Mathlib.Omega.{arith}
@@ -6,8 +6,8 @@ use native.Mathlib.Decide.{ℕ-discrete}
 use lib.ListN.{length, getD}
 use Rattle.places.specs.Places.{listed}
 use borrow.Author.Needs.{needs}
-use Rattle.links.proofs.contained.point_of.Statement.{statement}
-use Rattle.links.proofs.contained.point_of.Tie as tie
+use Rattle.checkpoints.proofs.contained.point_of.Statement.{statement}
+use Rattle.checkpoints.proofs.contained.point_of.Tie as tie
 
 abbrev Inv-loop : tie.InvT-loop
 Inv-loop points c many p₀ p =

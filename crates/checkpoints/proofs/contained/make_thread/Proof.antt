@@ -1,4 +1,4 @@
--- `links::contained::make_thread` meets its contract. Assumes nothing.
+-- `checkpoints::contained::make_thread` meets its contract. Assumes nothing.
 use Prim.Native.Nat.{ℕ, _-_, _≤_, _<_}
 use mathlib.Core.Path.{_≡_, refl, ap, sym, _∙_, subst}
 use native.Mathlib.Omega.{arith}
@@ -12,13 +12,13 @@ use Rattle.members.specs.Held.{Held}
 use Rattle.members.specs.Members.{Members, membersOf}
 use Rattle.members.proofs.Held.{held, held-member}
 use Rattle.members.proofs.Listed.{members-below}
-use Rattle.links.specs.Contained.{Distinct, Made, put}
-use Rattle.links.proofs.Checks.{Making, making-none, making-all, making-more, making-other, making-kept}
-use Rattle.links.proofs.Growing.{From}
-use Rattle.links.proofs.Points.{listed-most}
+use Rattle.checkpoints.specs.Contained.{Distinct, Made, put}
+use Rattle.checkpoints.proofs.Checks.{Making, making-none, making-all, making-more, making-other, making-kept}
+use Rattle.checkpoints.proofs.Growing.{From}
+use Rattle.checkpoints.proofs.Counted.{listed-most}
 use borrow.Author.Needs.{needs}
-use Rattle.links.proofs.contained.make_thread.Statement.{statement}
-use Rattle.links.proofs.contained.make_thread.Tie as tie
+use Rattle.checkpoints.proofs.contained.make_thread.Statement.{statement}
+use Rattle.checkpoints.proofs.contained.make_thread.Tie as tie
 
 abbrev Inv-loop : tie.InvT-loop
 Inv-loop set points members table₀ t from j₀ table j =

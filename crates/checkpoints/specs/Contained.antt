@@ -7,7 +7,7 @@ use mathlib.Core.List.{List}
 use lib.ListN.{length, set, getD}
 use Rattle.records.specs.Sets.{Set}
 use Rattle.step.specs.Machine.{isCheck}
-use Rattle.links.specs.Lists.{Leads, Lists}
+use Rattle.checkpoints.specs.Lists.{Leads, Lists}
 
 pub record Contained (S : Set) (cs : List ℕ) (table : List ℕ) : Type 0 where
   pub whole : length table ≡ 160

@@ -7,7 +7,7 @@ ghost use Rattle.records.specs.Sets.{Set, setBy};
 ghost use Rattle.step.specs.Machine.{contains as containsOf};
 ghost use Rattle.places.specs.Places.{listed};
 ghost use Rattle.members.specs.Members.{Members};
-ghost use Rattle.links.specs.Contained.{Contained, Distinct, Made, put};
+ghost use Rattle.checkpoints.specs.Contained.{Contained, Distinct, Made, put};
 use crate::lists::first;
 use members::IS_CHECK;
 use members::count_of;
