@@ -293,10 +293,8 @@ fn choice_kinds(
 
 // Which marks hold a thread up, which threads wait, which may execute; what comes before each choice, and which choices are permitted.
 fn permit_kinds(
-    set: &[u8],
     layout: Layout,
     points: Points,
-    members: &[u8],
     contained: &[u8],
     slots: &mut [u32],
     out: &mut [u8],
@@ -304,25 +302,14 @@ fn permit_kinds(
     n: u32,
 ) -> u32
     requires { ⌜ (n ≤ 1500000000) × (layout .threads ≤ 4) ⌝ }
-    ensures { λ r. ⌜ (Limits layout points (now (slots .entry)) n → Members (setBy (now (set .entry)) layout) (now (members .entry)) → Contained (setBy (now (set .entry)) layout) (listed points) (now (contained .entry)) → Idle (setBy (now (set .entry)) layout) (placeOf (now (slots .entry)))
-        → Writes (blocksOf (setBy (now (set .entry)) layout) (listed points) step 5 5) (now (out .entry)) (now (slots .entry)) n (now (out .exit)) (now (slots .exit)) r)
+    ensures { λ r. ⌜ ((bytes : List ℕ) → Limits layout points (now (slots .entry)) n → Contained (setBy bytes layout) (listed points) (now (contained .entry)) → Idle (setBy bytes layout) (placeOf (now (slots .entry)))
+        → Writes (blocksOf (setBy bytes layout) (listed points) step 5 5) (now (out .entry)) (now (slots .entry)) n (now (out .exit)) (now (slots .exit)) r)
         × (r ≤ n + 23040) ⌝ }
 {
     let threads = layout.threads;
     let choices = 2 * (threads as u16);
     let checkpoints = places::points_count(points);
-    let held = marks::marks(
-        set,
-        layout,
-        points,
-        members,
-        contained,
-        slots,
-        out,
-        step,
-        HELD,
-        n,
-    );
+    let held = marks::marks(contained, slots, out, threads, checkpoints, step, HELD, n);
     let waiting = marks::waits(contained, slots, out, threads, checkpoints, step, held);
     let may = may_block(slots, out, threads, step, waiting);
     let none = bare_line(slots, out, threads, step, NONE, choices + 1, may);
@@ -347,17 +334,7 @@ fn deciding_kinds(
         × (r ≤ n + 50688) ⌝ }
 {
     let chosen = choice_kinds(set, layout, points, members, contained, slots, out, step, n);
-    let permitted = permit_kinds(
-        set,
-        layout,
-        points,
-        members,
-        contained,
-        slots,
-        out,
-        step,
-        chosen,
-    );
+    let permitted = permit_kinds(layout, points, contained, slots, out, step, chosen);
     single_block(slots, out, layout.threads, step, ONE, permitted)
 }
 
@@ -407,7 +384,6 @@ fn write_kinds(
 
 // The marks before open checkpoints are cleared, the EXITs with their codes, the memory, and the words in the buffers.
 fn exit_kinds(
-    set: &[u8],
     layout: Layout,
     points: Points,
     members: &[u8],
@@ -418,23 +394,13 @@ fn exit_kinds(
     n: u32,
 ) -> u32
     requires { ⌜ (n ≤ 1500000000) × (layout .threads ≤ 4) ⌝ }
-    ensures { λ r. ⌜ (Limits layout points (now (slots .entry)) n → Members (setBy (now (set .entry)) layout) (now (members .entry)) → Contained (setBy (now (set .entry)) layout) (listed points) (now (contained .entry)) → Idle (setBy (now (set .entry)) layout) (placeOf (now (slots .entry)))
-        → Writes (blocksOf (setBy (now (set .entry)) layout) (listed points) step 21 5) (now (out .entry)) (now (slots .entry)) n (now (out .exit)) (now (slots .exit)) r)
+    ensures { λ r. ⌜ ((bytes : List ℕ) → Limits layout points (now (slots .entry)) n → Members (setBy bytes layout) (now (members .entry)) → Contained (setBy bytes layout) (listed points) (now (contained .entry)) → Idle (setBy bytes layout) (placeOf (now (slots .entry)))
+        → Writes (blocksOf (setBy bytes layout) (listed points) step 21 5) (now (out .entry)) (now (slots .entry)) n (now (out .exit)) (now (slots .exit)) r)
         × (r ≤ n + 23040) ⌝ }
 {
     let threads = layout.threads;
-    let raised = marks::marks(
-        set,
-        layout,
-        points,
-        members,
-        contained,
-        slots,
-        out,
-        step,
-        RAISED,
-        n,
-    );
+    let checkpoints = places::points_count(points);
+    let raised = marks::marks(contained, slots, out, threads, checkpoints, step, RAISED, n);
     let exits = running_block(members, slots, out, threads, step, EXITS, raised);
     let codes = running_block(members, slots, out, threads, step, CODES, exits);
     let heap = bare_entry(slots, out, threads, step, HEAP, 0, 0, codes);
@@ -480,15 +446,14 @@ fn end_kinds(
         × (r ≤ n + 23040) ⌝ }
 {
     let threads = layout.threads;
+    let checkpoints = places::points_count(points);
     let flags = flag_block(set, layout, members, slots, out, n);
     let marked = marks::marks(
-        set,
-        layout,
-        points,
-        members,
         contained,
         slots,
         out,
+        threads,
+        checkpoints,
         step,
         MARK,
         flags,
@@ -518,7 +483,6 @@ fn acting_kinds(
     let statements = statement_kinds(set, layout, members, slots, out, n);
     let written = write_kinds(set, layout, members, slots, out, step, statements);
     let exits = exit_kinds(
-        set,
         layout,
         points,
         members,

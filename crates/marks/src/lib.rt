@@ -4,19 +4,16 @@ ghost use mathlib.Core.Bool.{true};
 ghost use mathlib.Core.List.{List};
 ghost use Prim.Native.Nat.{ℕ, _+_, _≤_, _<_};
 ghost use lib.ListN.{length};
-ghost use Rattle.records.specs.Sets.{Set, setBy};
+ghost use Rattle.records.specs.Sets.{Set};
 ghost use Rattle.encoding.specs.Slots.{Slot, kindAt, opening as openingKind, waits as waitsKind};
 ghost use Rattle.encoding.specs.Steps.{base as baseOf, entry as entryOf, line as lineOf, block as blockOf};
-ghost use Rattle.places.specs.Places.{placeOf, listed, size};
-ghost use Rattle.places.specs.Pieces.{Writes, Limits};
+ghost use Rattle.places.specs.Places.{placeOf, size};
+ghost use Rattle.places.specs.Pieces.{Writes};
 ghost use Rattle.bases.specs.Fews.{Puts};
-ghost use Rattle.members.specs.Members.{Members};
 ghost use Rattle.checkpoints.specs.Contained.{Contained};
 ghost use Rattle.marks.specs.Marked.{marked};
 use bases::Written;
-use places::Points;
 use places::kinds;
-use records::Layout;
 
 // Writes whether checkpoint p is open: whether every thread that contains it is marked there.
 fn opening(
@@ -225,19 +222,17 @@ fn line(
 
 // Writes the marks of each thread, of one of the kinds HELD, RAISED and MARK.
 pub fn marks(
-    set: &[u8],
-    layout: Layout,
-    points: Points,
-    members: &[u8],
     table: &[u8],
     slots: &mut [u32],
     out: &mut [u8],
+    threads: u8,
+    count: u16,
     step: u8,
     kind: u8,
     n: u32,
 ) -> u32
-    ensures { λ r. ⌜ (marked kind ≡ true → Limits layout points (now (slots .entry)) n → n ≤ 1600000000 → Members (setBy (now (set .entry)) layout) (now (members .entry)) → Contained (setBy (now (set .entry)) layout) (listed points) (now (table .entry))
-        → Writes (blockOf (setBy (now (set .entry)) layout) (listed points) step (kindAt kind)) (now (out .entry)) (now (slots .entry)) n (now (out .exit)) (now (slots .exit)) r)
+    ensures { λ r. ⌜ ((S : Set) (cs : List ℕ) → S .threads ≡ threads → length cs ≡ count → marked kind ≡ true → Contained S cs (now (table .entry)) → length (now (slots .entry)) ≡ size → ((s : Slot) → placeOf (now (slots .entry)) s < n) → n ≤ 1600000000
+        → Writes (blockOf S cs step (kindAt kind)) (now (out .entry)) (now (slots .entry)) n (now (out .exit)) (now (slots .exit)) r)
         × (n ≤ 1600000000 → r ≤ n + 4608) ⌝ }
 {
     // With these known, the compiler drops the tests of places in the loops.
@@ -250,15 +245,16 @@ pub fn marks(
     if table.len() != 160 {
         return n;
     }
-    if 4 < layout.threads {
+    if 4 < threads {
         return n;
     }
-    let many = layout.threads;
-    let count = places::points_count(points);
+    if 8 < count {
+        return n;
+    }
     let mut next = n;
     let mut t: u8 = 0;
-    while t < many {
-        next = line(table, slots, out, many, count, step, kind, t, next);
+    while t < threads {
+        next = line(table, slots, out, threads, count, step, kind, t, next);
         t += 1;
     }
     next

@@ -40,8 +40,8 @@ same-length c =
     let r5 = c .before .before .before .before .end-kinds in
     let e1 : length (r1 .last .1 .1 .1 .0) ≡ length (now (c .before .before .before .before .before .before .before .before .before .before .before .before .before .before .before .before .before .before .before .before .before .before .before .before .before .before .before .before .before .before .before .before .before .before .before .before .before .before .before .before .args .slots)) = r1 .kept .1 .1 .1 .0 in
     let e2 : length (r2 .last .1 .1 .1 .0) ≡ length (r1 .last .1 .1 .1 .0) = r2 .kept .1 .1 .1 .0 in
-    let e3 : length (r3 .last .1 .1 .1 .1 .1 .0) ≡ length (r2 .last .1 .1 .1 .0) = r3 .kept .1 .1 .1 .1 .1 .0 in
-    let e4 : length (r4 .last .1 .0) ≡ length (r3 .last .1 .1 .1 .1 .1 .0) = r4 .kept .1 .0 in
+    let e3 : length (r3 .last .1 .1 .1 .1 .0) ≡ length (r2 .last .1 .1 .1 .0) = r3 .kept .1 .1 .1 .1 .0 in
+    let e4 : length (r4 .last .1 .0) ≡ length (r3 .last .1 .1 .1 .1 .0) = r4 .kept .1 .0 in
     let e5 : length (r5 .last .1 .1 .1 .1 .1 .0) ≡ length (r4 .last .1 .0) = r5 .kept .1 .1 .1 .1 .1 .0 in
     e5 ∙ (e4 ∙ (e3 ∙ (e2 ∙ (e1))))
 
@@ -54,8 +54,8 @@ same-length-2 c =
     let r5 = c .before .before .before .before .end-kinds in
     let e1 : length (r1 .last .1 .1 .1 .1 .0) ≡ length (now (c .before .before .before .before .before .before .before .before .before .before .before .before .before .before .before .before .before .before .before .before .before .before .before .before .before .before .before .before .before .before .before .before .before .before .before .before .before .before .before .before .args .out)) = r1 .kept .1 .1 .1 .1 .0 in
     let e2 : length (r2 .last .1 .1 .1 .1 .0) ≡ length (r1 .last .1 .1 .1 .1 .0) = r2 .kept .1 .1 .1 .1 .0 in
-    let e3 : length (r3 .last .1 .1 .1 .1 .1 .1 .0) ≡ length (r2 .last .1 .1 .1 .1 .0) = r3 .kept .1 .1 .1 .1 .1 .1 .0 in
-    let e4 : length (r4 .last .1 .1 .0) ≡ length (r3 .last .1 .1 .1 .1 .1 .1 .0) = r4 .kept .1 .1 .0 in
+    let e3 : length (r3 .last .1 .1 .1 .1 .1 .0) ≡ length (r2 .last .1 .1 .1 .1 .0) = r3 .kept .1 .1 .1 .1 .1 .0 in
+    let e4 : length (r4 .last .1 .1 .0) ≡ length (r3 .last .1 .1 .1 .1 .1 .0) = r4 .kept .1 .1 .0 in
     let e5 : length (r5 .last .1 .1 .1 .1 .1 .1 .0) ≡ length (r4 .last .1 .1 .0) = r5 .kept .1 .1 .1 .1 .1 .1 .0 in
     e5 ∙ (e4 ∙ (e3 ∙ (e2 ∙ (e1))))
 
@@ -79,7 +79,7 @@ returns c =
           let s1 = ready-blocks (a .layout) (a .points) (now (a .set)) k 11 5 w1 s0 in
           let w2 = blocks-more (a .layout) (a .points) (now (a .set)) k 11 5 5 w1 (r2 .ensures .0 (a .points) (s1 .limits) members (s1 .idle)) in
           let s2 = ready-blocks (a .layout) (a .points) (now (a .set)) k 11 10 w2 s0 in
-          let w3 = blocks-more (a .layout) (a .points) (now (a .set)) k 11 10 5 w2 (r3 .ensures .0 (s2 .limits) members contained (s2 .idle)) in
+          let w3 = blocks-more (a .layout) (a .points) (now (a .set)) k 11 10 5 w2 (r3 .ensures .0 (now (a .set)) (s2 .limits) members contained (s2 .idle)) in
           let s3 = ready-blocks (a .layout) (a .points) (now (a .set)) k 11 15 w3 s0 in
           let w4 = blocks-more (a .layout) (a .points) (now (a .set)) k 11 15 5 w3 (r4 .ensures .0 (now (a .set)) (a .layout) (a .points) refl (s3 .limits) members (s3 .idle)) in
           let s4 = ready-blocks (a .layout) (a .points) (now (a .set)) k 11 20 w4 s0 in

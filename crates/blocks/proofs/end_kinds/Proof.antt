@@ -1,7 +1,7 @@
 -- `blocks::end_kinds` meets its contract. Assumes nothing.
 use denote.Ref.{now}
 use native.Mathlib.Omega.{arith}
-use mathlib.Core.Path.{_≡_, refl, _∙_}
+use mathlib.Core.Path.{_≡_, refl, sym, _∙_}
 use Prim.Native.Nat.{_≤_}
 use Rattle.records.specs.Sets.{setBy}
 use lib.ListN.{length}
@@ -13,6 +13,9 @@ use borrow.Author.Needs.{needs}
 use Rattle.blocks.proofs.end_kinds.Statement.{statement}
 use Rattle.blocks.proofs.end_kinds.Tie as tie
 
+points-count-requires : tie.Need-points-count-requires
+points-count-requires c κs = search needs
+
 flag-block-requires : tie.Need-flag-block-requires
 flag-block-requires c κs = search needs
 
@@ -21,7 +24,7 @@ marks-requires c κs = search needs
 
 single-block-requires : tie.Need-single-block-requires
 single-block-requires c κs =
-    let q = c .before .before .before .before .before .before .before .before .before .before .before .before .before .before .before .before .before .before .before .before .before .pre in
+    let q = c .before .before .before .before .before .before .before .before .before .before .before .before .before .before .before .before .before .before .before .before .before .before .pre in
     let p0 = q .0 in
     let p1 = q .1 in
     let m1 = c .before .before .before .before .before .before .before .before .before .before .before .before .before .flag-block .ensures .1 in
@@ -30,7 +33,7 @@ single-block-requires c κs =
 
 bare-entry-requires : tie.Need-bare-entry-requires
 bare-entry-requires c κs =
-    let q = c .before .before .before .before .before .before .before .before .before .before .before .before .before .before .before .before .before .before .before .before .before .before .before .before .before .before .before .before .pre in
+    let q = c .before .before .before .before .before .before .before .before .before .before .before .before .before .before .before .before .before .before .before .before .before .before .before .before .before .before .before .before .before .pre in
     let p0 = q .0 in
     let p1 = q .1 in
     let m1 = c .before .before .before .before .before .before .before .before .before .before .before .before .before .before .before .before .before .before .before .before .flag-block .ensures .1 in
@@ -40,7 +43,7 @@ bare-entry-requires c κs =
 
 bare-entry-requires-2 : tie.Need-bare-entry-requires-2
 bare-entry-requires-2 c κs =
-    let q = c .before .before .before .before .before .before .before .before .before .before .before .before .before .before .before .before .before .before .before .before .before .before .before .before .before .before .before .before .before .before .before .before .before .before .before .pre in
+    let q = c .before .before .before .before .before .before .before .before .before .before .before .before .before .before .before .before .before .before .before .before .before .before .before .before .before .before .before .before .before .before .before .before .before .before .before .before .pre in
     let p0 = q .0 in
     let p1 = q .1 in
     let m1 = c .before .before .before .before .before .before .before .before .before .before .before .before .before .before .before .before .before .before .before .before .before .before .before .before .before .before .before .flag-block .ensures .1 in
@@ -56,9 +59,9 @@ same-length c =
     let r3 = c .before .before .before .before .before .before .before .before .before .before .before .before .before .before .before .before .before .before .single-block in
     let r4 = c .before .before .before .before .before .before .before .before .before .before .before .bare-entry in
     let r5 = c .before .before .before .before .bare-entry2 in
-    let e1 : length (r1 .last .1 .1 .1 .0) ≡ length (now (c .before .before .before .before .before .before .before .before .before .before .before .before .before .before .before .before .before .before .before .before .before .before .before .before .before .before .before .before .before .before .before .before .before .before .before .before .before .before .before .before .args .slots)) = r1 .kept .1 .1 .1 .0 in
-    let e2 : length (r2 .last .1 .1 .1 .1 .1 .0) ≡ length (r1 .last .1 .1 .1 .0) = r2 .kept .1 .1 .1 .1 .1 .0 in
-    let e3 : length (r3 .last .0) ≡ length (r2 .last .1 .1 .1 .1 .1 .0) = r3 .kept .0 in
+    let e1 : length (r1 .last .1 .1 .1 .0) ≡ length (now (c .before .before .before .before .before .before .before .before .before .before .before .before .before .before .before .before .before .before .before .before .before .before .before .before .before .before .before .before .before .before .before .before .before .before .before .before .before .before .before .before .before .args .slots)) = r1 .kept .1 .1 .1 .0 in
+    let e2 : length (r2 .last .1 .0) ≡ length (r1 .last .1 .1 .1 .0) = r2 .kept .1 .0 in
+    let e3 : length (r3 .last .0) ≡ length (r2 .last .1 .0) = r3 .kept .0 in
     let e4 : length (r4 .last .0) ≡ length (r3 .last .0) = r4 .kept .0 in
     let e5 : length (r5 .last .0) ≡ length (r4 .last .0) = r5 .kept .0 in
     e5 ∙ (e4 ∙ (e3 ∙ (e2 ∙ (e1))))
@@ -70,9 +73,9 @@ same-length-2 c =
     let r3 = c .before .before .before .before .before .before .before .before .before .before .before .before .before .before .before .before .before .before .single-block in
     let r4 = c .before .before .before .before .before .before .before .before .before .before .before .bare-entry in
     let r5 = c .before .before .before .before .bare-entry2 in
-    let e1 : length (r1 .last .1 .1 .1 .1 .0) ≡ length (now (c .before .before .before .before .before .before .before .before .before .before .before .before .before .before .before .before .before .before .before .before .before .before .before .before .before .before .before .before .before .before .before .before .before .before .before .before .before .before .before .before .args .out)) = r1 .kept .1 .1 .1 .1 .0 in
-    let e2 : length (r2 .last .1 .1 .1 .1 .1 .1 .0) ≡ length (r1 .last .1 .1 .1 .1 .0) = r2 .kept .1 .1 .1 .1 .1 .1 .0 in
-    let e3 : length (r3 .last .1 .0) ≡ length (r2 .last .1 .1 .1 .1 .1 .1 .0) = r3 .kept .1 .0 in
+    let e1 : length (r1 .last .1 .1 .1 .1 .0) ≡ length (now (c .before .before .before .before .before .before .before .before .before .before .before .before .before .before .before .before .before .before .before .before .before .before .before .before .before .before .before .before .before .before .before .before .before .before .before .before .before .before .before .before .before .args .out)) = r1 .kept .1 .1 .1 .1 .0 in
+    let e2 : length (r2 .last .1 .1 .0) ≡ length (r1 .last .1 .1 .1 .1 .0) = r2 .kept .1 .1 .0 in
+    let e3 : length (r3 .last .1 .0) ≡ length (r2 .last .1 .1 .0) = r3 .kept .1 .0 in
     let e4 : length (r4 .last .1 .0) ≡ length (r3 .last .1 .0) = r4 .kept .1 .0 in
     let e5 : length (r5 .last .1 .0) ≡ length (r4 .last .1 .0) = r5 .kept .1 .0 in
     e5 ∙ (e4 ∙ (e3 ∙ (e2 ∙ (e1))))
@@ -80,8 +83,8 @@ same-length-2 c =
 returns : tie.Need-returns
 unfolding kinds
 returns c =
-    let a = c .before .before .before .before .before .before .before .before .before .before .before .before .before .before .before .before .before .before .before .before .before .before .before .before .before .before .before .before .before .before .before .before .before .before .before .before .before .before .before .before .args in
-    let q = c .before .before .before .before .before .before .before .before .before .before .before .before .before .before .before .before .before .before .before .before .before .before .before .before .before .before .before .before .before .before .before .before .before .before .before .before .before .before .before .before .pre in
+    let a = c .before .before .before .before .before .before .before .before .before .before .before .before .before .before .before .before .before .before .before .before .before .before .before .before .before .before .before .before .before .before .before .before .before .before .before .before .before .before .before .before .before .args in
+    let q = c .before .before .before .before .before .before .before .before .before .before .before .before .before .before .before .before .before .before .before .before .before .before .before .before .before .before .before .before .before .before .before .before .before .before .before .before .before .before .before .before .before .pre in
     let p0 = q .0 in
     let p1 = q .1 in
     let r1 = c .before .before .before .before .before .before .before .before .before .before .before .before .before .before .before .before .before .before .before .before .before .before .before .before .before .before .before .before .before .before .before .before .flag-block in
@@ -94,14 +97,15 @@ returns c =
     let m2 = r2 .ensures .1 room2 in
     let m3 = r3 .ensures .1 in
     let m4 = r4 .ensures .1 in
-    let m5 = r5 .ensures .1 in (
+    let m5 = r5 .ensures .1 in
+    let many = c .before .before .before .before .before .before .before .before .before .before .before .before .before .before .before .before .before .before .before .before .before .before .before .before .before .before .before .before .before .before .before .before .before .before .before .points-count .ensures in (
       λ limits members contained idle.
           let S = setBy (now (a .set)) (a .layout) in
           let cs = listed (a .points) in
           let s0 : Ready (a .layout) (a .points) (now (a .set)) (a .step) (now (a .slots)) (a .n) = record { limits = limits; idle = idle } in
           let w1 = r1 .ensures .0 (a .points) (a .step) (s0 .limits) members in
           let s1 = ready-block (a .layout) (a .points) (now (a .set)) (a .step) 31 w1 s0 in
-          let w2 = r2 .ensures .0 refl (s1 .limits) room2 members contained in
+          let w2 = r2 .ensures .0 S cs refl (sym many) refl contained (s1 .limits .allPlaces) (s1 .limits .below) room2 in
           let s2 = ready-block (a .layout) (a .points) (now (a .set)) (a .step) 32 w2 s1 in
           let w3 = r3 .ensures .0 S cs refl refl refl (s2 .limits .allPlaces) (s2 .limits .below) in
           let s3 = ready-block (a .layout) (a .points) (now (a .set)) (a .step) 33 w3 s2 in
@@ -116,6 +120,7 @@ pub end-kinds-spec : {M : Type 1} → statement M
 end-kinds-spec =
     tie.close
     (tie.spec
+    points-count-requires
     flag-block-requires
     marks-requires
     single-block-requires

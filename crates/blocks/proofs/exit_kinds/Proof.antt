@@ -1,7 +1,7 @@
 -- `blocks::exit_kinds` meets its contract. Assumes nothing.
 use denote.Ref.{now}
 use native.Mathlib.Omega.{arith}
-use mathlib.Core.Path.{_≡_, refl, _∙_}
+use mathlib.Core.Path.{_≡_, refl, sym, _∙_}
 use Prim.Native.Nat.{_≤_}
 use Rattle.records.specs.Sets.{setBy}
 use lib.ListN.{length}
@@ -13,6 +13,9 @@ use Rattle.blocks.proofs.Sequence.{Ready, ready-block, five}
 use borrow.Author.Needs.{needs}
 use Rattle.blocks.proofs.exit_kinds.Statement.{statement}
 use Rattle.blocks.proofs.exit_kinds.Tie as tie
+
+points-count-requires : tie.Need-points-count-requires
+points-count-requires c κs = search needs
 
 marks-requires : tie.Need-marks-requires
 marks-requires c κs = search needs
@@ -62,8 +65,8 @@ same-length c =
     let r3 = c .before .before .before .before .before .before .before .before .before .before .before .before .before .before .before .before .before .before .running-block2 in
     let r4 = c .before .before .before .before .before .before .before .before .before .before .before .bare-entry in
     let r5 = c .before .before .before .before .register-block in
-    let e1 : length (r1 .last .1 .1 .1 .1 .1 .0) ≡ length (now (c .before .before .before .before .before .before .before .before .before .before .before .before .before .before .before .before .before .before .before .before .before .before .before .before .before .before .before .before .before .before .before .before .before .before .before .before .before .before .before .before .args .slots)) = r1 .kept .1 .1 .1 .1 .1 .0 in
-    let e2 : length (r2 .last .1 .0) ≡ length (r1 .last .1 .1 .1 .1 .1 .0) = r2 .kept .1 .0 in
+    let e1 : length (r1 .last .1 .0) ≡ length (now (c .before .before .before .before .before .before .before .before .before .before .before .before .before .before .before .before .before .before .before .before .before .before .before .before .before .before .before .before .before .before .before .before .before .before .before .before .before .before .before .before .args .slots)) = r1 .kept .1 .0 in
+    let e2 : length (r2 .last .1 .0) ≡ length (r1 .last .1 .0) = r2 .kept .1 .0 in
     let e3 : length (r3 .last .1 .0) ≡ length (r2 .last .1 .0) = r3 .kept .1 .0 in
     let e4 : length (r4 .last .0) ≡ length (r3 .last .1 .0) = r4 .kept .0 in
     let e5 : length (r5 .last .1 .0) ≡ length (r4 .last .0) = r5 .kept .1 .0 in
@@ -76,8 +79,8 @@ same-length-2 c =
     let r3 = c .before .before .before .before .before .before .before .before .before .before .before .before .before .before .before .before .before .before .running-block2 in
     let r4 = c .before .before .before .before .before .before .before .before .before .before .before .bare-entry in
     let r5 = c .before .before .before .before .register-block in
-    let e1 : length (r1 .last .1 .1 .1 .1 .1 .1 .0) ≡ length (now (c .before .before .before .before .before .before .before .before .before .before .before .before .before .before .before .before .before .before .before .before .before .before .before .before .before .before .before .before .before .before .before .before .before .before .before .before .before .before .before .before .args .out)) = r1 .kept .1 .1 .1 .1 .1 .1 .0 in
-    let e2 : length (r2 .last .1 .1 .0) ≡ length (r1 .last .1 .1 .1 .1 .1 .1 .0) = r2 .kept .1 .1 .0 in
+    let e1 : length (r1 .last .1 .1 .0) ≡ length (now (c .before .before .before .before .before .before .before .before .before .before .before .before .before .before .before .before .before .before .before .before .before .before .before .before .before .before .before .before .before .before .before .before .before .before .before .before .before .before .before .before .args .out)) = r1 .kept .1 .1 .0 in
+    let e2 : length (r2 .last .1 .1 .0) ≡ length (r1 .last .1 .1 .0) = r2 .kept .1 .1 .0 in
     let e3 : length (r3 .last .1 .1 .0) ≡ length (r2 .last .1 .1 .0) = r3 .kept .1 .1 .0 in
     let e4 : length (r4 .last .1 .0) ≡ length (r3 .last .1 .1 .0) = r4 .kept .1 .0 in
     let e5 : length (r5 .last .1 .1 .0) ≡ length (r4 .last .1 .0) = r5 .kept .1 .1 .0 in
@@ -100,21 +103,22 @@ returns c =
     let m2 = r2 .ensures .1 in
     let m3 = r3 .ensures .1 in
     let m4 = r4 .ensures .1 in
-    let m5 = r5 .ensures .1 in (
-      λ limits members contained idle.
-          let S = setBy (now (a .set)) (a .layout) in
+    let m5 = r5 .ensures .1 in
+    let many = c .before .before .before .before .before .before .before .before .before .before .before .before .before .before .before .before .before .before .before .before .before .before .before .before .before .before .before .before .before .before .before .before .before .before .before .points-count .ensures in (
+      λ bytes limits members contained idle.
+          let S = setBy bytes (a .layout) in
           let cs = listed (a .points) in
-          let s0 : Ready (a .layout) (a .points) (now (a .set)) (a .step) (now (a .slots)) (a .n) = record { limits = limits; idle = idle } in
-          let w1 = r1 .ensures .0 refl (s0 .limits) room1 members contained in
-          let s1 = ready-block (a .layout) (a .points) (now (a .set)) (a .step) 21 w1 s0 in
+          let s0 : Ready (a .layout) (a .points) bytes (a .step) (now (a .slots)) (a .n) = record { limits = limits; idle = idle } in
+          let w1 = r1 .ensures .0 S cs refl (sym many) refl contained (s0 .limits .allPlaces) (s0 .limits .below) room1 in
+          let s1 = ready-block (a .layout) (a .points) bytes (a .step) 21 w1 s0 in
           let w2 = r2 .ensures .0 S cs refl (of-exits S cs) members (s1 .limits .allPlaces) (s1 .limits .below) in
-          let s2 = ready-block (a .layout) (a .points) (now (a .set)) (a .step) 22 w2 s1 in
+          let s2 = ready-block (a .layout) (a .points) bytes (a .step) 22 w2 s1 in
           let w3 = r3 .ensures .0 S cs refl (of-codes S cs) members (s2 .limits .allPlaces) (s2 .limits .below) in
-          let s3 = ready-block (a .layout) (a .points) (now (a .set)) (a .step) 23 w3 s2 in
+          let s3 = ready-block (a .layout) (a .points) bytes (a .step) 23 w3 s2 in
           let w4 = one-value S cs (a .step) 24 _ _ _ _ _ _ refl refl (r4 .ensures .0 S cs refl (lone-at S cs 0 0 24 (omega arith) refl) (s3 .limits .allPlaces) (s3 .limits .below)) in
-          let s4 = ready-block (a .layout) (a .points) (now (a .set)) (a .step) 24 w4 s3 in
+          let s4 = ready-block (a .layout) (a .points) bytes (a .step) 24 w4 s3 in
           let w5 = r5 .ensures .0 S cs refl (of-val S cs) members (s4 .limits .allPlaces) (s4 .limits .below) in
-          five (a .layout) (a .points) (now (a .set)) (a .step) 21 w1 w2 w3 w4 w5,
+          five (a .layout) (a .points) bytes (a .step) 21 w1 w2 w3 w4 w5,
       omega arith,
     )
 
@@ -122,6 +126,7 @@ pub exit-kinds-spec : {M : Type 1} → statement M
 exit-kinds-spec =
     tie.close
     (tie.spec
+    points-count-requires
     marks-requires
     running-block-requires
     running-block-requires-2

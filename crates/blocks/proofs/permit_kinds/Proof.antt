@@ -30,7 +30,7 @@ waits-requires c κs = search needs
 
 may-block-requires : tie.Need-may-block-requires
 may-block-requires c κs =
-    let q = c .before .before .before .before .before .before .before .before .before .before .before .before .before .before .before .before .before .before .before .before .before .before .pre in
+    let q = c .before .before .before .before .before .before .before .before .before .before .before .before .before .before .before .before .before .before .before .before .pre in
     let p0 = q .0 in
     let p1 = q .1 in
     let m1 = c .before .before .before .before .before .before .before .before .before .before .before .before .before .marks .ensures .1 (omega arith) in
@@ -42,7 +42,7 @@ add-bare-line c = search needs
 
 bare-line-requires : tie.Need-bare-line-requires
 bare-line-requires c κs =
-    let q = c .before .before .before .before .before .before .before .before .before .before .before .before .before .before .before .before .before .before .before .before .before .before .before .before .before .before .before .before .before .pre in
+    let q = c .before .before .before .before .before .before .before .before .before .before .before .before .before .before .before .before .before .before .before .before .before .before .before .before .before .before .before .pre in
     let p0 = q .0 in
     let p1 = q .1 in
     let m1 = c .before .before .before .before .before .before .before .before .before .before .before .before .before .before .before .before .before .before .before .before .marks .ensures .1 (omega arith) in
@@ -52,7 +52,7 @@ bare-line-requires c κs =
 
 bare-line-requires-2 : tie.Need-bare-line-requires-2
 bare-line-requires-2 c κs =
-    let q = c .before .before .before .before .before .before .before .before .before .before .before .before .before .before .before .before .before .before .before .before .before .before .before .before .before .before .before .before .before .before .before .before .before .before .before .before .pre in
+    let q = c .before .before .before .before .before .before .before .before .before .before .before .before .before .before .before .before .before .before .before .before .before .before .before .before .before .before .before .before .before .before .before .before .before .before .pre in
     let p0 = q .0 in
     let p1 = q .1 in
     let m1 = c .before .before .before .before .before .before .before .before .before .before .before .before .before .before .before .before .before .before .before .before .before .before .before .before .before .before .before .marks .ensures .1 (omega arith) in
@@ -68,8 +68,8 @@ same-length c =
     let r3 = c .before .before .before .before .before .before .before .before .before .before .before .before .before .before .before .before .before .before .may-block in
     let r4 = c .before .before .before .before .before .before .before .before .before .before .before .bare-line in
     let r5 = c .before .before .before .before .bare-line2 in
-    let e1 : length (r1 .last .1 .1 .1 .1 .1 .0) ≡ length (now (c .before .before .before .before .before .before .before .before .before .before .before .before .before .before .before .before .before .before .before .before .before .before .before .before .before .before .before .before .before .before .before .before .before .before .before .before .before .before .before .before .before .args .slots)) = r1 .kept .1 .1 .1 .1 .1 .0 in
-    let e2 : length (r2 .last .1 .0) ≡ length (r1 .last .1 .1 .1 .1 .1 .0) = r2 .kept .1 .0 in
+    let e1 : length (r1 .last .1 .0) ≡ length (now (c .before .before .before .before .before .before .before .before .before .before .before .before .before .before .before .before .before .before .before .before .before .before .before .before .before .before .before .before .before .before .before .before .before .before .before .before .before .before .before .args .slots)) = r1 .kept .1 .0 in
+    let e2 : length (r2 .last .1 .0) ≡ length (r1 .last .1 .0) = r2 .kept .1 .0 in
     let e3 : length (r3 .last .0) ≡ length (r2 .last .1 .0) = r3 .kept .0 in
     let e4 : length (r4 .last .0) ≡ length (r3 .last .0) = r4 .kept .0 in
     let e5 : length (r5 .last .0) ≡ length (r4 .last .0) = r5 .kept .0 in
@@ -82,8 +82,8 @@ same-length-2 c =
     let r3 = c .before .before .before .before .before .before .before .before .before .before .before .before .before .before .before .before .before .before .may-block in
     let r4 = c .before .before .before .before .before .before .before .before .before .before .before .bare-line in
     let r5 = c .before .before .before .before .bare-line2 in
-    let e1 : length (r1 .last .1 .1 .1 .1 .1 .1 .0) ≡ length (now (c .before .before .before .before .before .before .before .before .before .before .before .before .before .before .before .before .before .before .before .before .before .before .before .before .before .before .before .before .before .before .before .before .before .before .before .before .before .before .before .before .before .args .out)) = r1 .kept .1 .1 .1 .1 .1 .1 .0 in
-    let e2 : length (r2 .last .1 .1 .0) ≡ length (r1 .last .1 .1 .1 .1 .1 .1 .0) = r2 .kept .1 .1 .0 in
+    let e1 : length (r1 .last .1 .1 .0) ≡ length (now (c .before .before .before .before .before .before .before .before .before .before .before .before .before .before .before .before .before .before .before .before .before .before .before .before .before .before .before .before .before .before .before .before .before .before .before .before .before .before .before .args .out)) = r1 .kept .1 .1 .0 in
+    let e2 : length (r2 .last .1 .1 .0) ≡ length (r1 .last .1 .1 .0) = r2 .kept .1 .1 .0 in
     let e3 : length (r3 .last .1 .0) ≡ length (r2 .last .1 .1 .0) = r3 .kept .1 .0 in
     let e4 : length (r4 .last .1 .0) ≡ length (r3 .last .1 .0) = r4 .kept .1 .0 in
     let e5 : length (r5 .last .1 .0) ≡ length (r4 .last .1 .0) = r5 .kept .1 .0 in
@@ -92,8 +92,8 @@ same-length-2 c =
 returns : tie.Need-returns
 unfolding kinds
 returns c =
-    let a = c .before .before .before .before .before .before .before .before .before .before .before .before .before .before .before .before .before .before .before .before .before .before .before .before .before .before .before .before .before .before .before .before .before .before .before .before .before .before .before .before .before .args in
-    let q = c .before .before .before .before .before .before .before .before .before .before .before .before .before .before .before .before .before .before .before .before .before .before .before .before .before .before .before .before .before .before .before .before .before .before .before .before .before .before .before .before .before .pre in
+    let a = c .before .before .before .before .before .before .before .before .before .before .before .before .before .before .before .before .before .before .before .before .before .before .before .before .before .before .before .before .before .before .before .before .before .before .before .before .before .before .before .args in
+    let q = c .before .before .before .before .before .before .before .before .before .before .before .before .before .before .before .before .before .before .before .before .before .before .before .before .before .before .before .before .before .before .before .before .before .before .before .before .before .before .before .pre in
     let p0 = q .0 in
     let p1 = q .1 in
     let r1 = c .before .before .before .before .before .before .before .before .before .before .before .before .before .before .before .before .before .before .before .before .before .before .before .before .before .before .before .before .before .before .before .before .marks in
@@ -109,20 +109,20 @@ returns c =
     let m4 = r4 .ensures .1 in
     let m5 = r5 .ensures .1 in
     let many = c .before .before .before .before .before .before .before .before .before .before .before .before .before .before .before .before .before .before .before .before .before .before .before .before .before .before .before .before .before .before .before .before .before .before .before .points-count .ensures in (
-      λ limits members contained idle.
-          let S = setBy (now (a .set)) (a .layout) in
+      λ bytes limits contained idle.
+          let S = setBy bytes (a .layout) in
           let cs = listed (a .points) in
-          let s0 : Ready (a .layout) (a .points) (now (a .set)) (a .step) (now (a .slots)) (a .n) = record { limits = limits; idle = idle } in
-          let w1 = r1 .ensures .0 refl (s0 .limits) room1 members contained in
-          let s1 = ready-block (a .layout) (a .points) (now (a .set)) (a .step) 5 w1 s0 in
+          let s0 : Ready (a .layout) (a .points) bytes (a .step) (now (a .slots)) (a .n) = record { limits = limits; idle = idle } in
+          let w1 = r1 .ensures .0 S cs refl (sym many) refl contained (s0 .limits .allPlaces) (s0 .limits .below) room1 in
+          let s1 = ready-block (a .layout) (a .points) bytes (a .step) 5 w1 s0 in
           let w2 = r2 .ensures .0 S cs refl (sym many) contained (s1 .limits .allPlaces) (s1 .limits .below) room2 in
-          let s2 = ready-block (a .layout) (a .points) (now (a .set)) (a .step) 6 w2 s1 in
+          let s2 = ready-block (a .layout) (a .points) bytes (a .step) 6 w2 s1 in
           let w3 = r3 .ensures .0 S cs refl (s2 .limits .allPlaces) (s2 .limits .below) in
-          let s3 = ready-block (a .layout) (a .points) (now (a .set)) (a .step) 7 w3 s2 in
+          let s3 = ready-block (a .layout) (a .points) bytes (a .step) 7 w3 s2 in
           let w4 = r4 .ensures .0 S cs refl (λ (b : ℕ). lone-at S cs 0 b 8 (omega arith) refl) refl (omega arith) (s3 .limits .allPlaces) (s3 .limits .below) in
-          let s4 = ready-block (a .layout) (a .points) (now (a .set)) (a .step) 8 w4 s3 in
+          let s4 = ready-block (a .layout) (a .points) bytes (a .step) 8 w4 s3 in
           let w5 = r5 .ensures .0 S cs refl (λ (b : ℕ). lone-at S cs 0 b 9 (omega arith) refl) refl (omega arith) (s4 .limits .allPlaces) (s4 .limits .below) in
-          five (a .layout) (a .points) (now (a .set)) (a .step) 5 w1 w2 w3 w4 w5,
+          five (a .layout) (a .points) bytes (a .step) 5 w1 w2 w3 w4 w5,
       omega arith,
     )
 
