@@ -247,7 +247,7 @@ fn run(
         let x = m.threads[at];
         let marks = m.marks;
         let mark = m.marks[at];
-        let s = step::act::advance(
+        let s = acting::advance(
             set,
             layout,
             marks,
@@ -273,12 +273,12 @@ fn run(
         wrote = s.wrote;
         steps += 1;
         budget -= 1;
-        if !step::act::quiet(marks, i, y) {
+        if !acting::quiet(marks, i, y) {
             let threads = m.threads;
-            let after = step::act::marks_after(set, layout, marks, t, i);
+            let after = acting::marks_after(set, layout, marks, t, i);
             m.marks = after;
-            m.ended = step::act::ended_after(layout.threads, threads, i, m.ended);
-            m.code = step::act::code_after(i, m.code);
+            m.ended = acting::ended_after(layout.threads, threads, i, m.ended);
+            m.code = acting::code_after(i, m.code);
         }
     }
     let end = end_of(set, layout, m);

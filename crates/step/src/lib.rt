@@ -1,10 +1,9 @@
-// The machine: threads, checkpoints and a sparse memory, and one step. The rule that simulation, replay, encoder and decoder stand on.
-pub mod act;
-mod checkpoints;
+// The machine: its types, checkpoints, a sparse memory, what a statement takes and which choices are permitted. The rule that simulation, replay, encoder and decoder stand on.
+pub mod checkpoints;
 pub mod choices;
-mod memory;
-mod operands;
-mod registers;
+pub mod memory;
+pub mod operands;
+pub mod registers;
 
 pub use checkpoints::contains;
 ghost use mathlib.Core.Path.{_≡_};

@@ -38,11 +38,11 @@ use Rattle.runs.proofs.end_of.Reads as end-of-reads
 use Rattle.runs.proofs.made.Reads as made-reads
 use Rattle.runs.proofs.refusal_of.Reads as refusal-of-reads
 use Rattle.runs.proofs.step_bytes.Reads as step-bytes-reads
-use Rattle.step.proofs.act.advance.Reads as advance-reads
-use Rattle.step.proofs.act.code_after.Reads as code-after-reads
-use Rattle.step.proofs.act.marks_after.Reads as marks-after-reads
-use Rattle.step.proofs.act.ended_after.Reads as ended-after-reads
-use Rattle.step.proofs.act.quiet.Reads as quiet-reads
+use Rattle.acting.proofs.advance.Reads as advance-reads
+use Rattle.acting.proofs.code_after.Reads as code-after-reads
+use Rattle.acting.proofs.marks_after.Reads as marks-after-reads
+use Rattle.acting.proofs.ended_after.Reads as ended-after-reads
+use Rattle.acting.proofs.quiet.Reads as quiet-reads
 use Rattle.runs.proofs.refused.Reads as refused-reads
 use Rattle.step.proofs.choices.actor.Reads as actor-reads
 
