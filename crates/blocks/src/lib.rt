@@ -14,7 +14,7 @@ ghost use Rattle.places.specs.Pieces.{Writes, Limits};
 ghost use Rattle.places.specs.Idle.{Idle};
 ghost use Rattle.bases.specs.Fews.{ofStatement};
 ghost use Rattle.links.specs.Chained.{chained};
-ghost use Rattle.checkpoints.specs.Contained.{Contained};
+ghost use Rattle.lists.specs.Tables.{ListTable};
 ghost use Rattle.members.specs.Members.{Members};
 ghost use Rattle.blocks.specs.Entries.{BareEntry, GivenEntry, ByThread, AfterThread};
 use places::Points;
@@ -242,13 +242,13 @@ fn statement_block(
 fn flag_block(
     set: &[u8],
     layout: Layout,
-    members: &[u8],
+    lists: &[u8],
     slots: &mut [u32],
     out: &mut [u8],
     n: u32,
 ) -> u32
     requires { ⌜ (n ≤ 1600000000) × (layout .threads ≤ 4) ⌝ }
-    ensures { λ r. ⌜ ((points : Points) (step : ℕ) → Limits layout points (now (slots .entry)) n → Members (setBy (now (set .entry)) layout) (now (members .entry))
+    ensures { λ r. ⌜ ((points : Points) (step : ℕ) → Limits layout points (now (slots .entry)) n → ListTable (setBy (now (set .entry)) layout) (listed points) (now (lists .entry))
         → Writes (blockOf (setBy (now (set .entry)) layout) (listed points) step (kindAt 31)) (now (out .entry)) (now (slots .entry)) n (now (out .exit)) (now (slots .exit)) r)
         × (r ≤ n + 4608) ⌝ }
 {
@@ -256,7 +256,7 @@ fn flag_block(
     let mut next = n;
     let mut t: u8 = 0;
     while t < threads {
-        next = flags::flags(set, layout, members, slots, out, t, next);
+        next = flags::flags(set, layout, lists, slots, out, t, next);
         t += 1;
     }
     next
@@ -270,14 +270,14 @@ fn choice_kinds(
     layout: Layout,
     points: Points,
     members: &[u8],
-    contained: &[u8],
+    lists: &[u8],
     slots: &mut [u32],
     out: &mut [u8],
     step: u8,
     n: u32,
 ) -> u32
     requires { ⌜ (n ≤ 1500000000) × (layout .threads ≤ 4) × (length (listed points) ≤ 8) ⌝ }
-    ensures { λ r. ⌜ (Limits layout points (now (slots .entry)) n → Members (setBy (now (set .entry)) layout) (now (members .entry)) → Contained (setBy (now (set .entry)) layout) (listed points) (now (contained .entry)) → Idle (setBy (now (set .entry)) layout) (placeOf (now (slots .entry)))
+    ensures { λ r. ⌜ (Limits layout points (now (slots .entry)) n → Members (setBy (now (set .entry)) layout) (now (members .entry)) → ListTable (setBy (now (set .entry)) layout) (listed points) (now (lists .entry)) → Idle (setBy (now (set .entry)) layout) (placeOf (now (slots .entry)))
         → Writes (blocksOf (setBy (now (set .entry)) layout) (listed points) step 0 5) (now (out .entry)) (now (slots .entry)) n (now (out .exit)) (now (slots .exit)) r)
         × (r ≤ n + 23040) ⌝ }
 {
@@ -286,7 +286,7 @@ fn choice_kinds(
     let checkpoints = places::points_count(points);
     let taken = bare_line(slots, out, threads, step, CHOICE, choices, n);
     let active = statement_block(set, layout, members, slots, out, ACTIVE, taken);
-    let open = marks::openings(contained, slots, out, threads, checkpoints, step, active);
+    let open = marks::openings(lists, slots, out, threads, checkpoints, step, active);
     let shut = bare_line(slots, out, threads, step, SHUT, checkpoints, open);
     register_block(members, slots, out, threads, step, BARRED, shut)
 }
@@ -295,22 +295,22 @@ fn choice_kinds(
 fn permit_kinds(
     layout: Layout,
     points: Points,
-    contained: &[u8],
+    lists: &[u8],
     slots: &mut [u32],
     out: &mut [u8],
     step: u8,
     n: u32,
 ) -> u32
     requires { ⌜ (n ≤ 1500000000) × (layout .threads ≤ 4) ⌝ }
-    ensures { λ r. ⌜ ((bytes : List ℕ) → Limits layout points (now (slots .entry)) n → Contained (setBy bytes layout) (listed points) (now (contained .entry)) → Idle (setBy bytes layout) (placeOf (now (slots .entry)))
+    ensures { λ r. ⌜ ((bytes : List ℕ) → Limits layout points (now (slots .entry)) n → ListTable (setBy bytes layout) (listed points) (now (lists .entry)) → Idle (setBy bytes layout) (placeOf (now (slots .entry)))
         → Writes (blocksOf (setBy bytes layout) (listed points) step 5 5) (now (out .entry)) (now (slots .entry)) n (now (out .exit)) (now (slots .exit)) r)
         × (r ≤ n + 23040) ⌝ }
 {
     let threads = layout.threads;
     let choices = 2 * (threads as u16);
     let checkpoints = places::points_count(points);
-    let held = marks::marks(contained, slots, out, threads, checkpoints, step, HELD, n);
-    let waiting = marks::waits(contained, slots, out, threads, checkpoints, step, held);
+    let held = marks::marks(lists, slots, out, threads, checkpoints, step, HELD, n);
+    let waiting = marks::waits(lists, slots, out, threads, checkpoints, step, held);
     let may = may_block(slots, out, threads, step, waiting);
     let none = bare_line(slots, out, threads, step, NONE, choices + 1, may);
     bare_line(slots, out, threads, step, FIT, choices, none)
@@ -322,19 +322,19 @@ fn deciding_kinds(
     layout: Layout,
     points: Points,
     members: &[u8],
-    contained: &[u8],
+    lists: &[u8],
     slots: &mut [u32],
     out: &mut [u8],
     step: u8,
     n: u32,
 ) -> u32
     requires { ⌜ (n ≤ 1400000000) × (layout .threads ≤ 4) × (length (listed points) ≤ 8) ⌝ }
-    ensures { λ r. ⌜ (Limits layout points (now (slots .entry)) n → Members (setBy (now (set .entry)) layout) (now (members .entry)) → Contained (setBy (now (set .entry)) layout) (listed points) (now (contained .entry)) → Idle (setBy (now (set .entry)) layout) (placeOf (now (slots .entry)))
+    ensures { λ r. ⌜ (Limits layout points (now (slots .entry)) n → Members (setBy (now (set .entry)) layout) (now (members .entry)) → ListTable (setBy (now (set .entry)) layout) (listed points) (now (lists .entry)) → Idle (setBy (now (set .entry)) layout) (placeOf (now (slots .entry)))
         → Writes (blocksOf (setBy (now (set .entry)) layout) (listed points) step 0 11) (now (out .entry)) (now (slots .entry)) n (now (out .exit)) (now (slots .exit)) r)
         × (r ≤ n + 50688) ⌝ }
 {
-    let chosen = choice_kinds(set, layout, points, members, contained, slots, out, step, n);
-    let permitted = permit_kinds(layout, points, contained, slots, out, step, chosen);
+    let chosen = choice_kinds(set, layout, points, members, lists, slots, out, step, n);
+    let permitted = permit_kinds(layout, points, lists, slots, out, step, chosen);
     single_block(slots, out, layout.threads, step, ONE, permitted)
 }
 
@@ -387,20 +387,20 @@ fn exit_kinds(
     layout: Layout,
     points: Points,
     members: &[u8],
-    contained: &[u8],
+    lists: &[u8],
     slots: &mut [u32],
     out: &mut [u8],
     step: u8,
     n: u32,
 ) -> u32
     requires { ⌜ (n ≤ 1500000000) × (layout .threads ≤ 4) ⌝ }
-    ensures { λ r. ⌜ ((bytes : List ℕ) → Limits layout points (now (slots .entry)) n → Members (setBy bytes layout) (now (members .entry)) → Contained (setBy bytes layout) (listed points) (now (contained .entry)) → Idle (setBy bytes layout) (placeOf (now (slots .entry)))
+    ensures { λ r. ⌜ ((bytes : List ℕ) → Limits layout points (now (slots .entry)) n → Members (setBy bytes layout) (now (members .entry)) → ListTable (setBy bytes layout) (listed points) (now (lists .entry)) → Idle (setBy bytes layout) (placeOf (now (slots .entry)))
         → Writes (blocksOf (setBy bytes layout) (listed points) step 21 5) (now (out .entry)) (now (slots .entry)) n (now (out .exit)) (now (slots .exit)) r)
         × (r ≤ n + 23040) ⌝ }
 {
     let threads = layout.threads;
     let checkpoints = places::points_count(points);
-    let raised = marks::marks(contained, slots, out, threads, checkpoints, step, RAISED, n);
+    let raised = marks::marks(lists, slots, out, threads, checkpoints, step, RAISED, n);
     let exits = running_block(members, slots, out, threads, step, EXITS, raised);
     let codes = running_block(members, slots, out, threads, step, CODES, exits);
     let heap = bare_entry(slots, out, threads, step, HEAP, 0, 0, codes);
@@ -433,31 +433,21 @@ fn end_kinds(
     set: &[u8],
     layout: Layout,
     points: Points,
-    members: &[u8],
-    contained: &[u8],
+    lists: &[u8],
     slots: &mut [u32],
     out: &mut [u8],
     step: u8,
     n: u32,
 ) -> u32
     requires { ⌜ (n ≤ 1500000000) × (layout .threads ≤ 4) ⌝ }
-    ensures { λ r. ⌜ (Limits layout points (now (slots .entry)) n → Members (setBy (now (set .entry)) layout) (now (members .entry)) → Contained (setBy (now (set .entry)) layout) (listed points) (now (contained .entry)) → Idle (setBy (now (set .entry)) layout) (placeOf (now (slots .entry)))
+    ensures { λ r. ⌜ (Limits layout points (now (slots .entry)) n → ListTable (setBy (now (set .entry)) layout) (listed points) (now (lists .entry)) → Idle (setBy (now (set .entry)) layout) (placeOf (now (slots .entry)))
         → Writes (blocksOf (setBy (now (set .entry)) layout) (listed points) step 31 5) (now (out .entry)) (now (slots .entry)) n (now (out .exit)) (now (slots .exit)) r)
         × (r ≤ n + 23040) ⌝ }
 {
     let threads = layout.threads;
     let checkpoints = places::points_count(points);
-    let flags = flag_block(set, layout, members, slots, out, n);
-    let marked = marks::marks(
-        contained,
-        slots,
-        out,
-        threads,
-        checkpoints,
-        step,
-        MARK,
-        flags,
-    );
+    let flags = flag_block(set, layout, lists, slots, out, n);
+    let marked = marks::marks(lists, slots, out, threads, checkpoints, step, MARK, flags);
     let halts = single_block(slots, out, threads, step, HALTS, marked);
     let ended = bare_entry(slots, out, threads, step, ENDED, 0, 0, halts);
     bare_entry(slots, out, threads, step, CODE, 0, 0, ended)
@@ -469,41 +459,22 @@ fn acting_kinds(
     layout: Layout,
     points: Points,
     members: &[u8],
-    contained: &[u8],
+    lists: &[u8],
     slots: &mut [u32],
     out: &mut [u8],
     step: u8,
     n: u32,
 ) -> u32
     requires { ⌜ (n ≤ 1450000000) × (layout .threads ≤ 4) ⌝ }
-    ensures { λ r. ⌜ (Limits layout points (now (slots .entry)) n → Members (setBy (now (set .entry)) layout) (now (members .entry)) → Contained (setBy (now (set .entry)) layout) (listed points) (now (contained .entry)) → Idle (setBy (now (set .entry)) layout) (placeOf (now (slots .entry)))
+    ensures { λ r. ⌜ (Limits layout points (now (slots .entry)) n → Members (setBy (now (set .entry)) layout) (now (members .entry)) → ListTable (setBy (now (set .entry)) layout) (listed points) (now (lists .entry)) → Idle (setBy (now (set .entry)) layout) (placeOf (now (slots .entry)))
         → Writes (blocksOf (setBy (now (set .entry)) layout) (listed points) step 11 25) (now (out .entry)) (now (slots .entry)) n (now (out .exit)) (now (slots .exit)) r)
         × (r ≤ n + 115200) ⌝ }
 {
     let statements = statement_kinds(set, layout, members, slots, out, n);
     let written = write_kinds(set, layout, members, slots, out, step, statements);
-    let exits = exit_kinds(
-        layout,
-        points,
-        members,
-        contained,
-        slots,
-        out,
-        step,
-        written,
-    );
+    let exits = exit_kinds(layout, points, members, lists, slots, out, step, written);
     let registers = register_kinds(members, slots, out, layout.threads, step, exits);
-    end_kinds(
-        set,
-        layout,
-        points,
-        members,
-        contained,
-        slots,
-        out,
-        step,
-        registers,
-    )
+    end_kinds(set, layout, points, lists, slots, out, step, registers)
 }
 
 // ---- steps
@@ -543,13 +514,13 @@ pub fn one_step(
     layout: Layout,
     points: Points,
     members: &[u8],
-    contained: &[u8],
+    lists: &[u8],
     slots: &mut [u32],
     out: &mut [u8],
     step: u8,
     n: u32,
 ) -> u32
-    ensures { λ r. ⌜ (Limits layout points (now (slots .entry)) n → n ≤ 1400000000 → Members (setBy (now (set .entry)) layout) (now (members .entry)) → Contained (setBy (now (set .entry)) layout) (listed points) (now (contained .entry)) → Idle (setBy (now (set .entry)) layout) (placeOf (now (slots .entry)))
+    ensures { λ r. ⌜ (Limits layout points (now (slots .entry)) n → n ≤ 1400000000 → Members (setBy (now (set .entry)) layout) (now (members .entry)) → ListTable (setBy (now (set .entry)) layout) (listed points) (now (lists .entry)) → Idle (setBy (now (set .entry)) layout) (placeOf (now (slots .entry)))
         → Writes (stepOf (setBy (now (set .entry)) layout) (listed points) step) (now (out .entry)) (now (slots .entry)) n (now (out .exit)) (now (slots .exit)) r)
         × (n ≤ 1400000000 → r ≤ n + 377858) ⌝ }
 {
@@ -562,19 +533,9 @@ pub fn one_step(
     if 4 < layout.threads {
         return n;
     }
-    let decided = deciding_kinds(set, layout, points, members, contained, slots, out, step, n);
+    let decided = deciding_kinds(set, layout, points, members, lists, slots, out, step, n);
     let next = rule(layout, slots, out, decided);
-    acting_kinds(
-        set,
-        layout,
-        points,
-        members,
-        contained,
-        slots,
-        out,
-        step,
-        next,
-    )
+    acting_kinds(set, layout, points, members, lists, slots, out, step, next)
 }
 
 // Writes what the steps share, from index n on: the word 1, and the argument of each statement.

@@ -1,4 +1,4 @@
-// The checkpoints of a set, in the order of their first CHECK, and the CHECKs of each thread by checkpoint.
+// The checkpoints of a set, in the order of their first CHECK.
 ghost use mathlib.Core.Path.{_≡_};
 ghost use mathlib.Core.List.{List};
 ghost use Prim.Native.Nat.{ℕ};
@@ -6,10 +6,6 @@ ghost use lib.ListN.{getD, take};
 ghost use Rattle.records.specs.Sets.{setBy};
 ghost use Rattle.encoding.specs.Checkpoints.{member, noted, notedIn, checkpoints};
 ghost use Rattle.places.specs.Places.{listed};
-
-pub mod contained;
-pub mod lists;
-
 use places::Points;
 use records::Layout;
 use records::Statement;

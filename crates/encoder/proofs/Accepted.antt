@@ -21,7 +21,7 @@ use Rattle.encoding.specs.Slots.{Slot}
 use Rattle.encoding.proofs.Begun.{start-below}
 use Rattle.encoding.proofs.Distinct.{first-checkpoints-differ}
 use Rattle.encoding.proofs.Listed.{few}
-use Rattle.checkpoints.specs.Contained.{Distinct}
+use Rattle.lists.specs.Tables.{Distinct}
 use Rattle.places.specs.Places.{listed, size}
 use Rattle.places.specs.declared.Points.{Points}
 use Rattle.places.proofs.Starts.{place-replicate}

@@ -14,7 +14,7 @@ ghost use Rattle.encoding.specs.Encodings.{mapDemand, starting, goalTree, first
 ghost use Rattle.encoding.specs.Slots.{Slot, same, code as codeKind};
 ghost use Rattle.encoding.specs.Steps.{only, word0, step as stepOf};
 ghost use Rattle.places.specs.Places.{placeOf, listed, size as placesCount};
-ghost use Rattle.checkpoints.specs.Contained.{Contained, Distinct};
+ghost use Rattle.lists.specs.Tables.{ListTable, Distinct};
 ghost use Rattle.members.specs.Members.{Members};
 ghost use Rattle.encoder.specs.Answers.{sizeAnswer, encodeAnswer, tableOutput};
 ghost use Rattle.places.specs.Pieces.{Writes, Limits};
@@ -41,13 +41,13 @@ fn steps(
     layout: Layout,
     points: Points,
     members: &[u8],
-    contained: &[u8],
+    lists: &[u8],
     slots: &mut [u32],
     out: &mut [u8],
     bound: u8,
     n: u32,
 ) -> u32
-    requires { ⌜ (Limits layout points (now slots) n) × (n ≤ 1000000) × (bound ≤ 64) × (Members (setBy (now set) layout) (now members)) × (Contained (setBy (now set) layout) (listed points) (now contained)) × (Idle (setBy (now set) layout) (placeOf (now slots))) ⌝ }
+    requires { ⌜ (Limits layout points (now slots) n) × (n ≤ 1000000) × (bound ≤ 64) × (Members (setBy (now set) layout) (now members)) × (ListTable (setBy (now set) layout) (listed points) (now lists)) × (Idle (setBy (now set) layout) (placeOf (now slots))) ⌝ }
     ensures { λ r. ⌜ (Writes (upto (stepOf (setBy (now (set .entry)) layout) (listed points)) bound)
         (now (out .entry)) (now (slots .entry)) n (now (out .exit)) (now (slots .exit)) r)
         × (r ≤ n + 24182912) ⌝ }
@@ -55,7 +55,7 @@ fn steps(
     let mut next = n;
     let mut k: u8 = 0;
     while k < bound {
-        next = blocks::one_step(set, layout, points, members, contained, slots, out, k, next);
+        next = blocks::one_step(set, layout, points, members, lists, slots, out, k, next);
         k += 1;
     }
     next
@@ -312,13 +312,13 @@ fn few_steps(
     layout: Layout,
     points: Points,
     members: &[u8],
-    contained: &[u8],
+    lists: &[u8],
     slots: &mut [u32],
     out: &mut [u8],
     bound: u8,
     first: u32,
 ) -> Last
-    requires { ⌜ (Limits layout points (now slots) first) × (first ≤ 10000) × (bound ≤ 64) × (Members (setBy (now set) layout) (now members)) × (Contained (setBy (now set) layout) (listed points) (now contained)) × (Idle (setBy (now set) layout) (placeOf (now slots))) ⌝ }
+    requires { ⌜ (Limits layout points (now slots) first) × (first ≤ 10000) × (bound ≤ 64) × (Members (setBy (now set) layout) (now members)) × (ListTable (setBy (now set) layout) (listed points) (now lists)) × (Idle (setBy (now set) layout) (placeOf (now slots))) ⌝ }
     ensures { λ r. ⌜ (Ended (setBy (now (set .entry)) layout) (listed points) (placeOf (now (slots .entry))) first bound
         (now (out .entry)) (now (out .exit)) (r .next) (r .code) (r .nought))
         × (r .next ≤ 25000000) ⌝ }
@@ -328,7 +328,7 @@ fn few_steps(
         layout,
         points,
         members,
-        contained,
+        lists,
         slots,
         out,
         bound,
@@ -367,13 +367,13 @@ fn all_steps(
     layout: Layout,
     points: Points,
     members: &[u8],
-    contained: &[u8],
+    lists: &[u8],
     slots: &mut [u32],
     out: &mut [u8],
     bound: u8,
     first: u32,
 ) -> Last
-    requires { ⌜ (Limits layout points (now slots) first) × (first ≤ 10000) × (bound ≤ 64) × (Members (setBy (now set) layout) (now members)) × (Contained (setBy (now set) layout) (listed points) (now contained))
+    requires { ⌜ (Limits layout points (now slots) first) × (first ≤ 10000) × (bound ≤ 64) × (Members (setBy (now set) layout) (now members)) × (ListTable (setBy (now set) layout) (listed points) (now lists))
         × (16 * nextAfter same first (upto (stepOf (setBy (now set) layout) (listed points)) bound) ≤ length (now out)) × (Idle (setBy (now set) layout) (placeOf (now slots))) ⌝ }
     ensures { λ r. ⌜ (Ended (setBy (now (set .entry)) layout) (listed points) (placeOf (now (slots .entry))) first bound
         (now (out .entry)) (now (out .exit)) (r .next) (r .code) (r .nought))
@@ -385,24 +385,14 @@ fn all_steps(
             layout,
             points,
             members,
-            contained,
+            lists,
             slots,
             out,
             bound,
             first,
         );
     }
-    let second = few_steps(
-        set,
-        layout,
-        points,
-        members,
-        contained,
-        slots,
-        out,
-        2,
-        first,
-    );
+    let second = few_steps(set, layout, points, members, lists, slots, out, 2, first);
     later_steps(layout.threads, out, bound, first, second)
 }
 
@@ -417,8 +407,8 @@ fn write(set: &[u8], layout: Layout, points: Points, map: &[u8], bound: u8, tabl
 {
     let mut members = [0u8; 1452];
     members::make(set, layout, &mut members);
-    let mut contained = [32u8; 160];
-    checkpoints::contained::make(set, layout, points, &members, &mut contained);
+    let mut lists = [32u8; 416];
+    lists::make(set, layout, points, &members, &mut lists);
     let mut slots = [0u32; 2304];
     firsts(table);
     let first = before_steps(set, layout, points, &members, map, &mut slots, table);
@@ -427,7 +417,7 @@ fn write(set: &[u8], layout: Layout, points: Points, map: &[u8], bound: u8, tabl
         layout,
         points,
         &members,
-        &contained,
+        &lists,
         &mut slots,
         table,
         bound,

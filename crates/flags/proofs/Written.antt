@@ -1,5 +1,5 @@
 -- A flag's tree with its links as the code asks for them. Assumes nothing.
-use Prim.Native.Nat.{ℕ, suc, _+_, _≤_, _<_}
+use Prim.Native.Nat.{ℕ, suc, _+_, _*_, _≤_, _<_}
 use mathlib.Core.Path.{_≡_, subst}
 use mathlib.Core.Bool.{true, false}
 use mathlib.Core.List.{List, []}
@@ -14,7 +14,8 @@ use Rattle.places.proofs.Entries.{treeOf}
 use Rattle.members.specs.Members.{namesTarget}
 use Rattle.links.proofs.Leads.{leads-elsewhere}
 use Rattle.links.proofs.Trees.{chain-none, chain-more, chain-to}
-use Rattle.flags.specs.Ways.{NamedFirst, WaysOf}
+use Rattle.lists.specs.Tables.{JumpsOf, onward}
+use Rattle.flags.specs.Named.{NamedFirst}
 use Rattle.flags.proofs.Lists.{passed-over, named-later, named-next}
 
 -- the chain of a flag, its links as the code asks for them
@@ -58,7 +59,7 @@ pub record Reached (places : Slot → ℕ) (S : Set) (t j count from end : ℕ) 
   pub since : from ≤ low
   pub within : low ≤ end
   pub due : low ≤ hit
-  pub soonest : NamedFirst S t (λ x. x < count) hit low j
+  pub soonest : NamedFirst S t count hit low j
   pub written : WritesTree places (chain (leads S [] 0 t j) low tree) start m out n at
 
 -- j does not stand after one of the statements from `from` on and before `end`
@@ -73,19 +74,19 @@ module _ (places : Slot → ℕ) (S : Set) (t j : ℕ) (small : j < 32) (count f
       (r .written)
 
   -- jump `hit` gives its link
-  pub reached-more : hit < end → namesTarget (S .statement t hit) j ≡ true → (ways : List ℕ) → WaysOf S t count ways → (next : ℕ) → hit < next →
-      (hit < getD ways (32 + hit) 0 → next ≡ getD ways (32 + hit) 0) → (out1 : List ℕ) (n1 at1 : ℕ) →
+  pub reached-more : hit < end → namesTarget (S .statement t hit) j ≡ true → (table : List ℕ) → JumpsOf S t count table → (next : ℕ) → hit < next →
+      next ≡ onward hit (getD table (288 + 32 * t + hit) 0) → (out1 : List ℕ) (n1 at1 : ℕ) →
       (WritesTree places (chain (leads S [] 0 t j) hit tree) start m out n at → WritesTree places (linked (leads S [] 0 t j hit) (chain (leads S [] 0 t j) hit tree)) start m out1 n1 at1) →
       Reached places S t j count from end tree start m next out1 n1 at1
-  reached-more more names ways w next greater is out1 n1 at1 put = record {
+  reached-more more names table w next greater is out1 n1 at1 put = record {
     low = hit + 1;
     since = (let s = r .since in let d = r .due in omega arith);
     within = omega arith;
     due = omega arith;
-    soonest = named-next S t count j small ways w hit next (omega arith) names is;
+    soonest = named-next S t count j small table w hit next (omega arith) names is;
     written = chain-more places (leads S [] 0 t j) tree start m out1 n1 at1 hit (put (reached-to hit (r .due) (omega arith) (omega arith)));
   }
 
   -- no such jump is left
-  pub reached-all : end ≤ hit → (WritesTree places (chain (leads S [] 0 t j) end tree) start m out n at) × (NamedFirst S t (λ x. x < count) hit end j)
+  pub reached-all : end ≤ hit → (WritesTree places (chain (leads S [] 0 t j) end tree) start m out n at) × (NamedFirst S t count hit end j)
   reached-all past = (reached-to end (r .within) past (omega arith), named-later S t count j small hit (r .low) end (r .within) (r .soonest))

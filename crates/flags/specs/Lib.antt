@@ -1,2 +1,2 @@
--- The lists of the jumps that name each statement.
-pub mod Ways
+-- What a flag's links are looked for by.
+pub mod Named

@@ -2,7 +2,7 @@
 // A thread's statements stand from record `first` of the set on: the layout is read once.
 ghost use mathlib.Core.Path.{_≡_};
 ghost use mathlib.Core.List.{List, []};
-ghost use Prim.Native.Nat.{ℕ, _+_, _-_, _≤_, _<_};
+ghost use Prim.Native.Nat.{ℕ, _+_, _-_, _*_, _≤_, _<_};
 ghost use lib.ListN.{length, getD};
 ghost use Rattle.records.specs.Sets.{Set, setBy};
 ghost use Rattle.encoding.specs.Slots.{Slot, slot, Term, choice, flag as flagKind, no as noKind};
@@ -10,84 +10,26 @@ ghost use Rattle.encoding.specs.Steps.{chain as chainOf, leads as leadsOf, entr
 ghost use Rattle.places.specs.Places.{placeOf, size};
 ghost use Rattle.places.specs.Pieces.{Writes, WritesTree};
 ghost use Rattle.members.specs.Held.{Held};
-ghost use Rattle.members.specs.Members.{Members};
-ghost use Rattle.flags.specs.Ways.{NamedFirst, WaysOf, withJump};
+ghost use Rattle.lists.specs.Tables.{ListTable, JumpsOf, onward};
+ghost use Rattle.flags.specs.Named.{NamedFirst};
 use links::Root;
 use links::edges;
 use links::put_link;
-use members::IS_JUMP;
-use members::count_of;
-use members::member;
+use lists::jumps::first as first_jump;
+use lists::jumps::following;
 use places::kinds::CHOICE;
 use places::kinds::FLAG;
 use places::kinds::NO;
 use records::Layout;
 
-// Puts jump i, which names statement `target`, before the jumps listed for it.
-fn add_jump(ways: &mut [u8], i: u16, target: u16)
-    ensures { λ _. ⌜ (length (now (ways .exit)) ≡ length (now (ways .entry)))
-        × (length (now (ways .entry)) ≡ 64 → i < 32 → target < 32 → now (ways .exit) ≡ withJump (now (ways .entry)) i target)
-        × (32 ≤ target → now (ways .exit) ≡ now (ways .entry)) ⌝ }
-{
-    if ways.len() != 64 {
-        return;
-    }
-    if 31 < i {
-        return;
-    }
-    if 31 < target {
-        return;
-    }
-    let at = i as usize;
-    let list = target as usize;
-    ways[32 + at] = ways[list];
-    ways[list] = i as u8;
-}
-
-// Lists in `ways` the jumps of thread t by the statement they name, from the last to the first.
-fn list_jumps(set: &[u8], first: u32, members: &[u8], ways: &mut [u8], t: u8, count: u16)
-    requires { ⌜ (first < 65536) × (t < 4) ⌝ }
-    ensures { λ _. ⌜ (length (now (ways .exit)) ≡ length (now (ways .entry)))
-        × ((S : Set) → count ≡ S .count t → Members S (now (members .entry)) → Held S (now (set .entry)) t first count
-        → length (now (ways .entry)) ≡ 64 → ((k : ℕ) → k < 64 → getD (now (ways .entry)) k 0 ≡ 32) → WaysOf S t count (now (ways .exit))) ⌝ }
-{
-    let mut p = count_of(members, IS_JUMP, t);
-    while 0 < p {
-        p -= 1;
-        let i = member(members, IS_JUMP, t, p);
-        let statement = records::statement_at(set, first + (i as u32));
-        add_jump(ways, i, statement.argument);
-    }
-}
-
-// The first jump that names statement j, 32 if none.
-fn way(ways: &[u8], j: u16) -> u16
-    ensures { λ r. ⌜ r ≡ getD (now (ways .entry)) j 0 ⌝ }
-{
-    base::byte_at(ways, j as usize) as u16
-}
-
-// The jump after jump i that names what i names, 32 or more if none. A number that is not greater is passed over,
-// so that a loop over a list ends whatever its bytes are.
-fn following(ways: &[u8], i: u16) -> u16
-    ensures { λ r. ⌜ (i < 32 → i < r) × (i < getD (now (ways .entry)) (32 + i) 0 → r ≡ getD (now (ways .entry)) (32 + i) 0) ⌝ }
-{
-    let next = base::byte_at(ways, 32 + (i as usize)) as u16;
-    if i < next {
-        return next;
-    }
-    32
-}
-
 // The jump to look for after statement i: `hit` where it comes later, else the one after jump i.
-fn past(ways: &[u8], hit: u16, i: u16) -> u16
-    ensures { λ r. ⌜ (i < 32 → i < r) × (i < hit → r ≡ hit)
-        × (hit ≤ i → i < getD (now (ways .entry)) (32 + i) 0 → r ≡ getD (now (ways .entry)) (32 + i) 0) ⌝ }
+fn past(lists: &[u8], t: u8, hit: u16, i: u16) -> u16
+    ensures { λ r. ⌜ (i < hit → r ≡ hit) × (hit ≤ i → r ≡ onward i (getD (now (lists .entry)) (288 + 32 * t + i) 0)) ⌝ }
 {
     if i < hit {
         return hit;
     }
-    following(ways, i)
+    following(lists, t, i)
 }
 
 // A tree with links, and the jump to go on with.
@@ -100,7 +42,7 @@ struct Named {
 fn named_links(
     set: &[u8],
     first: u32,
-    ways: &[u8],
+    lists: &[u8],
     slots: &[u32],
     out: &mut [u8],
     t: u8,
@@ -111,11 +53,11 @@ fn named_links(
 ) -> Named
     requires { ⌜ (first < 65536) × (end ≤ 32) × (n ≤ 1950000000) × (t < 4) ⌝ }
     ensures { λ r. ⌜ ((S : Set) (tree : Term) (start : List ℕ) (m j count from : ℕ) → j < 32 → from ≤ hit → from ≤ end → end ≤ count
-        → ((x : ℕ) → from ≤ x → x < end → (j ≡ x + 1 → ⊥)) → WaysOf S t count (now (ways .entry)) → Held S (now (set .entry)) t first count
-        → NamedFirst S t (λ x. x < count) hit from j
+        → ((x : ℕ) → from ≤ x → x < end → (j ≡ x + 1 → ⊥)) → JumpsOf S t count (now (lists .entry)) → Held S (now (set .entry)) t first count
+        → NamedFirst S t count hit from j
         → WritesTree (placeOf (now (slots .entry))) (chainOf (leadsOf S [] 0 t j) from tree) start m (now (out .entry)) n base
         → (WritesTree (placeOf (now (slots .entry))) (chainOf (leadsOf S [] 0 t j) end tree) start m (now (out .exit)) (r .tree .next) (r .tree .at))
-        × (NamedFirst S t (λ x. x < count) (r .hit) end j))
+        × (NamedFirst S t count (r .hit) end j))
         × (end ≤ r .hit) × (r .tree .next ≤ n + (end - hit)) ⌝ }
 {
     let mut tree = Root { next: n, at: base };
@@ -124,7 +66,7 @@ fn named_links(
         let statement = records::statement_at(set, first + (i as u32));
         let link = edges::named(statement.number, slots, t, i);
         tree = put_link(out, tree.next, tree.at, link);
-        i = following(ways, i);
+        i = following(lists, t, i);
     }
     Named { tree, hit: i }
 }
@@ -133,7 +75,7 @@ fn named_links(
 fn jump_links(
     set: &[u8],
     first: u32,
-    ways: &[u8],
+    lists: &[u8],
     slots: &[u32],
     out: &mut [u8],
     t: u8,
@@ -143,26 +85,26 @@ fn jump_links(
     base: u64,
 ) -> Root
     requires { ⌜ (first < 65536) × (count ≤ 32) × (j < count) × (n ≤ 1900000000) × (t < 4) ⌝ }
-    ensures { λ r. ⌜ ((S : Set) (tree : Term) (start : List ℕ) (m : ℕ) → WaysOf S t count (now (ways .entry)) → Held S (now (set .entry)) t first count
+    ensures { λ r. ⌜ ((S : Set) (tree : Term) (start : List ℕ) (m : ℕ) → JumpsOf S t count (now (lists .entry)) → Held S (now (set .entry)) t first count
         → WritesTree (placeOf (now (slots .entry))) tree start m (now (out .entry)) n base
         → WritesTree (placeOf (now (slots .entry))) (chainOf (leadsOf S [] 0 t j) count tree) start m (now (out .exit)) (r .next) (r .at))
         × (r .next ≤ n + 32) ⌝ }
 {
-    let hit = way(ways, j);
+    let hit = first_jump(lists, t, j);
     if j == 0 {
-        let all = named_links(set, first, ways, slots, out, t, hit, count, n, base);
+        let all = named_links(set, first, lists, slots, out, t, hit, count, n, base);
         return all.tree;
     }
     let before = j - 1;
-    let earlier = named_links(set, first, ways, slots, out, t, hit, before, n, base);
+    let earlier = named_links(set, first, lists, slots, out, t, hit, before, n, base);
     let statement = records::statement_at(set, first + (before as u32));
     let link = edges::leads(statement, slots, t, j, before);
     let tree = put_link(out, earlier.tree.next, earlier.tree.at, link);
-    let next = past(ways, earlier.hit, before);
+    let next = past(lists, t, earlier.hit, before);
     let later = named_links(
         set,
         first,
-        ways,
+        lists,
         slots,
         out,
         t,
@@ -178,7 +120,7 @@ fn jump_links(
 fn flag_links(
     set: &[u8],
     first: u32,
-    ways: &[u8],
+    lists: &[u8],
     slots: &[u32],
     out: &mut [u8],
     t: u8,
@@ -188,13 +130,13 @@ fn flag_links(
     base: u64,
 ) -> Root
     requires { ⌜ (first < 65536) × (count ≤ 32) × (j < count) × (n ≤ 1900000000) × (t < 4) ⌝ }
-    ensures { λ r. ⌜ ((S : Set) (tree : Term) (start : List ℕ) (m : ℕ) → WaysOf S t count (now (ways .entry)) → Held S (now (set .entry)) t first count
+    ensures { λ r. ⌜ ((S : Set) (tree : Term) (start : List ℕ) (m : ℕ) → JumpsOf S t count (now (lists .entry)) → Held S (now (set .entry)) t first count
         → WritesTree (placeOf (now (slots .entry))) tree start m (now (out .entry)) n base
         → WritesTree (placeOf (now (slots .entry))) (chainOf (leadsOf S [] 0 t j) count tree) start m (now (out .exit)) (r .next) (r .at))
         × (r .next ≤ n + 32) ⌝ }
 {
-    if way(ways, j) < 32 {
-        return jump_links(set, first, ways, slots, out, t, j, count, n, base);
+    if first_jump(lists, t, j) < 32 {
+        return jump_links(set, first, lists, slots, out, t, j, count, n, base);
     }
     if 0 < j {
         let before = j - 1;
@@ -209,7 +151,7 @@ fn flag_links(
 fn flag(
     set: &[u8],
     first: u32,
-    ways: &[u8],
+    lists: &[u8],
     slots: &mut [u32],
     out: &mut [u8],
     t: u8,
@@ -220,7 +162,7 @@ fn flag(
     n: u32,
 ) -> u32
     requires { ⌜ (first < 65536) × (count ≤ 32) × (j < count) × (t < 4) × (n ≤ 1800000000) ⌝ }
-    ensures { λ r. ⌜ ((S : Set) (cs : List ℕ) (k : ℕ) → count ≡ S .count t → WaysOf S t count (now (ways .entry)) → Held S (now (set .entry)) t first count
+    ensures { λ r. ⌜ ((S : Set) (cs : List ℕ) (k : ℕ) → count ≡ S .count t → JumpsOf S t count (now (lists .entry)) → Held S (now (set .entry)) t first count
         → executes ≡ placeOf (now (slots .entry)) (slot choice 0 t) → no ≡ placeOf (now (slots .entry)) (slot noKind 0 0)
         → length (now (slots .entry)) ≡ size → ((s : Slot) → placeOf (now (slots .entry)) s < n)
         → Writes (entryOf S cs k flagKind t j) (now (out .entry)) (now (slots .entry)) n (now (out .exit)) (now (slots .exit)) r)
@@ -229,7 +171,7 @@ fn flag(
     let statement = records::statement_at(set, first + (j as u32));
     let base = bases::put_flag(statement, slots, out, executes, no, t, j, n);
     let next = n + base.count;
-    let tree = flag_links(set, first, ways, slots, out, t, j, count, next, base.root);
+    let tree = flag_links(set, first, lists, slots, out, t, j, count, next, base.root);
     places::set_place(slots, FLAG, t, j, tree.at);
     tree.next
 }
@@ -238,7 +180,7 @@ fn flag(
 fn each_flag(
     set: &[u8],
     first: u32,
-    members: &[u8],
+    lists: &[u8],
     slots: &mut [u32],
     out: &mut [u8],
     t: u8,
@@ -246,13 +188,11 @@ fn each_flag(
     n: u32,
 ) -> u32
     requires { ⌜ (first < 65536) × (count ≤ 32) × (t < 4) × (n ≤ 1700000000) ⌝ }
-    ensures { λ r. ⌜ ((S : Set) (cs : List ℕ) (k : ℕ) → count ≡ S .count t → Members S (now (members .entry)) → Held S (now (set .entry)) t first count
+    ensures { λ r. ⌜ ((S : Set) (cs : List ℕ) (k : ℕ) → count ≡ S .count t → JumpsOf S t count (now (lists .entry)) → Held S (now (set .entry)) t first count
         → length (now (slots .entry)) ≡ size → ((s : Slot) → placeOf (now (slots .entry)) s < n)
         → Writes (lineOf S cs k flagKind t) (now (out .entry)) (now (slots .entry)) n (now (out .exit)) (now (slots .exit)) r)
         × (r ≤ n + 1152) ⌝ }
 {
-    let mut ways = [32u8; 64];
-    list_jumps(set, first, members, &mut ways, t, count);
     let executes = places::place(slots, CHOICE, 0, t as u16, 0);
     let no = places::place(slots, NO, 0, 0, 0);
     let mut next = n;
@@ -261,7 +201,7 @@ fn each_flag(
         next = flag(
             set,
             first,
-            &ways,
+            lists,
             slots,
             out,
             t,
@@ -280,14 +220,14 @@ fn each_flag(
 pub fn flags(
     set: &[u8],
     layout: Layout,
-    members: &[u8],
+    lists: &[u8],
     slots: &mut [u32],
     out: &mut [u8],
     t: u8,
     n: u32,
 ) -> u32
-    ensures { λ r. ⌜ ((cs : List ℕ) (k : ℕ) → t < 4 → getD (layout .counts) t 0 ≤ 32 → n ≤ 1700000000
-        → Members (setBy (now (set .entry)) layout) (now (members .entry))
+    ensures { λ r. ⌜ ((cs : List ℕ) (k : ℕ) → t < layout .threads → n ≤ 1700000000
+        → ListTable (setBy (now (set .entry)) layout) cs (now (lists .entry))
         → length (now (slots .entry)) ≡ size → ((s : Slot) → placeOf (now (slots .entry)) s < n)
         → Writes (lineOf (setBy (now (set .entry)) layout) cs k flagKind t)
         (now (out .entry)) (now (slots .entry)) n (now (out .exit)) (now (slots .exit)) r)
@@ -304,12 +244,12 @@ pub fn flags(
     if slots.len() != 2304 {
         return n;
     }
-    if members.len() != 1452 {
+    if lists.len() != 416 {
         return n;
     }
     if 1700000000 < n {
         return n;
     }
     let first = members::first(layout, t);
-    each_flag(set, first, members, slots, out, t, count, n)
+    each_flag(set, first, lists, slots, out, t, count, n)
 }

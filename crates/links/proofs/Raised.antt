@@ -12,7 +12,7 @@ use Rattle.step.specs.Machine.{isCheck}
 use Rattle.encoding.specs.Slots.{Slot, Term, raised}
 use Rattle.encoding.specs.Steps.{skip, link, chain}
 use Rattle.places.specs.Pieces.{WritesTree}
-use Rattle.checkpoints.specs.Lists.{Leads}
+use Rattle.lists.specs.Lists.{Leads}
 use Rattle.links.proofs.Trees.{chain-to}
 
 -- the chain of RAISED, where statement `it` is the next CHECK to visit: it is written up to there, or whole

@@ -10,7 +10,7 @@ ghost use Rattle.encoding.specs.Steps.{link as linkOf, links as linksOf, chain 
 ghost use Rattle.places.specs.Pieces.{WritesTree};
 ghost use Rattle.places.specs.Places.{placeOf, size};
 ghost use Rattle.links.specs.Chained.{chained};
-ghost use Rattle.checkpoints.specs.Contained.{Contained};
+ghost use Rattle.lists.specs.Tables.{ListTable};
 ghost use Rattle.links.specs.Placed.{placedLink};
 use crate::Link;
 use crate::parts::AND;
@@ -22,8 +22,8 @@ use crate::parts::halts;
 use crate::parts::one;
 use crate::written::Root;
 use crate::written::put_link;
-use checkpoints::lists::first;
-use checkpoints::lists::following;
+use lists::checks::first;
+use lists::checks::following;
 use places::kinds;
 
 // Writes the links that the CHECKs of thread t give to the chain of RAISED for checkpoint p over a tree: only these are visited.
@@ -37,7 +37,7 @@ pub fn raised_chain(
     base: u64,
 ) -> Root
     ensures { λ r. ⌜ ((S : Set) (cs : List ℕ) (tree : Term) (start : List ℕ) (m : ℕ) → t < S .threads → p < length cs → n ≤ 1900000000 → length (now (slots .entry)) ≡ size
-        → Contained S cs (now (table .entry))
+        → ListTable S cs (now (table .entry))
         → WritesTree (placeOf (now (slots .entry))) tree start m (now (out .entry)) n base
         → WritesTree (placeOf (now (slots .entry))) (chainOf (linkOf S cs 0 raised t p) (S .count t) tree) start m (now (out .exit)) (r .next) (r .at))
         × (r .next ≤ n + 32) ⌝ }
@@ -50,7 +50,7 @@ pub fn raised_chain(
     if slots.len() != 2304 {
         return tree;
     }
-    if table.len() != 160 {
+    if table.len() != 416 {
         return tree;
     }
     let mut i = first(table, t, p);
@@ -123,7 +123,7 @@ pub fn opening_chain(
     base: u64,
 ) -> Root
     ensures { λ r. ⌜ ((S : Set) (cs : List ℕ) (tree : Term) (start : List ℕ) (m : ℕ) → S .threads ≡ threads → p < length cs → n ≤ 1900000000 → length (now (slots .entry)) ≡ size
-        → Contained S cs (now (table .entry))
+        → ListTable S cs (now (table .entry))
         → WritesTree (placeOf (now (slots .entry))) tree start m (now (out .entry)) n base
         → WritesTree (placeOf (now (slots .entry))) (chainOf (linkOf S cs 0 opening 0 p) (S .threads) tree) start m (now (out .exit)) (r .next) (r .at))
         × (r .next ≤ n + 4) ⌝ }
@@ -133,7 +133,7 @@ pub fn opening_chain(
     if slots.len() != 2304 {
         return tree;
     }
-    if table.len() != 160 {
+    if table.len() != 416 {
         return tree;
     }
     if 4 < threads {
@@ -159,7 +159,7 @@ pub fn waits_chain(
     base: u64,
 ) -> Root
     ensures { λ r. ⌜ ((S : Set) (cs : List ℕ) (tree : Term) (start : List ℕ) (m : ℕ) → length cs ≡ count → t < S .threads → n ≤ 1900000000 → length (now (slots .entry)) ≡ size
-        → Contained S cs (now (table .entry))
+        → ListTable S cs (now (table .entry))
         → WritesTree (placeOf (now (slots .entry))) tree start m (now (out .entry)) n base
         → WritesTree (placeOf (now (slots .entry))) (chainOf (linkOf S cs 0 waits t 0) (length cs) tree) start m (now (out .exit)) (r .next) (r .at))
         × (r .next ≤ n + 8) ⌝ }
@@ -169,7 +169,7 @@ pub fn waits_chain(
     if slots.len() != 2304 {
         return tree;
     }
-    if table.len() != 160 {
+    if table.len() != 416 {
         return tree;
     }
     if 8 < count {

@@ -7,10 +7,10 @@ ghost use lib.ListN.{length, getD};
 ghost use Rattle.records.specs.Sets.{Set};
 ghost use Rattle.step.specs.Machine.{contains as containsOf};
 ghost use Rattle.places.specs.Places.{placeFrom};
-ghost use Rattle.checkpoints.specs.Contained.{Contained};
+ghost use Rattle.lists.specs.Tables.{ListTable};
 ghost use Rattle.links.specs.Placed.{noLink, ifLink, bitLink};
 use crate::Link;
-use checkpoints::contained::contains;
+use lists::checks::contains;
 use places::kinds;
 use places::place;
 
@@ -92,7 +92,7 @@ pub fn flushed(threads: u8, slots: &[u32], effect: u8, t: u16) -> Link
 
 // Where thread t contains checkpoint p, by the table: the operation with its bit of a kind for p.
 pub fn contained(table: &[u8], slots: &[u32], operation: u8, kind: u8, t: u8, p: u16) -> Link
-    ensures { λ r. ⌜ ((S : Set) (cs : List ℕ) → Contained S cs (now (table .entry)) → t < S .threads → p < length cs
+    ensures { λ r. ⌜ ((S : Set) (cs : List ℕ) → ListTable S cs (now (table .entry)) → t < S .threads → p < length cs
         → r ≡ cond (containsOf S t (getD cs p 0)) (bitLink operation (placeFrom (now (slots .entry)) kind t p 0)) noLink) ⌝ }
 {
     if contains(table, t, p) {

@@ -10,7 +10,7 @@ ghost use Rattle.encoding.specs.Steps.{base as baseOf, entry as entryOf, line a
 ghost use Rattle.places.specs.Places.{placeOf, size};
 ghost use Rattle.places.specs.Pieces.{Writes};
 ghost use Rattle.bases.specs.Fews.{Puts};
-ghost use Rattle.checkpoints.specs.Contained.{Contained};
+ghost use Rattle.lists.specs.Tables.{ListTable};
 ghost use Rattle.marks.specs.Marked.{marked};
 use bases::Written;
 use places::kinds;
@@ -26,7 +26,7 @@ fn opening(
     n: u32,
 ) -> u32
     requires { ⌜ (n ≤ 1800000000) × (p < 8) ⌝ }
-    ensures { λ r. ⌜ ((S : Set) (cs : List ℕ) → S .threads ≡ threads → p < length cs → Contained S cs (now (table .entry)) → length (now (slots .entry)) ≡ size
+    ensures { λ r. ⌜ ((S : Set) (cs : List ℕ) → S .threads ≡ threads → p < length cs → ListTable S cs (now (table .entry)) → length (now (slots .entry)) ≡ size
         → ((s : Slot) → placeOf (now (slots .entry)) s < n)
         → Writes (entryOf S cs step openingKind 0 p) (now (out .entry)) (now (slots .entry)) n (now (out .exit)) (now (slots .exit)) r)
         × (r ≤ n + 8) ⌝ }
@@ -48,7 +48,7 @@ pub fn openings(
     step: u8,
     n: u32,
 ) -> u32
-    ensures { λ r. ⌜ ((S : Set) (cs : List ℕ) → S .threads ≡ threads → length cs ≡ count → Contained S cs (now (table .entry)) → length (now (slots .entry)) ≡ size → ((s : Slot) → placeOf (now (slots .entry)) s < n) → n ≤ 1600000000
+    ensures { λ r. ⌜ ((S : Set) (cs : List ℕ) → S .threads ≡ threads → length cs ≡ count → ListTable S cs (now (table .entry)) → length (now (slots .entry)) ≡ size → ((s : Slot) → placeOf (now (slots .entry)) s < n) → n ≤ 1600000000
         → Writes (blockOf S cs step openingKind) (now (out .entry)) (now (slots .entry)) n (now (out .exit)) (now (slots .exit)) r)
         × (n ≤ 1600000000 → r ≤ n + 4608) ⌝ }
 {
@@ -59,7 +59,7 @@ pub fn openings(
     if slots.len() != 2304 {
         return n;
     }
-    if table.len() != 160 {
+    if table.len() != 416 {
         return n;
     }
     if 4 < threads {
@@ -89,7 +89,7 @@ fn waiting(
     n: u32,
 ) -> u32
     requires { ⌜ (n ≤ 1800000000) × (t < 4) ⌝ }
-    ensures { λ r. ⌜ ((S : Set) (cs : List ℕ) → S .threads ≡ threads → length cs ≡ count → t < S .threads → Contained S cs (now (table .entry)) → length (now (slots .entry)) ≡ size
+    ensures { λ r. ⌜ ((S : Set) (cs : List ℕ) → S .threads ≡ threads → length cs ≡ count → t < S .threads → ListTable S cs (now (table .entry)) → length (now (slots .entry)) ≡ size
         → ((s : Slot) → placeOf (now (slots .entry)) s < n)
         → Writes (entryOf S cs step waitsKind t 0) (now (out .entry)) (now (slots .entry)) n (now (out .exit)) (now (slots .exit)) r)
         × (r ≤ n + 12) ⌝ }
@@ -111,7 +111,7 @@ pub fn waits(
     step: u8,
     n: u32,
 ) -> u32
-    ensures { λ r. ⌜ ((S : Set) (cs : List ℕ) → S .threads ≡ threads → length cs ≡ count → Contained S cs (now (table .entry)) → length (now (slots .entry)) ≡ size → ((s : Slot) → placeOf (now (slots .entry)) s < n) → n ≤ 1600000000
+    ensures { λ r. ⌜ ((S : Set) (cs : List ℕ) → S .threads ≡ threads → length cs ≡ count → ListTable S cs (now (table .entry)) → length (now (slots .entry)) ≡ size → ((s : Slot) → placeOf (now (slots .entry)) s < n) → n ≤ 1600000000
         → Writes (blockOf S cs step waitsKind) (now (out .entry)) (now (slots .entry)) n (now (out .exit)) (now (slots .exit)) r)
         × (n ≤ 1600000000 → r ≤ n + 4608) ⌝ }
 {
@@ -122,7 +122,7 @@ pub fn waits(
     if slots.len() != 2304 {
         return n;
     }
-    if table.len() != 160 {
+    if table.len() != 416 {
         return n;
     }
     if 4 < threads {
@@ -174,12 +174,12 @@ fn entry(
     n: u32,
 ) -> u32
     requires { ⌜ (n ≤ 1800000000) × (t < 4) × (p < 8) ⌝ }
-    ensures { λ r. ⌜ ((S : Set) (cs : List ℕ) → S .threads ≡ threads → marked kind ≡ true → t < S .threads → p < length cs → Contained S cs (now (table .entry)) → length (now (slots .entry)) ≡ size
+    ensures { λ r. ⌜ ((S : Set) (cs : List ℕ) → S .threads ≡ threads → marked kind ≡ true → t < S .threads → p < length cs → ListTable S cs (now (table .entry)) → length (now (slots .entry)) ≡ size
         → ((s : Slot) → placeOf (now (slots .entry)) s < n)
         → Writes (entryOf S cs step (kindAt kind) t p) (now (out .entry)) (now (slots .entry)) n (now (out .exit)) (now (slots .exit)) r)
         × (r ≤ n + 36) ⌝ }
 {
-    if checkpoints::contained::contains(table, t, p) {
+    if lists::checks::contains(table, t, p) {
         let base = put_marked(slots, out, threads, step, kind, t, p, n);
         let next = n + base.count;
         if kind == kinds::RAISED {
@@ -206,7 +206,7 @@ fn line(
     n: u32,
 ) -> u32
     requires { ⌜ (n ≤ 1700000000) × (count ≤ 8) × (t < 4) ⌝ }
-    ensures { λ r. ⌜ ((S : Set) (cs : List ℕ) → S .threads ≡ threads → length cs ≡ count → marked kind ≡ true → t < S .threads → Contained S cs (now (table .entry)) → length (now (slots .entry)) ≡ size
+    ensures { λ r. ⌜ ((S : Set) (cs : List ℕ) → S .threads ≡ threads → length cs ≡ count → marked kind ≡ true → t < S .threads → ListTable S cs (now (table .entry)) → length (now (slots .entry)) ≡ size
         → ((s : Slot) → placeOf (now (slots .entry)) s < n)
         → Writes (lineOf S cs step (kindAt kind) t) (now (out .entry)) (now (slots .entry)) n (now (out .exit)) (now (slots .exit)) r)
         × (r ≤ n + 288) ⌝ }
@@ -231,7 +231,7 @@ pub fn marks(
     kind: u8,
     n: u32,
 ) -> u32
-    ensures { λ r. ⌜ ((S : Set) (cs : List ℕ) → S .threads ≡ threads → length cs ≡ count → marked kind ≡ true → Contained S cs (now (table .entry)) → length (now (slots .entry)) ≡ size → ((s : Slot) → placeOf (now (slots .entry)) s < n) → n ≤ 1600000000
+    ensures { λ r. ⌜ ((S : Set) (cs : List ℕ) → S .threads ≡ threads → length cs ≡ count → marked kind ≡ true → ListTable S cs (now (table .entry)) → length (now (slots .entry)) ≡ size → ((s : Slot) → placeOf (now (slots .entry)) s < n) → n ≤ 1600000000
         → Writes (blockOf S cs step (kindAt kind)) (now (out .entry)) (now (slots .entry)) n (now (out .exit)) (now (slots .exit)) r)
         × (n ≤ 1600000000 → r ≤ n + 4608) ⌝ }
 {
@@ -242,7 +242,7 @@ pub fn marks(
     if slots.len() != 2304 {
         return n;
     }
-    if table.len() != 160 {
+    if table.len() != 416 {
         return n;
     }
     if 4 < threads {

@@ -53,6 +53,14 @@ pub fn statement_at(set: &[u8], k: u32) -> Statement
     ensures { λ r. ⌜ r ≡ statementAt (now (set .entry)) k ⌝ }
 {
     let at = 8 * (k as usize);
+    // One test for the whole statement, so that its argument is read at once.
+    if at + 5 < set.len() {
+        return Statement {
+            number: set[at + 1],
+            mode: set[at + 2],
+            argument: word(set, at + 4),
+        };
+    }
     Statement {
         number: base::byte_at(set, at + 1),
         mode: base::byte_at(set, at + 2),

@@ -42,7 +42,7 @@ same-length c =
     let e2 : length (r2 .last .1 .1 .1 .0) ≡ length (r1 .last .1 .1 .1 .0) = r2 .kept .1 .1 .1 .0 in
     let e3 : length (r3 .last .1 .1 .1 .1 .0) ≡ length (r2 .last .1 .1 .1 .0) = r3 .kept .1 .1 .1 .1 .0 in
     let e4 : length (r4 .last .1 .0) ≡ length (r3 .last .1 .1 .1 .1 .0) = r4 .kept .1 .0 in
-    let e5 : length (r5 .last .1 .1 .1 .1 .1 .0) ≡ length (r4 .last .1 .0) = r5 .kept .1 .1 .1 .1 .1 .0 in
+    let e5 : length (r5 .last .1 .1 .1 .1 .0) ≡ length (r4 .last .1 .0) = r5 .kept .1 .1 .1 .1 .0 in
     e5 ∙ (e4 ∙ (e3 ∙ (e2 ∙ (e1))))
 
 same-length-2 : tie.Need-same-length-2
@@ -56,7 +56,7 @@ same-length-2 c =
     let e2 : length (r2 .last .1 .1 .1 .1 .0) ≡ length (r1 .last .1 .1 .1 .1 .0) = r2 .kept .1 .1 .1 .1 .0 in
     let e3 : length (r3 .last .1 .1 .1 .1 .1 .0) ≡ length (r2 .last .1 .1 .1 .1 .0) = r3 .kept .1 .1 .1 .1 .1 .0 in
     let e4 : length (r4 .last .1 .1 .0) ≡ length (r3 .last .1 .1 .1 .1 .1 .0) = r4 .kept .1 .1 .0 in
-    let e5 : length (r5 .last .1 .1 .1 .1 .1 .1 .0) ≡ length (r4 .last .1 .1 .0) = r5 .kept .1 .1 .1 .1 .1 .1 .0 in
+    let e5 : length (r5 .last .1 .1 .1 .1 .1 .0) ≡ length (r4 .last .1 .1 .0) = r5 .kept .1 .1 .1 .1 .1 .0 in
     e5 ∙ (e4 ∙ (e3 ∙ (e2 ∙ (e1))))
 
 returns : tie.Need-returns
@@ -73,17 +73,17 @@ returns c =
     let m4 = r4 .ensures .1 in
     let m5 = r5 .ensures .1 in
     let k = a .step in (
-      λ limits members contained idle.
+      λ limits members lists idle.
           let s0 : Ready (a .layout) (a .points) (now (a .set)) k (now (a .slots)) (a .n) = record { limits = limits; idle = idle } in
           let w1 = r1 .ensures .0 (a .points) k limits members idle in
           let s1 = ready-blocks (a .layout) (a .points) (now (a .set)) k 11 5 w1 s0 in
           let w2 = blocks-more (a .layout) (a .points) (now (a .set)) k 11 5 5 w1 (r2 .ensures .0 (a .points) (s1 .limits) members (s1 .idle)) in
           let s2 = ready-blocks (a .layout) (a .points) (now (a .set)) k 11 10 w2 s0 in
-          let w3 = blocks-more (a .layout) (a .points) (now (a .set)) k 11 10 5 w2 (r3 .ensures .0 (now (a .set)) (s2 .limits) members contained (s2 .idle)) in
+          let w3 = blocks-more (a .layout) (a .points) (now (a .set)) k 11 10 5 w2 (r3 .ensures .0 (now (a .set)) (s2 .limits) members lists (s2 .idle)) in
           let s3 = ready-blocks (a .layout) (a .points) (now (a .set)) k 11 15 w3 s0 in
           let w4 = blocks-more (a .layout) (a .points) (now (a .set)) k 11 15 5 w3 (r4 .ensures .0 (now (a .set)) (a .layout) (a .points) refl (s3 .limits) members (s3 .idle)) in
           let s4 = ready-blocks (a .layout) (a .points) (now (a .set)) k 11 20 w4 s0 in
-          blocks-more (a .layout) (a .points) (now (a .set)) k 11 20 5 w4 (r5 .ensures .0 (s4 .limits) members contained (s4 .idle)),
+          blocks-more (a .layout) (a .points) (now (a .set)) k 11 20 5 w4 (r5 .ensures .0 (s4 .limits) lists (s4 .idle)),
       omega arith,
     )
 

@@ -102,7 +102,7 @@ returns c =
     let m4 = r4 .ensures .1 in
     let m5 = r5 .ensures .1 in
     let many = c .before .before .before .before .before .before .before .before .before .before .before .before .before .before .before .before .before .before .before .before .before .before .before .before .before .before .before .before .before .before .before .before .before .before .before .points-count .ensures in (
-      λ limits members contained idle.
+      λ limits members lists idle.
           let S = setBy (now (a .set)) (a .layout) in
           let cs = listed (a .points) in
           let s0 : Ready (a .layout) (a .points) (now (a .set)) (a .step) (now (a .slots)) (a .n) = record { limits = limits; idle = idle } in
@@ -110,7 +110,7 @@ returns c =
           let s1 = ready-block (a .layout) (a .points) (now (a .set)) (a .step) 0 w1 s0 in
           let w2 = r2 .ensures .0 (a .points) (a .step) (s1 .limits) members (s1 .idle) in
           let s2 = ready-block (a .layout) (a .points) (now (a .set)) (a .step) 1 w2 s1 in
-          let w3 = r3 .ensures .0 S cs refl (sym many) contained (s2 .limits .allPlaces) (s2 .limits .below) room3 in
+          let w3 = r3 .ensures .0 S cs refl (sym many) lists (s2 .limits .allPlaces) (s2 .limits .below) room3 in
           let s3 = ready-block (a .layout) (a .points) (now (a .set)) (a .step) 2 w3 s2 in
           let w4 = r4 .ensures .0 S cs refl (λ (b : ℕ). lone-at S cs 0 b 3 (omega arith) refl) refl (many) (s3 .limits .allPlaces) (s3 .limits .below) in
           let s4 = ready-block (a .layout) (a .points) (now (a .set)) (a .step) 3 w4 s3 in

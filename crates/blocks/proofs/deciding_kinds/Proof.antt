@@ -38,11 +38,11 @@ returns c =
     let S = setBy (now (a .set)) (a .layout) in
     let cs = listed (a .points) in
     let k = a .step in (
-      λ limits members contained idle.
+      λ limits members lists idle.
           let s0 : Ready (a .layout) (a .points) (now (a .set)) k (now (a .slots)) (a .n) = record { limits = limits; idle = idle } in
-          let w1 = r1 .ensures .0 limits members contained idle in
+          let w1 = r1 .ensures .0 limits members lists idle in
           let s1 = ready-blocks (a .layout) (a .points) (now (a .set)) k 0 5 w1 s0 in
-          let w2 = blocks-more (a .layout) (a .points) (now (a .set)) k 0 5 5 w1 (r2 .ensures .0 (now (a .set)) (s1 .limits) contained (s1 .idle)) in
+          let w2 = blocks-more (a .layout) (a .points) (now (a .set)) k 0 5 5 w1 (r2 .ensures .0 (now (a .set)) (s1 .limits) lists (s1 .idle)) in
           let s2 = ready-blocks (a .layout) (a .points) (now (a .set)) k 0 10 w2 s0 in
           block-more (a .layout) (a .points) (now (a .set)) k 0 10 w2 (r3 .ensures .0 S cs refl refl refl (s2 .limits .allPlaces) (s2 .limits .below)),
       omega arith,

@@ -24,7 +24,7 @@ marks-requires c κs = search needs
 
 single-block-requires : tie.Need-single-block-requires
 single-block-requires c κs =
-    let q = c .before .before .before .before .before .before .before .before .before .before .before .before .before .before .before .before .before .before .before .before .before .before .pre in
+    let q = c .before .before .before .before .before .before .before .before .before .before .before .before .before .before .before .before .before .before .before .before .before .pre in
     let p0 = q .0 in
     let p1 = q .1 in
     let m1 = c .before .before .before .before .before .before .before .before .before .before .before .before .before .flag-block .ensures .1 in
@@ -33,7 +33,7 @@ single-block-requires c κs =
 
 bare-entry-requires : tie.Need-bare-entry-requires
 bare-entry-requires c κs =
-    let q = c .before .before .before .before .before .before .before .before .before .before .before .before .before .before .before .before .before .before .before .before .before .before .before .before .before .before .before .before .before .pre in
+    let q = c .before .before .before .before .before .before .before .before .before .before .before .before .before .before .before .before .before .before .before .before .before .before .before .before .before .before .before .before .pre in
     let p0 = q .0 in
     let p1 = q .1 in
     let m1 = c .before .before .before .before .before .before .before .before .before .before .before .before .before .before .before .before .before .before .before .before .flag-block .ensures .1 in
@@ -43,7 +43,7 @@ bare-entry-requires c κs =
 
 bare-entry-requires-2 : tie.Need-bare-entry-requires-2
 bare-entry-requires-2 c κs =
-    let q = c .before .before .before .before .before .before .before .before .before .before .before .before .before .before .before .before .before .before .before .before .before .before .before .before .before .before .before .before .before .before .before .before .before .before .before .before .pre in
+    let q = c .before .before .before .before .before .before .before .before .before .before .before .before .before .before .before .before .before .before .before .before .before .before .before .before .before .before .before .before .before .before .before .before .before .before .before .pre in
     let p0 = q .0 in
     let p1 = q .1 in
     let m1 = c .before .before .before .before .before .before .before .before .before .before .before .before .before .before .before .before .before .before .before .before .before .before .before .before .before .before .before .flag-block .ensures .1 in
@@ -59,7 +59,7 @@ same-length c =
     let r3 = c .before .before .before .before .before .before .before .before .before .before .before .before .before .before .before .before .before .before .single-block in
     let r4 = c .before .before .before .before .before .before .before .before .before .before .before .bare-entry in
     let r5 = c .before .before .before .before .bare-entry2 in
-    let e1 : length (r1 .last .1 .1 .1 .0) ≡ length (now (c .before .before .before .before .before .before .before .before .before .before .before .before .before .before .before .before .before .before .before .before .before .before .before .before .before .before .before .before .before .before .before .before .before .before .before .before .before .before .before .before .before .args .slots)) = r1 .kept .1 .1 .1 .0 in
+    let e1 : length (r1 .last .1 .1 .1 .0) ≡ length (now (c .before .before .before .before .before .before .before .before .before .before .before .before .before .before .before .before .before .before .before .before .before .before .before .before .before .before .before .before .before .before .before .before .before .before .before .before .before .before .before .before .args .slots)) = r1 .kept .1 .1 .1 .0 in
     let e2 : length (r2 .last .1 .0) ≡ length (r1 .last .1 .1 .1 .0) = r2 .kept .1 .0 in
     let e3 : length (r3 .last .0) ≡ length (r2 .last .1 .0) = r3 .kept .0 in
     let e4 : length (r4 .last .0) ≡ length (r3 .last .0) = r4 .kept .0 in
@@ -73,7 +73,7 @@ same-length-2 c =
     let r3 = c .before .before .before .before .before .before .before .before .before .before .before .before .before .before .before .before .before .before .single-block in
     let r4 = c .before .before .before .before .before .before .before .before .before .before .before .bare-entry in
     let r5 = c .before .before .before .before .bare-entry2 in
-    let e1 : length (r1 .last .1 .1 .1 .1 .0) ≡ length (now (c .before .before .before .before .before .before .before .before .before .before .before .before .before .before .before .before .before .before .before .before .before .before .before .before .before .before .before .before .before .before .before .before .before .before .before .before .before .before .before .before .before .args .out)) = r1 .kept .1 .1 .1 .1 .0 in
+    let e1 : length (r1 .last .1 .1 .1 .1 .0) ≡ length (now (c .before .before .before .before .before .before .before .before .before .before .before .before .before .before .before .before .before .before .before .before .before .before .before .before .before .before .before .before .before .before .before .before .before .before .before .before .before .before .before .before .args .out)) = r1 .kept .1 .1 .1 .1 .0 in
     let e2 : length (r2 .last .1 .1 .0) ≡ length (r1 .last .1 .1 .1 .1 .0) = r2 .kept .1 .1 .0 in
     let e3 : length (r3 .last .1 .0) ≡ length (r2 .last .1 .1 .0) = r3 .kept .1 .0 in
     let e4 : length (r4 .last .1 .0) ≡ length (r3 .last .1 .0) = r4 .kept .1 .0 in
@@ -83,8 +83,8 @@ same-length-2 c =
 returns : tie.Need-returns
 unfolding kinds
 returns c =
-    let a = c .before .before .before .before .before .before .before .before .before .before .before .before .before .before .before .before .before .before .before .before .before .before .before .before .before .before .before .before .before .before .before .before .before .before .before .before .before .before .before .before .before .args in
-    let q = c .before .before .before .before .before .before .before .before .before .before .before .before .before .before .before .before .before .before .before .before .before .before .before .before .before .before .before .before .before .before .before .before .before .before .before .before .before .before .before .before .before .pre in
+    let a = c .before .before .before .before .before .before .before .before .before .before .before .before .before .before .before .before .before .before .before .before .before .before .before .before .before .before .before .before .before .before .before .before .before .before .before .before .before .before .before .before .args in
+    let q = c .before .before .before .before .before .before .before .before .before .before .before .before .before .before .before .before .before .before .before .before .before .before .before .before .before .before .before .before .before .before .before .before .before .before .before .before .before .before .before .before .pre in
     let p0 = q .0 in
     let p1 = q .1 in
     let r1 = c .before .before .before .before .before .before .before .before .before .before .before .before .before .before .before .before .before .before .before .before .before .before .before .before .before .before .before .before .before .before .before .before .flag-block in
@@ -99,13 +99,13 @@ returns c =
     let m4 = r4 .ensures .1 in
     let m5 = r5 .ensures .1 in
     let many = c .before .before .before .before .before .before .before .before .before .before .before .before .before .before .before .before .before .before .before .before .before .before .before .before .before .before .before .before .before .before .before .before .before .before .before .points-count .ensures in (
-      λ limits members contained idle.
+      λ limits lists idle.
           let S = setBy (now (a .set)) (a .layout) in
           let cs = listed (a .points) in
           let s0 : Ready (a .layout) (a .points) (now (a .set)) (a .step) (now (a .slots)) (a .n) = record { limits = limits; idle = idle } in
-          let w1 = r1 .ensures .0 (a .points) (a .step) (s0 .limits) members in
+          let w1 = r1 .ensures .0 (a .points) (a .step) (s0 .limits) lists in
           let s1 = ready-block (a .layout) (a .points) (now (a .set)) (a .step) 31 w1 s0 in
-          let w2 = r2 .ensures .0 S cs refl (sym many) refl contained (s1 .limits .allPlaces) (s1 .limits .below) room2 in
+          let w2 = r2 .ensures .0 S cs refl (sym many) refl lists (s1 .limits .allPlaces) (s1 .limits .below) room2 in
           let s2 = ready-block (a .layout) (a .points) (now (a .set)) (a .step) 32 w2 s1 in
           let w3 = r3 .ensures .0 S cs refl refl refl (s2 .limits .allPlaces) (s2 .limits .below) in
           let s3 = ready-block (a .layout) (a .points) (now (a .set)) (a .step) 33 w3 s2 in

@@ -105,11 +105,11 @@ returns c =
     let m4 = r4 .ensures .1 in
     let m5 = r5 .ensures .1 in
     let many = c .before .before .before .before .before .before .before .before .before .before .before .before .before .before .before .before .before .before .before .before .before .before .before .before .before .before .before .before .before .before .before .before .before .before .before .points-count .ensures in (
-      λ bytes limits members contained idle.
+      λ bytes limits members lists idle.
           let S = setBy bytes (a .layout) in
           let cs = listed (a .points) in
           let s0 : Ready (a .layout) (a .points) bytes (a .step) (now (a .slots)) (a .n) = record { limits = limits; idle = idle } in
-          let w1 = r1 .ensures .0 S cs refl (sym many) refl contained (s0 .limits .allPlaces) (s0 .limits .below) room1 in
+          let w1 = r1 .ensures .0 S cs refl (sym many) refl lists (s0 .limits .allPlaces) (s0 .limits .below) room1 in
           let s1 = ready-block (a .layout) (a .points) bytes (a .step) 21 w1 s0 in
           let w2 = r2 .ensures .0 S cs refl (of-exits S cs) members (s1 .limits .allPlaces) (s1 .limits .below) in
           let s2 = ready-block (a .layout) (a .points) bytes (a .step) 22 w2 s1 in

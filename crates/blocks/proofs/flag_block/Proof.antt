@@ -13,7 +13,7 @@ use Rattle.table.specs.Programs.{upto}
 use Rattle.records.specs.Sets.{setBy}
 use Rattle.places.proofs.Pieces.{writes-row, writes-more, limits-after}
 use Rattle.places.specs.Pieces.{Writes, Limits}
-use Rattle.members.specs.Members.{Members}
+use Rattle.lists.specs.Tables.{ListTable}
 use Rattle.blocks.proofs.flag_block.Statement.{statement}
 use Rattle.blocks.proofs.flag_block.Tie as tie
 use Rattle.blocks.proofs.flag_block.Reads as reads
@@ -21,13 +21,13 @@ use Rattle.blocks.proofs.flag_block.Lts as lts
 use Rattle.flags.proofs.flags.Reads as flags-reads
 
 abbrev Inv-loop : tie.InvT-loop
-Inv-loop set layout members slots₀ out₀ n threads next₀ t₀ slots out next t =
+Inv-loop set layout lists slots₀ out₀ n threads next₀ t₀ slots out next t =
     (t ≤ threads) × (threads ≤ 4) × (next ≤ n + 1152 * t) × (length out ≡ length out₀) × (length slots ≡ length slots₀)
-    × ((points : Points) (step : ℕ) → Limits layout points slots₀ n → Members (setBy set layout) members
+    × ((points : Points) (step : ℕ) → Limits layout points slots₀ n → ListTable (setBy set layout) (listed points) lists
     → (Writes (upto (line (setBy set layout) (listed points) step flag) t) out₀ slots₀ n out slots next) × (Limits layout points slots next))
 
 abbrev μ-loop : tie.MeasureT-loop
-μ-loop set layout members slots₀ out₀ n threads next₀ t₀ slots out next t = threads - t
+μ-loop set layout lists slots₀ out₀ n threads next₀ t₀ slots out next t = threads - t
 
 loop-holds : tie.Need-loop-holds Inv-loop μ-loop
 loop-holds c =
@@ -38,7 +38,7 @@ loop-holds c =
       omega arith,
       refl,
       refl,
-      λ (points : Points) (step : ℕ) limits members. (writes-row (line (setBy (now (a .set)) (a .layout)) (listed points) step flag) (now (a .out)) (now (a .slots)) (a .n), limits),
+      λ (points : Points) (step : ℕ) limits lists. (writes-row (line (setBy (now (a .set)) (a .layout)) (listed points) step flag) (now (a .out)) (now (a .slots)) (a .n), limits),
     )
 
 flags-requires : tie.Need-flags-requires Inv-loop μ-loop
@@ -65,11 +65,11 @@ loop-again c =
       omega arith,
       search needs,
       search needs,
-      λ (points : Points) (step : ℕ) limits members.
+      λ (points : Points) (step : ℕ) limits lists.
           let f = line S (listed points) step flag in
-          let done = l .inv .5 points step limits members in
+          let done = l .inv .5 points step limits lists in
           let here = done .1 in
-          let w = r .ensures .0 (listed points) step (omega arith) (here .fewStatements (l .t)) few members (here .allPlaces) (here .below) in
+          let w = r .ensures .0 (listed points) step (omega arith) few lists (here .allPlaces) (here .below) in
           (writes-more f (l .t) (now (a .out)) (now (a .slots)) (a .n) _ _ _ _ _ _ (done .0) w, limits-after (a .layout) points (f (l .t)) _ _ _ _ _ _ w here),
     )
 
@@ -86,9 +86,9 @@ returns c =
     let l = c .before .loop in
     let S = setBy (now (a .set)) (a .layout) in
     let t-is : l .t ≡ a .layout .threads = omega arith in (
-      λ (points : Points) (step : ℕ) limits members.
+      λ (points : Points) (step : ℕ) limits lists.
           subst (λ (j : ℕ). Writes (upto (line S (listed points) step flag) j) (now (a .out)) (now (a .slots)) (a .n) (l .out) (l .slots) (l .next))
-          t-is (l .inv .5 points step limits members .0),
+          t-is (l .inv .5 points step limits lists .0),
       omega arith,
     )
 

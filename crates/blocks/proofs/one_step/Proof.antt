@@ -11,7 +11,7 @@ use Rattle.encoding.specs.Steps.{blocks, ruled, step}
 use Rattle.places.specs.Places.{listed}
 use Rattle.places.proofs.Pieces.{writes-++, limits-after}
 use Rattle.places.proofs.Idle.{idle-none, idle-needs, idle-written}
-use Rattle.checkpoints.proofs.Counted.{listed-most}
+use Rattle.lists.proofs.Counted.{listed-most}
 use Rattle.blocks.proofs.Sequence.{ready-blocks}
 use borrow.Author.Needs.{needs}
 use Rattle.blocks.proofs.one_step.Statement.{statement}
@@ -20,19 +20,19 @@ use Rattle.blocks.proofs.one_step.Tie as tie
 returns : tie.Need-returns
 returns c =
     let a = c .before .before .before .before .before .before .args in
-    (λ limits room members contained idle. absurd (c .if1 .taken (limits .allPlaces)), λ room. omega arith)
+    (λ limits room members lists idle. absurd (c .if1 .taken (limits .allPlaces)), λ room. omega arith)
 
 returns-2 : tie.Need-returns-2
 returns-2 c =
     let a = c .before .before .before .before .before .before .before .args in
     let past = c .if2 .taken in
-    (λ limits (room : a .n ≤ 1400000000) members contained idle. absurd (omega arith), λ room. omega arith)
+    (λ limits (room : a .n ≤ 1400000000) members lists idle. absurd (omega arith), λ room. omega arith)
 
 returns-3 : tie.Need-returns-3
 returns-3 c =
     let a = c .before .before .before .before .before .before .before .before .before .args in
     let past = c .if3 .taken in
-    (λ limits room members contained idle. absurd (let four = limits .fourThreads in omega arith), λ room. omega arith)
+    (λ limits room members lists idle. absurd (let four = limits .fourThreads in omega arith), λ room. omega arith)
 
 deciding-kinds-requires : tie.Need-deciding-kinds-requires
 deciding-kinds-requires c κs =
@@ -66,11 +66,11 @@ returns-4 c =
     let cs = listed (a .points) in
     let k = a .step in
     let rules = demanded (ruled S cs k) ∷ [] in (
-      λ limits room members contained idle.
-          let w1 = r1 .ensures .0 limits members contained idle in
+      λ limits room members lists idle.
+          let w1 = r1 .ensures .0 limits members lists idle in
           let s1 = ready-blocks (a .layout) (a .points) (now (a .set)) k 0 11 w1 (record { limits = limits; idle = idle }) in
           let w2 = r2 .ensures .0 (now (a .set)) cs k in
-          let w3 = r3 .ensures .0 (limits-after (a .layout) (a .points) rules _ _ _ _ _ _ w2 (s1 .limits)) members contained
+          let w3 = r3 .ensures .0 (limits-after (a .layout) (a .points) rules _ _ _ _ _ _ w2 (s1 .limits)) members lists
           (idle-written S rules (idle-needs S (ruled S cs k) [] (idle-none S)) _ _ _ _ _ _ w2 (s1 .idle)) in
           writes-++ (blocks S cs k 0 11) (demanded (ruled S cs k) ∷ blocks S cs k 11 25) (now (a .out)) (now (a .slots)) (a .n) _ _ _ _ _ _ w1
           (writes-++ rules (blocks S cs k 11 25) _ _ _ _ _ _ _ _ _ w2 w3),

@@ -109,13 +109,13 @@ returns c =
     let m4 = r4 .ensures .1 in
     let m5 = r5 .ensures .1 in
     let many = c .before .before .before .before .before .before .before .before .before .before .before .before .before .before .before .before .before .before .before .before .before .before .before .before .before .before .before .before .before .before .before .before .before .before .before .points-count .ensures in (
-      λ bytes limits contained idle.
+      λ bytes limits lists idle.
           let S = setBy bytes (a .layout) in
           let cs = listed (a .points) in
           let s0 : Ready (a .layout) (a .points) bytes (a .step) (now (a .slots)) (a .n) = record { limits = limits; idle = idle } in
-          let w1 = r1 .ensures .0 S cs refl (sym many) refl contained (s0 .limits .allPlaces) (s0 .limits .below) room1 in
+          let w1 = r1 .ensures .0 S cs refl (sym many) refl lists (s0 .limits .allPlaces) (s0 .limits .below) room1 in
           let s1 = ready-block (a .layout) (a .points) bytes (a .step) 5 w1 s0 in
-          let w2 = r2 .ensures .0 S cs refl (sym many) contained (s1 .limits .allPlaces) (s1 .limits .below) room2 in
+          let w2 = r2 .ensures .0 S cs refl (sym many) lists (s1 .limits .allPlaces) (s1 .limits .below) room2 in
           let s2 = ready-block (a .layout) (a .points) bytes (a .step) 6 w2 s1 in
           let w3 = r3 .ensures .0 S cs refl (s2 .limits .allPlaces) (s2 .limits .below) in
           let s3 = ready-block (a .layout) (a .points) bytes (a .step) 7 w3 s2 in

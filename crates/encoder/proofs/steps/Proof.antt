@@ -17,14 +17,14 @@ use Rattle.encoder.proofs.steps.Statement.{statement}
 use Rattle.encoder.proofs.steps.Tie as tie
 
 abbrev Inv-loop : tie.InvT-loop
-Inv-loop set layout points members contained slots₀ out₀ bound n next₀ k₀ slots out next k =
+Inv-loop set layout points members lists slots₀ out₀ bound n next₀ k₀ slots out next k =
     (k ≤ bound) × (bound ≤ 64) × (next ≤ n + 377858 * k) × (length out ≡ length out₀) × (length slots ≡ length slots₀)
     × (Limits layout points slots next)
     × (Writes (upto (step (setBy set layout) (listed points)) k) out₀ slots₀ n out slots next)
     × (Idle (setBy set layout) (placeOf slots))
 
 abbrev μ-loop : tie.MeasureT-loop
-μ-loop set layout points members contained slots₀ out₀ bound n next₀ k₀ slots out next k = bound - k
+μ-loop set layout points members lists slots₀ out₀ bound n next₀ k₀ slots out next k = bound - k
 
 loop-holds : tie.Need-loop-holds Inv-loop μ-loop
 loop-holds c =

@@ -1,6 +1,6 @@
 -- `flags::each_flag` meets its contract. Assumes nothing.
 use Rattle.members.specs.Held.{Held}
-use Rattle.flags.specs.Ways.{WaysOf}
+use Rattle.lists.specs.Tables.{JumpsOf}
 use Rattle.places.proofs.Entries.{row-others}
 use Rattle.places.proofs.Pieces.{writes-row, writes-more, below-after}
 use Rattle.places.specs.Pieces.{Writes}
@@ -16,26 +16,20 @@ use lib.Dec.{eqb}
 use mathlib.Core.List.{List}
 use native.Mathlib.Omega.{arith}
 use denote.Ref.{now}
-use lib.ListN.{length, getD-replicate}
+use lib.ListN.{length}
 use borrow.Author.Needs.{needs}
 use Rattle.flags.proofs.each_flag.Statement.{statement}
 use Rattle.flags.proofs.each_flag.Tie as tie
 
 abbrev Inv-loop : tie.InvT-loop
-Inv-loop set first members slots₀ out₀ t count n ways executes no' next₀ j₀ slots out next j =
+Inv-loop set first lists slots₀ out₀ t count n executes no' next₀ j₀ slots out next j =
     (j ≤ count) × (next ≤ n + 36 * j) × (length out ≡ length out₀) × (length slots ≡ length slots₀)
-    × ((S : Set) (cs : List ℕ) (k : ℕ) → count ≡ S .count t → WaysOf S t count ways → Held S set t first count
+    × ((S : Set) (cs : List ℕ) (k : ℕ) → count ≡ S .count t → JumpsOf S t count lists → Held S set t first count
     → length slots₀ ≡ size → ((s : Slot) → placeOf slots₀ s < n)
     → (Writes (upto (entry S cs k flag t) j) out₀ slots₀ n out slots next) × ((s : Slot) → placeOf slots s < next))
 
 abbrev μ-loop : tie.MeasureT-loop
-μ-loop set first members slots₀ out₀ t count n ways executes no' next₀ j₀ slots out next j = count - j
-
-slice-aggregate-list-jumps : tie.Need-slice-aggregate-list-jumps Inv-loop μ-loop
-slice-aggregate-list-jumps c = search needs
-
-list-jumps-requires : tie.Need-list-jumps-requires Inv-loop μ-loop
-list-jumps-requires c κs = search needs
+μ-loop set first lists slots₀ out₀ t count n executes no' next₀ j₀ slots out next j = count - j
 
 place-requires : tie.Need-place-requires Inv-loop μ-loop
 place-requires c κs = search needs
@@ -45,7 +39,7 @@ place-requires-2 c κs = search needs
 
 loop-holds : tie.Need-loop-holds Inv-loop μ-loop
 loop-holds c =
-    let a = c .before .before .before .before .before .before .before .before .before .before .before .args in (
+    let a = c .before .before .before .before .before .before .before .before .args in (
       omega arith,
       omega arith,
       refl,
@@ -53,12 +47,9 @@ loop-holds c =
       λ (S : Set) (cs : List ℕ) (k : ℕ) count-is listed known all below. (writes-row (entry S cs k flag (a .t)) (now (a .out)) (now (a .slots)) (a .n), below),
     )
 
-slice-aggregate-flag : tie.Need-slice-aggregate-flag Inv-loop μ-loop
-slice-aggregate-flag c = search needs
-
 flag-requires : tie.Need-flag-requires Inv-loop μ-loop
 flag-requires c κs =
-    let q = c .before .before .before .before .before .before .before .before .before .before .before .before .before .before .before .before .pre in
+    let q = c .before .before .before .before .before .before .before .before .before .before .before .before .pre in
     let few = q .1 in
     let small = q .3 in
     (q .0, q .1, omega arith, q .2, omega arith)
@@ -71,11 +62,11 @@ loop-less c = search needs
 
 loop-again : tie.Need-loop-again Inv-loop μ-loop
 loop-again c =
-    let a = c .before .before .before .before .before .before .before .before .before .before .before .before .before .before .before .before .before .before .before .before .before .args in
-    let l = c .before .before .before .before .before .before .before .before .before .loop in
+    let a = c .before .before .before .before .before .before .before .before .before .before .before .before .before .before .before .before .before .args in
+    let l = c .before .before .before .before .before .before .before .before .loop in
     let r = c .before .before .before .before .flag in
-    let choice-place = c .before .before .before .before .before .before .before .before .before .before .before .before .place in
-    let no-place = c .before .before .before .before .before .before .before .before .before .before .place2 in
+    let choice-place = c .before .before .before .before .before .before .before .before .before .before .before .place in
+    let no-place = c .before .before .before .before .before .before .before .before .before .place2 in
     let more = r .ensures .1 in (
       omega arith,
       omega arith,
@@ -98,14 +89,13 @@ same-length-2 c = search needs
 
 returns : tie.Need-returns Inv-loop μ-loop
 returns c =
-    let a = c .before .before .before .before .before .before .before .before .before .before .before .before .before .args in
+    let a = c .before .before .before .before .before .before .before .before .before .before .args in
     let l = c .before .loop in
-    let few = c .before .before .before .before .before .before .before .before .before .before .before .before .before .pre .1 in
-    let lists = c .before .before .before .before .before .before .before .list-jumps .ensures .1 in
+    let few = c .before .before .before .before .before .before .before .before .before .before .pre .1 in
     let j-is : l .j ≡ a .count = omega arith in (
-      λ (S : Set) (cs : List ℕ) (k : ℕ) count-is members known all below.
+      λ (S : Set) (cs : List ℕ) (k : ℕ) count-is listed known all below.
           subst (λ (i : ℕ). Writes (upto (entry S cs k flag (a .t)) i) (now (a .out)) (now (a .slots)) (a .n) (l .out) (l .slots) (l .next))
-          (j-is ∙ count-is) (l .inv .4 S cs k count-is (lists S count-is members known refl (λ (i : ℕ) h. getD-replicate 64 i 32 0 h)) known all below .0),
+          (j-is ∙ count-is) (l .inv .4 S cs k count-is listed known all below .0),
       omega arith,
     )
 
@@ -115,12 +105,9 @@ each-flag-spec =
     (tie.spec
     Inv-loop
     μ-loop
-    slice-aggregate-list-jumps
-    list-jumps-requires
     place-requires
     place-requires-2
     loop-holds
-    slice-aggregate-flag
     flag-requires
     add-j
     loop-less

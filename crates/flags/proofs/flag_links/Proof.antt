@@ -1,12 +1,12 @@
 -- `flags::flag_links` meets its contract. Assumes nothing.
-use Rattle.flags.proofs.Lists.{ways-unnamed}
+use Rattle.flags.proofs.Lists.{jumps-unnamed}
 use Rattle.flags.proofs.Written.{none-lead, before-leads}
 use Rattle.places.specs.Places.{placeOf}
 use Rattle.encoding.specs.Steps.{chain, leads}
 use Rattle.encoding.specs.Slots.{Term}
 use Rattle.records.specs.declared.Statement.{Statement}
 use Rattle.records.specs.Sets.{Set}
-use Prim.Native.Nat.{ℕ, _-_, _≤_, _<_}
+use Prim.Native.Nat.{ℕ, _+_, _-_, _*_, _≤_, _<_}
 use mathlib.Core.Path.{sym, ap, _∙_}
 use mathlib.Core.List.{List, []}
 use native.Mathlib.Omega.{arith}
@@ -16,8 +16,8 @@ use borrow.Author.Needs.{needs}
 use Rattle.flags.proofs.flag_links.Statement.{statement}
 use Rattle.flags.proofs.flag_links.Tie as tie
 
-way-requires : tie.Need-way-requires
-way-requires c κs = search needs
+first-requires : tie.Need-first-requires
+first-requires c κs = search needs
 
 jump-links-requires : tie.Need-jump-links-requires
 jump-links-requires c κs = search needs
@@ -61,11 +61,11 @@ returns-2 c =
     let within = q .2 in
     let small = q .3 in
     let few = q .1 in
-    let way = c .before .before .before .before .before .before .before .before .way .ensures in
+    let jump = c .before .before .before .before .before .before .before .before .first .ensures in
     let left = c .before .before .before .before .before .before .before .if1 .left in
     let room : a .n ≤ 2000000000 = omega arith in (
       λ (S : Set) (tree : Term) (start : List ℕ) (m : ℕ) listed known w.
-          let unnamed = ways-unnamed S (a .t) (a .count) (a .j) (omega arith) few (now (a .ways)) listed (λ (e : getD (now (a .ways)) (a .j) 0 < 32). omega arith) in
+          let unnamed = jumps-unnamed S (a .t) (a .count) (a .j) (omega arith) few (now (a .lists)) listed (λ (e : getD (now (a .lists)) (160 + 32 * a .t + a .j) 0 < 32). omega arith) in
           let places = placeOf (now (a .slots)) in
           let links = leads S [] 0 (a .t) (a .j) in
           before-leads places S (a .t) (a .j) (a .count) within unnamed tree start m (a .j - 1) (omega arith)
@@ -82,10 +82,10 @@ returns-3 c =
     let q = c .before .before .before .before .before .before .before .pre in
     let few = q .1 in
     let within = q .2 in
-    let way = c .before .before .way .ensures in
+    let jump = c .before .before .first .ensures in
     let left = c .before .if1 .left in (
       λ (S : Set) (tree : Term) (start : List ℕ) (m : ℕ) listed known w.
-          let unnamed = ways-unnamed S (a .t) (a .count) (a .j) (omega arith) few (now (a .ways)) listed (λ (e : getD (now (a .ways)) (a .j) 0 < 32). omega arith) in
+          let unnamed = jumps-unnamed S (a .t) (a .count) (a .j) (omega arith) few (now (a .lists)) listed (λ (e : getD (now (a .lists)) (160 + 32 * a .t + a .j) 0 < 32). omega arith) in
           none-lead (placeOf (now (a .slots))) S (a .t) (a .j) (a .count) (omega arith) unnamed tree start m (omega arith)
           (now (a .out)) (a .n) (a .base) w,
       omega arith,
@@ -95,7 +95,7 @@ pub flag-links-spec : {M : Type 1} → statement M
 flag-links-spec =
     tie.close
     (tie.spec
-    way-requires
+    first-requires
     jump-links-requires
     same-length
     returns

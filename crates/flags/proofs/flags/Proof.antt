@@ -15,7 +15,7 @@ use Rattle.flags.proofs.flags.Tie as tie
 returns : tie.Need-returns
 returns c =
     let a = c .before .before .before .before .before .args in
-    ((λ (cs : List ℕ) (k : ℕ) (four : a .t < 4) few room members all below. absurd (omega arith)), λ (room : a .n ≤ 1700000000). omega arith)
+    ((λ (cs : List ℕ) (k : ℕ) (row : a .t < a .t2 .threads) room lists all below. let four = lists .fourThreads in absurd (omega arith)), λ (room : a .n ≤ 1700000000). omega arith)
 
 mul-count : tie.Need-mul-count
 mul-count c = search needs
@@ -26,22 +26,22 @@ element-copy-out-count c = search needs
 returns-2 : tie.Need-returns-2
 returns-2 c =
     let a = c .before .before .before .before .before .before .before .args in
-    ((λ (cs : List ℕ) (k : ℕ) four (few : getD (a .t2 .counts) (a .t) 0 ≤ 32) room members all below. absurd (omega arith)), λ (room : a .n ≤ 1700000000). omega arith)
+    ((λ (cs : List ℕ) (k : ℕ) row room lists all below. let few : getD (a .t2 .counts) (a .t) 0 ≤ 32 = lists .fewStatements (a .t) row in absurd (omega arith)), λ (room : a .n ≤ 1700000000). omega arith)
 
 returns-3 : tie.Need-returns-3
 returns-3 c =
     let a = c .before .before .before .before .before .before .before .before .args in
-    ((λ (cs : List ℕ) (k : ℕ) four few room members (all : length (now (a .slots)) ≡ size) below. absurd (c .if3 .taken all)), λ (room : a .n ≤ 1700000000). omega arith)
+    ((λ (cs : List ℕ) (k : ℕ) row room lists (all : length (now (a .slots)) ≡ size) below. absurd (c .if3 .taken all)), λ (room : a .n ≤ 1700000000). omega arith)
 
 returns-4 : tie.Need-returns-4
 returns-4 c =
     let a = c .before .before .before .before .before .before .before .before .before .args in
-    ((λ (cs : List ℕ) (k : ℕ) four few room members all below. absurd (c .if4 .taken (members .whole))), λ (room : a .n ≤ 1700000000). omega arith)
+    ((λ (cs : List ℕ) (k : ℕ) row room lists all below. absurd (c .if4 .taken (lists .whole))), λ (room : a .n ≤ 1700000000). omega arith)
 
 returns-5 : tie.Need-returns-5
 returns-5 c =
     let a = c .before .before .before .before .before .before .before .before .before .before .args in
-    ((λ (cs : List ℕ) (k : ℕ) four few (room : a .n ≤ 1700000000) members all below. absurd (omega arith)), λ (room : a .n ≤ 1700000000). omega arith)
+    ((λ (cs : List ℕ) (k : ℕ) row (room : a .n ≤ 1700000000) lists all below. absurd (omega arith)), λ (room : a .n ≤ 1700000000). omega arith)
 
 first-requires : tie.Need-first-requires
 first-requires c κs = search needs
@@ -60,8 +60,8 @@ returns-6 c =
     let a = c .before .before .before .before .before .before .before .before .before .before .before .before .before .before .before .before .before .before .args in
     let r = c .before .before .before .before .each-flag in
     let start = c .before .before .before .before .before .before .before .first in (
-      (λ (cs : List ℕ) (k : ℕ) four few room members all below.
-          r .ensures .0 (setBy (now (a .set)) (a .t2)) cs k refl members
+      (λ (cs : List ℕ) (k : ℕ) row room lists all below.
+          r .ensures .0 (setBy (now (a .set)) (a .t2)) cs k refl (lists .jumps (a .t) row)
           (held (now (a .set)) (a .t2) (a .t) (start .result) (getD (a .t2 .counts) (a .t) 0) (start .ensures .0) (omega arith))
           all below),
       λ room. r .ensures .1,

@@ -9,23 +9,24 @@ use mathlib.Core.Path.{_≡_, sym, _∙_, subst}
 use mathlib.Core.List.{List, []}
 use native.Mathlib.Omega.{arith}
 use denote.Ref.{now}
-use Rattle.flags.specs.Ways.{NamedFirst, WaysOf}
-use Rattle.flags.proofs.Lists.{named-past}
+use Rattle.lists.specs.Tables.{JumpsOf}
+use Rattle.flags.specs.Named.{NamedFirst}
+use Rattle.flags.proofs.Lists.{named-past, past-ahead}
 use borrow.Author.Needs.{needs}
 use Rattle.flags.proofs.jump_links.Statement.{statement}
 use Rattle.flags.proofs.jump_links.Tie as tie
 
 -- the first jump that names j
-heads : (c : tie.After-way) → let a = c .before .before .before .before .before .args in
-    (S : Set) → WaysOf S (a .t) (a .count) (now (a .ways)) → NamedFirst S (a .t) (λ x. x < a .count) (c .way .result) 0 (a .j)
+heads : (c : tie.After-first) → let a = c .before .before .before .before .before .args in
+    (S : Set) → JumpsOf S (a .t) (a .count) (now (a .lists)) → NamedFirst S (a .t) (a .count) (c .first .result) 0 (a .j)
 heads c =
     let a = c .before .before .before .before .before .args in
     let few = c .before .before .before .before .before .pre .1 in
     let inside = c .before .before .before .before .before .pre .2 in
-    λ (S : Set) listed. subst (λ (it : ℕ). NamedFirst S (a .t) (λ x. x < a .count) it 0 (a .j)) (sym (c .way .ensures)) (listed .lists .heads (a .j) (omega arith))
+    λ (S : Set) listed. subst (λ (it : ℕ). NamedFirst S (a .t) (a .count) it 0 (a .j)) (sym (c .first .ensures)) (listed .heads (a .j) (omega arith))
 
-way-requires : tie.Need-way-requires
-way-requires c κs = search needs
+first-requires : tie.Need-first-requires
+first-requires c κs = search needs
 
 named-links-requires : tie.Need-named-links-requires
 named-links-requires c κs = search needs
@@ -102,7 +103,7 @@ returns-2 c =
     let most = earlier .ensures .2 in
     let one = p .ensures .1 in
     let rest = later .ensures .2 in
-    let ahead = g .ensures .0 (omega arith) in
+    let ahead = past-ahead (a .j - 1) (earlier .result .hit) (g .result) _ (omega arith) (g .ensures .0) (g .ensures .1) in
     let room : earlier .result .tree .next ≤ 2000000000 = omega arith in (
       λ (S : Set) (tree : Term) (start : List ℕ) (m : ℕ) listed known w.
           let places = placeOf (now (a .slots)) in
@@ -112,7 +113,7 @@ returns-2 c =
           (chain-none places links tree start m (now (a .out)) (a .n) (a .base) w) in
           later .ensures .0 S tree start m (a .j) (a .count) (a .j - 1 + 1) (omega arith) (omega arith) (omega arith) (omega arith)
           (λ (x : ℕ) (l : a .j - 1 + 1 ≤ x) (r : x < a .count) (e : a .j ≡ x + 1). omega arith) listed known
-          (named-past S (a .t) (a .count) (a .j) (omega arith) few (now (a .ways)) listed (earlier .result .hit) (a .j - 1) (g .result) (omega arith) due (g .ensures .1) (g .ensures .2) (before .1))
+          (named-past S (a .t) (a .count) (a .j) (omega arith) few (now (a .lists)) listed (earlier .result .hit) (a .j - 1) (g .result) (omega arith) due (g .ensures .0) (g .ensures .1) (before .1))
           (chain-more places links tree start m _ _ _ (a .j - 1)
           (p .ensures .0 places (links (a .j - 1)) (chain links (a .j - 1) tree) start m room
           (link .ensures S (s .ensures ∙ sym (known (a .j - 1) (omega arith)))) (before .0))) .0,
@@ -123,7 +124,7 @@ pub jump-links-spec : {M : Type 1} → statement M
 jump-links-spec =
     tie.close
     (tie.spec
-    way-requires
+    first-requires
     named-links-requires
     same-length
     returns

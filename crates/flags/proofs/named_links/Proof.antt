@@ -8,29 +8,31 @@ use Rattle.encoding.specs.Slots.{Term}
 use Rattle.records.specs.declared.Statement.{Statement}
 use Rattle.records.specs.Sets.{Set}
 use Prim.Native.Nat.{ℕ, _+_, _-_, _≤_, _<_}
-use mathlib.Core.Path.{_≡_, refl, sym, ap, _∙_}
+use mathlib.Core.Path.{_≡_, refl, sym, ap, _∙_, subst}
 use mathlib.Core.Bool.{true}
 use mathlib.Core.List.{List, []}
 use native.Mathlib.Omega.{arith}
 use denote.Ref.{now}
 use lib.ListN.{length}
-use Rattle.flags.specs.Ways.{NamedFirst, WaysOf}
+use Rattle.lists.specs.Tables.{JumpsOf}
+use Rattle.lists.proofs.Making.{onward-after}
+use Rattle.flags.specs.Named.{NamedFirst}
 use Rattle.flags.proofs.Written.{Reached, reached-more, reached-all}
 use borrow.Author.Needs.{needs}
 use Rattle.flags.proofs.named_links.Statement.{statement}
 use Rattle.flags.proofs.named_links.Tie as tie
 
 abbrev Inv-loop : tie.InvT-loop
-Inv-loop set first ways slots out₀ t hit end n base tree₀ i₀ out tree i =
+Inv-loop set first lists slots out₀ t hit end n base tree₀ i₀ out tree i =
     (hit ≤ i) × (i < end → tree .next ≤ n + (i - hit)) × (tree .next ≤ n + (end - hit)) × (length out ≡ length out₀)
     × ((S : Set) (base-tree : Term) (start : List ℕ) (m j count from : ℕ) → j < 32 → from ≤ hit → from ≤ end → end ≤ count
-    → ((x : ℕ) → from ≤ x → x < end → (j ≡ x + 1 → ⊥)) → WaysOf S t count ways → Held S set t first count
-    → NamedFirst S t (λ x. x < count) hit from j
+    → ((x : ℕ) → from ≤ x → x < end → (j ≡ x + 1 → ⊥)) → JumpsOf S t count lists → Held S set t first count
+    → NamedFirst S t count hit from j
     → WritesTree (placeOf slots) (chain (leads S [] 0 t j) from base-tree) start m out₀ n base
     → Reached (placeOf slots) S t j count from end base-tree start m i out (tree .next) (tree .at))
 
 abbrev μ-loop : tie.MeasureT-loop
-μ-loop set first ways slots out₀ t hit end n base tree₀ i₀ out tree i = end - i
+μ-loop set first lists slots out₀ t hit end n base tree₀ i₀ out tree i = end - i
 
 loop-holds : tie.Need-loop-holds Inv-loop μ-loop
 loop-holds c =
@@ -72,7 +74,7 @@ loop-less c =
     let few = c .before .before .before .before .before .before .before .before .before .before .before .before .before .pre .1 in
     let l = c .before .before .before .before .before .before .before .before .loop in
     let going = c .before .before .before .before .before .before .before .loop-test .taken in
-    let greater = c .following .ensures .0 (omega arith) in
+    let greater : l .i < c .following .result = subst (λ (x : ℕ). l .i < x) (sym (c .following .ensures)) (onward-after (l .i) _ (omega arith)) in
     omega arith
 
 loop-again : tie.Need-loop-again Inv-loop μ-loop
@@ -86,7 +88,7 @@ loop-again c =
     let link = c .before .before .before .before .before .named in
     let p = c .before .before .before .put-link in
     let f = c .following in
-    let greater = f .ensures .0 (omega arith) in
+    let greater : l .i < f .result = subst (λ (x : ℕ). l .i < x) (sym (f .ensures)) (onward-after (l .i) _ (omega arith)) in
     let one = p .ensures .1 in
     let started = l .inv .0 in
     let so-far = l .inv .1 going in
@@ -102,7 +104,7 @@ loop-again c =
           let names : namesTarget (S .statement (a .t) (l .i)) j ≡ true = r .soonest .belongs (omega arith) .1 in
           let after : from ≤ l .i = let x = r .since in let y = r .due in omega arith in
           reached-more places S (a .t) j small count from (a .end) inside apart tree start m (l .i) (l .out) (l .tree .next) (l .tree .at) r going names
-          (now (a .ways)) listed (f .result) greater (f .ensures .1) _ _ _
+          (now (a .lists)) listed (f .result) greater (f .ensures) _ _ _
           (p .ensures .0 places (links (l .i)) (chain links (l .i) tree) start m room
           (link .ensures S j (ap (λ (x : Statement). x .number) (s .ensures ∙ sym (known (l .i) (omega arith)))) names (apart (l .i) after going))),
     )

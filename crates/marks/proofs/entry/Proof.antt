@@ -5,7 +5,7 @@ use Rattle.places.specs.Pieces.{WritesTree}
 use Rattle.places.specs.Places.{placeOf}
 use Rattle.places.proofs.Entries.{entry-none, entry-kept, treeOf}
 use Rattle.places.proofs.Rows.{width-least}
-use Rattle.checkpoints.specs.Contained.{Contained}
+use Rattle.lists.specs.Tables.{ListTable}
 use Rattle.bases.proofs.Given.{put-written}
 use Rattle.encoding.specs.Steps.{base, shape, kept}
 use Rattle.encoding.specs.Slots.{kindAt}
@@ -24,7 +24,7 @@ use Rattle.marks.proofs.entry.Tie as tie
 
 -- whether there is a mark
 there : (c : tie.After-contains) → let a = c .before .before .before .before .args in (S : Set) (cs : List ℕ) →
-    marked (a .kind) ≡ true → a .t < S .threads → a .p < length cs → Contained S cs (now (a .table)) →
+    marked (a .kind) ≡ true → a .t < S .threads → a .p < length cs → ListTable S cs (now (a .table)) →
     kept S cs 0 (shape (kindAt (a .kind))) (a .t) (a .p) ≡ c .contains .result
 there c S cs is row column k =
     let a = c .before .before .before .before .args in

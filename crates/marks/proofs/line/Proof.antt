@@ -2,7 +2,7 @@
 use Rattle.places.specs.Pieces.{Writes}
 use Rattle.places.specs.Places.{placeOf, size}
 use Rattle.places.proofs.Pieces.{writes-row, writes-more, below-after}
-use Rattle.checkpoints.specs.Contained.{Contained}
+use Rattle.lists.specs.Tables.{ListTable}
 use Rattle.marks.specs.Marked.{marked}
 use Rattle.marks.proofs.Marked.{marked-columns}
 use Rattle.encoding.specs.Steps.{entry}
@@ -23,7 +23,7 @@ use Rattle.marks.proofs.line.Tie as tie
 abbrev Inv-loop : tie.InvT-loop
 Inv-loop table slots₀ out₀ threads count step kind t n next₀ p₀ slots out next p =
     (p ≤ count) × (next ≤ n + 36 * p) × (length out ≡ length out₀) × (length slots ≡ length slots₀)
-    × ((S : Set) (cs : List ℕ) → S .threads ≡ threads → length cs ≡ count → marked kind ≡ true → t < S .threads → Contained S cs table → length slots₀ ≡ size
+    × ((S : Set) (cs : List ℕ) → S .threads ≡ threads → length cs ≡ count → marked kind ≡ true → t < S .threads → ListTable S cs table → length slots₀ ≡ size
     → ((s : Slot) → placeOf slots₀ s < n)
     → ((s : Slot) → placeOf slots s < next) × (Writes (upto (entry S cs step (kindAt kind) t) p) out₀ slots₀ n out slots next))
 

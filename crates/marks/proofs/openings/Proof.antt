@@ -2,7 +2,7 @@
 use Rattle.places.specs.Pieces.{Writes}
 use Rattle.places.specs.Places.{placeOf, size}
 use Rattle.places.proofs.Pieces.{writes-row, writes-more, below-after}
-use Rattle.checkpoints.specs.Contained.{Contained}
+use Rattle.lists.specs.Tables.{ListTable}
 use Rattle.marks.proofs.Blocks.{openings-written}
 use Rattle.encoding.specs.Steps.{entry}
 use Rattle.encoding.specs.Slots.{Slot, opening}
@@ -21,7 +21,7 @@ use Rattle.marks.proofs.openings.Tie as tie
 abbrev Inv-loop : tie.InvT-loop
 Inv-loop table slots₀ out₀ threads count step n next₀ p₀ slots out next p =
     (p ≤ count) × (count ≤ 8) × (n ≤ 1600000000) × (next ≤ n + 8 * p) × (length out ≡ length out₀) × (length slots ≡ length slots₀)
-    × ((S : Set) (cs : List ℕ) → S .threads ≡ threads → length cs ≡ count → Contained S cs table → length slots₀ ≡ size → ((s : Slot) → placeOf slots₀ s < n)
+    × ((S : Set) (cs : List ℕ) → S .threads ≡ threads → length cs ≡ count → ListTable S cs table → length slots₀ ≡ size → ((s : Slot) → placeOf slots₀ s < n)
     → ((s : Slot) → placeOf slots s < next) × (Writes (upto (entry S cs step opening 0) p) out₀ slots₀ n out slots next))
 
 abbrev μ-loop : tie.MeasureT-loop
@@ -40,17 +40,17 @@ returns-2 c =
 returns-3 : tie.Need-returns-3 Inv-loop μ-loop
 returns-3 c =
     let a = c .before .before .before .before .before .before .args in
-    ((λ (S : Set) (cs : List ℕ) row column (k : Contained S cs (now (a .table))) all below room. absurd (c .if3 .taken (k .whole))), λ room. omega arith)
+    ((λ (S : Set) (cs : List ℕ) row column (k : ListTable S cs (now (a .table))) all below room. absurd (c .if3 .taken (k .whole))), λ room. omega arith)
 
 returns-4 : tie.Need-returns-4 Inv-loop μ-loop
 returns-4 c =
     let a = c .before .before .before .before .before .before .before .args in
-    ((λ (S : Set) (cs : List ℕ) (row : S .threads ≡ a .threads) column (k : Contained S cs (now (a .table))) all below room. let four = k .fourThreads in absurd (omega arith)), λ room. omega arith)
+    ((λ (S : Set) (cs : List ℕ) (row : S .threads ≡ a .threads) column (k : ListTable S cs (now (a .table))) all below room. let four = k .fourThreads in absurd (omega arith)), λ room. omega arith)
 
 returns-5 : tie.Need-returns-5 Inv-loop μ-loop
 returns-5 c =
     let a = c .before .before .before .before .before .before .before .before .args in
-    ((λ (S : Set) (cs : List ℕ) row (column : length cs ≡ a .count) (k : Contained S cs (now (a .table))) all below room. let eight = k .eightPoints in absurd (omega arith)), λ room. omega arith)
+    ((λ (S : Set) (cs : List ℕ) row (column : length cs ≡ a .count) (k : ListTable S cs (now (a .table))) all below room. let eight = k .eightPoints in absurd (omega arith)), λ room. omega arith)
 
 loop-holds : tie.Need-loop-holds Inv-loop μ-loop
 loop-holds c =
@@ -91,7 +91,7 @@ loop-again c =
       omega arith,
       search needs,
       search needs,
-      λ (S : Set) (cs : List ℕ) (row : S .threads ≡ a .threads) (column : length cs ≡ a .count) (k : Contained S cs (now (a .table))) (all : length (now (a .slots)) ≡ size) below.
+      λ (S : Set) (cs : List ℕ) (row : S .threads ≡ a .threads) (column : length cs ≡ a .count) (k : ListTable S cs (now (a .table))) (all : length (now (a .slots)) ≡ size) below.
           let f = entry S cs (a .step) opening 0 in
           let before = l .inv .6 S cs row column k all below in
           let here : l .p < length cs = omega arith in

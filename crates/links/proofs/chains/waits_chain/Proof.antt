@@ -1,5 +1,5 @@
 -- `links::chains::waits_chain` meets its contract. Assumes nothing.
-use Rattle.checkpoints.specs.Contained.{Contained}
+use Rattle.lists.specs.Tables.{ListTable}
 use Rattle.links.proofs.Leads.{or-placed}
 use Rattle.step.specs.Machine.{contains}
 use Rattle.records.specs.Sets.{Set}
@@ -21,7 +21,7 @@ use Rattle.links.proofs.chains.waits_chain.Tie as tie
 abbrev Inv-loop : tie.InvT-loop
 Inv-loop table slots out₀ count t n base tree₀ p₀ out tree p =
     (p ≤ count) × (count ≤ 8) × (tree .next ≤ n + p) × (length out ≡ length out₀)
-    × ((S : Set) (cs : List ℕ) (base-tree : Term) (start : List ℕ) (m : ℕ) → length cs ≡ count → t < S .threads → n ≤ 1900000000 → Contained S cs table
+    × ((S : Set) (cs : List ℕ) (base-tree : Term) (start : List ℕ) (m : ℕ) → length cs ≡ count → t < S .threads → n ≤ 1900000000 → ListTable S cs table
     → WritesTree (placeOf slots) base-tree start m out₀ n base
     → WritesTree (placeOf slots) (chainOf (link S cs 0 waits t 0) p base-tree) start m out (tree .next) (tree .at))
 
@@ -36,12 +36,12 @@ returns c =
 returns-2 : tie.Need-returns-2 Inv-loop μ-loop
 returns-2 c =
     let a = c .before .before .before .before .before .args in
-    (λ (S : Set) (cs : List ℕ) tree start m is inside small all (k : Contained S cs (now (a .table))) w. absurd (c .if2 .taken (k .whole)), omega arith)
+    (λ (S : Set) (cs : List ℕ) tree start m is inside small all (k : ListTable S cs (now (a .table))) w. absurd (c .if2 .taken (k .whole)), omega arith)
 
 returns-3 : tie.Need-returns-3 Inv-loop μ-loop
 returns-3 c =
     let a = c .before .before .before .before .before .before .args in
-    (λ (S : Set) (cs : List ℕ) tree start m (is : length cs ≡ a .count) inside small all (k : Contained S cs (now (a .table))) w. let few = k .eightPoints in absurd (omega arith), omega arith)
+    (λ (S : Set) (cs : List ℕ) tree start m (is : length cs ≡ a .count) inside small all (k : ListTable S cs (now (a .table))) w. let few = k .eightPoints in absurd (omega arith), omega arith)
 
 loop-holds : tie.Need-loop-holds Inv-loop μ-loop
 loop-holds c =

@@ -3,7 +3,7 @@ use Rattle.links.proofs.Leads.{leads-rests, follows-jump, follows-test,
 use Rattle.members.specs.Members.{namesTarget}
 use Rattle.places.specs.Places.{placeOf}
 use Rattle.encoding.specs.Steps.{isConditional, isPlain, rests}
-use Rattle.encoding.specs.Slots.{slot, active, yes, test, untest}
+use Rattle.encoding.specs.Slots.{test, untest}
 use Rattle.records.specs.Sets.{Set}
 use borrow.Author.Tests.{eq-eqb, ne-eqb}
 use lib.Dec.{eqb}

@@ -2,19 +2,15 @@
 use borrow.Author.Tests.{not-true, not-false}
 use mathlib.Core.Path.{_≡_, refl, sym, ap, _∙_}
 use mathlib.Core.Bool.{Bool, false, cond, not, _&&_, _||_}
-use mathlib.Core.List.{[]}
-use Prim.Native.Nat.{ℕ, _+_}
-use native.Mathlib.Numerals.{add-one}
+use Prim.Native.Nat.{_+_}
 use denote.Ref.{now}
 use lib.Dec.{eqb}
 use Rattle.base.proofs.Choice.{or-left, or-right}
-use Rattle.records.specs.declared.Statement.{Statement}
 use Rattle.records.specs.Sets.{Set}
-use Rattle.encoding.specs.Slots.{Kind, Slot, slot, active, yes, test, untest}
-use Rattle.encoding.specs.Steps.{Link as ChainLink, ifThen, only, leads, isConditional, isPlain, rests}
+use Rattle.encoding.specs.Slots.{slot, active, yes, test, untest}
+use Rattle.encoding.specs.Steps.{only, leads, isConditional, isPlain, rests}
 use Rattle.places.specs.Places.{placeOf}
-use Rattle.links.specs.Placed.{placedLink}
-use Rattle.links.proofs.Leads.{if-placed, leadsBy, leads-none, leads-rests, leads-always, leads-on, leads-taken, leads-missed, contrary, tested, leads-by}
+use Rattle.links.proofs.Leads.{if-placed, leads-none, leads-rests, leads-always, leads-on, leads-taken, leads-missed, contrary, tested, leads-by}
 use borrow.Author.Needs.{needs}
 use Rattle.links.proofs.edges.leads.Statement.{statement}
 use Rattle.links.proofs.edges.leads.Tie as tie
