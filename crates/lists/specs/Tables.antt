@@ -29,13 +29,15 @@ ListsAt S cs c t In heads nexts table = Lists (inList S cs c t) (many cs c) In (
 abbrev pub allOf : Set → (t x : ℕ) → Type 0
 allOf S t x = x < S .count t
 
+-- where the lists of thread t's CHECKs stand
 abbrev pub ChecksOf : Set → List ℕ → (t : ℕ) → List ℕ → Type 0
 ChecksOf S cs t = ListsAt S cs 7 t (allOf S t) (8 * t) (32 + 32 * t)
 
--- those of the first `count` statements
+-- where those of the jumps among its first `count` statements stand
 abbrev pub JumpsOf : Set → (t count : ℕ) → List ℕ → Type 0
 JumpsOf S t count = ListsAt S [] 8 t (λ x. x < count) (160 + 32 * t) (288 + 32 * t)
 
+-- the bytes are the table of a set of at most four threads of 32 statements, with at most eight checkpoints
 pub record ListTable (S : Set) (cs : List ℕ) (table : List ℕ) : Type 0 where
   pub whole : length table ≡ 416
   pub fourThreads : S .threads ≤ 4
@@ -44,7 +46,7 @@ pub record ListTable (S : Set) (cs : List ℕ) (table : List ℕ) : Type 0 where
   pub checks : (t : ℕ) → t < S .threads → ChecksOf S cs t table
   pub jumps : (t : ℕ) → t < S .threads → JumpsOf S t (S .count t) table
 
--- a next statement comes after the one it is next to
+-- the next statement by number `it`: one that does not come after i counts as none
 abbrev pub onward : (i it : ℕ) → ℕ
 onward i it = cond (ltb i it) it 32
 
