@@ -173,8 +173,8 @@ fn question(arguments: &Arguments) -> Result<(Given, u64, Vec<u8>, String), Fail
 
 pub fn check(arguments: &Arguments) -> Result<Answer, Failure> {
     let (given, bound, model, name) = question(arguments)?;
-    let checked = given.set.check(bound, &model);
-    checked.map_err(|refusal| Failure::refused(&name, refusal))?;
+    let refused = |refusal| Failure::refused_model(&name, &given.set, bound, refusal);
+    given.set.check(bound, &model).map_err(refused)?;
     let text = "the model satisfies the table: its run fails\n";
     let json = Json::object([("satisfies", Json::Bool(true))]);
     Ok(Answer::new(text.to_string(), json))
@@ -182,7 +182,7 @@ pub fn check(arguments: &Arguments) -> Result<Answer, Failure> {
 
 pub fn decode(arguments: &Arguments) -> Result<Answer, Failure> {
     let (given, bound, model, name) = question(arguments)?;
-    let refused = |refusal| Failure::refused(&name, refusal);
+    let refused = |refusal| Failure::refused_model(&name, &given.set, bound, refusal);
     let failing = given.set.decode(bound, &model).map_err(refused)?;
     let ran = given.set.replay_over(&failing.map, &failing.trace);
     let run = Run::new(&failing.trace, Some(ran.map_err(refused)?.end)).over(&failing.map);

@@ -1,5 +1,6 @@
 //! The library's word on a run that a solver or the search gave: model check, decoding, replay.
 
+use crate::failure::of_table;
 use crate::set::Given;
 use deepchalk::{End, FailingRun};
 use reference::decode::FirstCells;
@@ -14,7 +15,9 @@ pub fn confirmed(
     cells: &[Cell],
 ) -> Result<(FailingRun, End), String> {
     let model = model(given, bound, run, cells).bytes();
-    let refused = |what: &'static str| move |refusal| format!("{what}: {refusal}");
+    let refused = |what: &'static str| {
+        move |refusal| format!("{what}: {}", of_table(&given.set, bound, refusal))
+    };
     let checked = given.set.check(bound, &model);
     checked.map_err(refused("the model check says"))?;
     let failing = given.set.decode(bound, &model);

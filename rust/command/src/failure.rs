@@ -1,7 +1,7 @@
 //! The exit statuses, and why a command failed: one line for standard error.
 
 use crate::json::Json;
-use deepchalk::Refusal;
+use deepchalk::{Part, Refusal, Set};
 use std::io;
 
 /// What the exit status says.
@@ -64,12 +64,51 @@ impl Failure {
             ..Failure::new(status::REFUSED, format!("{about}: {refusal}"))
         }
     }
+
+    /// `about` names the model that a set's table for a bound refused.
+    pub fn refused_model(about: &str, set: &Set, bound: u64, refusal: Refusal) -> Failure {
+        let mut members = refusal_members(refusal);
+        members.extend(match part(set, bound, refusal) {
+            Some(Part::Map { address }) => Some(("address", Json::from(address))),
+            Some(Part::Step(step)) => Some(("step", Json::from(step))),
+            Some(Part::Start | Part::Goal) | None => None,
+        });
+        let refused = Json::Object(members);
+        Failure {
+            json: Some(Json::object([("refused", refused)])),
+            ..Failure::new(
+                status::REFUSED,
+                format!("{about}: {}", of_table(set, bound, refusal)),
+            )
+        }
+    }
+}
+
+/// A refusal by a set's table for a bound in words: a 16 says what its record belongs to.
+pub fn of_table(set: &Set, bound: u64, refusal: Refusal) -> String {
+    match part(set, bound, refusal) {
+        Some(Part::Map { address }) => format!("{refusal}, of the map's cell {address}"),
+        Some(Part::Step(step)) => format!("{refusal}, of step {step}"),
+        Some(Part::Goal) => format!("{refusal}, the goal"),
+        Some(Part::Start) | None => refusal.to_string(),
+    }
+}
+
+fn part(set: &Set, bound: u64, refusal: Refusal) -> Option<Part> {
+    match refusal {
+        Refusal::NotSatisfied { record } => set.part_of(bound, record).ok().flatten(),
+        _ => None,
+    }
 }
 
 pub fn refusal_json(refusal: Refusal) -> Json {
-    Json::object([
+    Json::Object(refusal_members(refusal))
+}
+
+fn refusal_members(refusal: Refusal) -> Vec<(&'static str, Json)> {
+    vec![
         ("number", Json::from(refusal.number())),
         ("place", Json::from(refusal.place())),
         ("meaning", Json::from(refusal.meaning())),
-    ])
+    ]
 }

@@ -305,12 +305,18 @@ fn refused_models() {
         folder.fails("check set.txt 3 bad", REFUSED, error);
         folder.fails("decode set.txt 3 bad -o t -m m", REFUSED, error);
     }
-    folder.put("bad", &[0; 12]);
-    for line in ["check set.txt 3 bad", "decode set.txt 3 bad -o t -m m"] {
-        let ended = folder.run(line);
-        let start = "deepchalk: bad: refused 16: constraint or goal that is 0, in record ";
-        assert!(ended.error.starts_with(start), "{}", ended.error);
-        assert_eq!((ended.status, ended.error.lines().count()), (REFUSED, 1));
+    // Step 0 without a choice; a cell that contradicts the map's; thread 0's ADDI, STORE and flush, which fail nothing.
+    let wrong_cell = [&model[..], &[0, 0, 1, 0]].concat();
+    let harmless = [1, 0, 0, 0, 1, 0, 0, 0, 0, 0, 1, 0];
+    for (bytes, place) in [
+        (&[0; 12][..], "49, of step 0"),
+        (&wrong_cell, "16, of the map's cell 0"),
+        (&harmless, "229, the goal"),
+    ] {
+        folder.put("bad", bytes);
+        let error = format!("bad: refused 16: constraint or goal that is 0, in record {place}");
+        folder.fails("check set.txt 3 bad", REFUSED, &error);
+        folder.fails("decode set.txt 3 bad -o t -m m", REFUSED, &error);
     }
     assert_eq!(folder.names(), ["bad", "model", "set.txt"]);
 }

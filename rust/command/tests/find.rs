@@ -270,7 +270,7 @@ fn wrong_solvers() {
             &format!("echo sat; echo '{bits}'"),
             5,
             "Z3 version 0.0 gave a run, but the model check says: refused 16: \
-             constraint or goal that is 0, in record 49",
+             constraint or goal that is 0, in record 49, of step 0",
         ),
     ] {
         let ended = with_solver(&folder, script, "find set.txt 3 -o trace");

@@ -173,6 +173,22 @@ fn refusals() {
         answer,
         format!("{{{}", refused(15, 0, "model not as it must be"))
     );
+    // A 16 says what its record belongs to.
+    for (model, place, part) in [
+        (vec![0; 12], 49, r#","step":0"#),
+        ([&MODEL[..], &[0, 0, 1, 0]].concat(), 16, r#","address":0"#),
+        (vec![1, 0, 0, 0, 1, 0, 0, 0, 0, 0, 1, 0], 229, ""),
+    ] {
+        folder.put("model", &model);
+        let meaning = format!(r#""meaning":"constraint or goal that is 0"{part}"#);
+        let refused = format!(r#"{{"refused":{{"number":16,"place":{place},{meaning}}}}}"#);
+        for line in [
+            "check set.txt 3 model --json",
+            "decode set.txt 3 model --json",
+        ] {
+            assert_eq!(json(&folder, line, 3), format!("{refused}\n"));
+        }
+    }
     // Other faults have their line alone.
     let ended = folder.run("read missing --json");
     assert_eq!((ended.status, ended.text().as_str()), (2, ""));

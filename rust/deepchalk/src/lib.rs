@@ -5,7 +5,7 @@
 //! [`simulate`], take and fill buffers that the caller lends.
 //!
 //! ```
-//! use deepchalk::{End, FailingRun, Refusal, Set};
+//! use deepchalk::{End, FailingRun, Part, Refusal, Set};
 //!
 //! // Thread 0 stores 1 at address 0; thread 1 fails if it still reads 0 there.
 //! let set = Set::read(b"ADDI 1\nSTORE 0\n.\nLOAD 0\nJZ 3\nEXIT 0\nEXIT 7\n.\n0 0\n")?;
@@ -28,6 +28,11 @@
 //! set.check(3, &model)?;
 //! let FailingRun { trace, map } = set.decode(3, &model)?;
 //! assert_eq!(set.replay_over(&map, &trace)?.end, End::Code(7));
+//!
+//! // A model that takes no choice in step 2, before the end: the table has a record that says so.
+//! let stops = [0, 1, 0, 0, 0, 1, 0, 0, 0, 0, 0, 0];
+//! assert_eq!(set.check(3, &stops), Err(Refusal::NotSatisfied { record: 189 }));
+//! assert_eq!(set.part_of(3, 189)?, Some(Part::Step(2)));
 //! # Ok::<(), Refusal>(())
 //! ```
 
@@ -40,7 +45,7 @@ mod set;
 pub use answers::{Decoded, End, Ran, Read};
 pub use calls::{check, decode, encode, read, replay, simulate, table_size};
 pub use refusal::Refusal;
-pub use set::{FailingRun, Set};
+pub use set::{FailingRun, Part, Set};
 
 /// The most bytes of a set text.
 pub const MAX_TEXT: usize = 16_384;

@@ -12,6 +12,24 @@ pub struct Set {
     map: Vec<u8>,
 }
 
+/// What a record of a set's table belongs to (docs/TABLE.md).
+#[derive(Clone, Copy, Debug, PartialEq, Eq)]
+pub enum Part {
+    /// The start values.
+    Start,
+    /// What says that first memory agrees with the map, in the cell at this address.
+    Map { address: u16 },
+    /// A step, from 0.
+    Step(u32),
+    /// The goal.
+    Goal,
+}
+
+/// Records of a table for each cell of the map.
+const CELL_RECORDS: u32 = 5;
+/// Records of a table from the last step on, the goal the last of them.
+const GOAL_RECORDS: u32 = 3;
+
 /// What a model decodes to: the trace of its run, 24 bytes a step, and the map that the trace replays
 /// over, 4 bytes a cell.
 #[derive(Clone, Debug, PartialEq, Eq)]
@@ -108,6 +126,31 @@ impl Set {
         trace.truncate(usize::from(decoded.steps) * STEP_BYTES);
         map.truncate(usize::from(decoded.cells) * CELL_BYTES);
         Ok(FailingRun { trace, map })
+    }
+
+    /// What a record of the table for the bound belongs to, such as the one that a refusal 16 names; none
+    /// where the table ends before it. Refusal 10.
+    pub fn part_of(&self, bound: u64, record: u32) -> Result<Option<Part>, Refusal> {
+        let records = self.table_size(bound)?;
+        let goal = records - GOAL_RECORDS;
+        // A table for one step more has one step's records more.
+        let step = self.table_size(2)? - self.table_size(1)?;
+        let steps = goal - bound as u32 * step;
+        let cells = self.map.chunks_exact(CELL_BYTES);
+        let map = steps - CELL_RECORDS * cells.len() as u32;
+        Ok(if record < map {
+            Some(Part::Start)
+        } else if record < steps {
+            let cell = (record - map) / CELL_RECORDS;
+            let mut addresses = cells.map(|cell| u16::from_le_bytes([cell[0], cell[1]]));
+            addresses
+                .nth(cell as usize)
+                .map(|address| Part::Map { address })
+        } else if record < goal {
+            Some(Part::Step((record - steps) / step))
+        } else {
+            (record < records).then_some(Part::Goal)
+        })
     }
 
     /// Work memory for the table.

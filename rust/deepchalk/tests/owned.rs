@@ -1,9 +1,11 @@
 //! The calls on `Set`, which allocate what they give, against the second reader, simulator, encoder and
 //! decoder.
 
-use deepchalk::{End, FailingRun, Ran, Refusal, Set};
+use deepchalk::{End, FailingRun, Part, Ran, Refusal, Set};
+use reference::formula::operation;
 use reference::records::MAX_SET_MAP;
 use reference::trace::STEP_BYTES;
+use testing::inputs::set_and_map;
 use testing::models::{failing, ModelInput};
 use testing::schedules::trace_of;
 use testing::{damage, texts, Input, Random};
@@ -139,6 +141,56 @@ fn compare_models(set: &Set, input: &ModelInput, seed: u64) {
         let ran = set.replay_over(&map, &trace).expect("a run");
         assert!(matches!(ran.end, End::Code(code) if code != 0));
     }
+}
+
+/// What each constraint and the goal of a table belong to, told from its records: the map's constraints come
+/// before any choice bit, in the order of the cells, and a step's after its own choice bits.
+fn demands(set: &Set, bound: u64) -> Vec<(u32, Part)> {
+    let table = set.encode(bound).expect("accepted");
+    let mut cells = set.map().chunks_exact(deepchalk::CELL_BYTES);
+    let mut step = None;
+    let mut found = Vec::new();
+    for (record, formula) in (0..).zip(reference::formulas(&table)) {
+        match (formula.operation, step) {
+            (operation::CHOICE, _) => step = Some(formula.a),
+            (operation::GOAL, _) => found.push((record, Part::Goal)),
+            (operation::CONSTRAINT, Some(step)) => found.push((record, Part::Step(step))),
+            (operation::CONSTRAINT, None) => {
+                let cell = cells.next().expect("a cell");
+                let address = u16::from_le_bytes([cell[0], cell[1]]);
+                found.push((record, Part::Map { address }));
+            }
+            _ => {}
+        }
+    }
+    found
+}
+
+#[test]
+fn parts_of_tables() {
+    let mut counted = [0; 3];
+    for seed in 1..=300 {
+        let mut random = Random::new(seed);
+        let (set, map) = set_and_map(&mut random);
+        let Ok(set) = Set::from_records(set, map) else {
+            continue;
+        };
+        let bound = 1 + random.below(64) as u64;
+        let records = set.table_size(bound).expect("a size");
+        for (record, part) in demands(&set, bound) {
+            assert_eq!(set.part_of(bound, record), Ok(Some(part)), "seed {seed}");
+            counted[match part {
+                Part::Start => panic!("seed {seed}: a constraint of start values"),
+                Part::Map { .. } => 0,
+                Part::Step(_) => 1,
+                Part::Goal => 2,
+            }] += 1;
+        }
+        assert_eq!(set.part_of(bound, 0), Ok(Some(Part::Start)));
+        assert_eq!(set.part_of(bound, records), Ok(None));
+        assert_eq!(set.part_of(65, 0), Err(Refusal::Bound));
+    }
+    assert!(counted.iter().all(|&count| count > 100), "{counted:?}");
 }
 
 /// Schedules and traces of any length are refused, not run into.
