@@ -7,8 +7,8 @@ ghost use Prim.Native.Nat.{_≤_};
 ghost use lib.ListN.{length};
 ghost use Rattle.cases.specs.Parts.{Inside};
 use libc::STDOUT_FILENO;
-use step::Answer;
-use step::End;
+use machine::End;
+use machine::RunAnswer;
 
 // Bytes of a trace step.
 const STEP_BYTES: usize = 24;
@@ -79,8 +79,8 @@ fn permitted(set: &[u8], map: &[u8], schedule: [u8; LONGEST], place: usize) -> b
     let length = place + 1;
     let answer = simulation::simulate(set, map, &schedule[..length], &mut trace);
     match answer {
-        Answer::Ran { .. } => step_byte(&trace, place, 1) != HALT,
-        Answer::Refused { .. } => false,
+        RunAnswer::Ran { .. } => step_byte(&trace, place, 1) != HALT,
+        RunAnswer::Refused { .. } => false,
     }
 }
 
@@ -143,7 +143,7 @@ fn ended(set: &[u8], map: &[u8], asked: &[u8], schedule: [u8; LONGEST], place: u
     let mut trace = [0u8; TRACE];
     let answer = simulation::simulate(set, map, &all[..length], &mut trace);
     match answer {
-        Answer::Ran { steps, end } => match end {
+        RunAnswer::Ran { steps, end } => match end {
             End::Code(code) => {
                 if has_outcome(&trace, halts, asked) {
                     return Visit::Outcome;
@@ -153,7 +153,7 @@ fn ended(set: &[u8], map: &[u8], asked: &[u8], schedule: [u8; LONGEST], place: u
             End::Stuck => Visit::GoesOn,
             End::Open => Visit::GoesOn,
         },
-        Answer::Refused { .. } => Visit::GoesOn,
+        RunAnswer::Refused { .. } => Visit::GoesOn,
     }
 }
 
@@ -274,16 +274,16 @@ fn show_numbers(number: u64, place: u64, end: u64, code: u64, steps: u64) {
 }
 
 // A line: the name with its suffix, then number, place, end (0 code, 1 stuck, 2 open), code, steps.
-fn show_answer(name: &[u8], suffix: &[u8], answer: Answer) {
+fn show_answer(name: &[u8], suffix: &[u8], answer: RunAnswer) {
     io::write_all(STDOUT_FILENO, name);
     io::write_all(STDOUT_FILENO, suffix);
     match answer {
-        Answer::Ran { steps, end } => match end {
+        RunAnswer::Ran { steps, end } => match end {
             End::Code(code) => show_numbers(0, 0, 0, code as u64, steps as u64),
             End::Stuck => show_numbers(0, 0, 1, 0, steps as u64),
             End::Open => show_numbers(0, 0, 2, 0, steps as u64),
         },
-        Answer::Refused { number, place } => show_numbers(number as u64, place as u64, 0, 0, 0),
+        RunAnswer::Refused { number, place } => show_numbers(number as u64, place as u64, 0, 0, 0),
     }
 }
 
@@ -306,11 +306,11 @@ fn show_over(name: &[u8], set: &[u8], map: &[u8], schedule: &[u8], trace: &mut [
     let answer = simulation::simulate(set, map, schedule, trace);
     show_answer(name, b":", answer);
     match answer {
-        Answer::Ran { .. } => {
+        RunAnswer::Ran { .. } => {
             show_trace(trace);
             show_answer(name, b" replay:", replay::replay(set, map, trace));
         }
-        Answer::Refused { .. } => {}
+        RunAnswer::Refused { .. } => {}
     }
 }
 
@@ -332,10 +332,10 @@ fn show_text(name: &[u8], source: &[u8]) {
     io::write_all(STDOUT_FILENO, name);
     io::write_all(STDOUT_FILENO, b":");
     match answer {
-        text::Answer::Read { statements, cells } => {
+        text::ReadAnswer::Read { statements, cells } => {
             show_four(0, 0, statements as u64, cells as u64);
         }
-        text::Answer::Refused { number, place } => show_four(number as u64, place as u64, 0, 0),
+        text::ReadAnswer::Refused { number, place } => show_four(number as u64, place as u64, 0, 0),
     }
 }
 
@@ -368,8 +368,12 @@ fn show_bound(name: &[u8], bound: u64) {
     io::write_all(STDOUT_FILENO, name);
     io::write_all(STDOUT_FILENO, b":");
     match answer {
-        encoder::Answer::Encoded { records } => show_three(0, 0, records as u64),
-        encoder::Answer::Refused { number, place } => show_three(number as u64, place as u64, 0),
+        encoder::TableAnswer::Encoded { records } => show_three(0, 0, records as u64),
+        encoder::TableAnswer::Refused { number, place } => show_three(
+            number as u64,
+            place as u64,
+            0,
+        ),
     }
 }
 

@@ -9,18 +9,18 @@ use Rattle.base.specs.Words.{plus, times}
 use Rattle.records.specs.Instructions.{FENCE, ADDI, MULI, CHECK}
 use Rattle.records.specs.Maps.{valueAt, ascendsAt, mapAccepted}
 use Rattle.records.specs.Sets.{setOf, threadsOf, countOf, startOf, follows, argumentFits, recordFits, opensAt, setAccepted}
-use Rattle.step.specs.Machine.{start, address, wordTaken, cellsRead, row, jumps, nextPc, executed, casMatches, contains, opened, waiting, permitted, acted, leavesMark, cleared, written, step, reads}
-use Rattle.step.specs.Runs.{choiceOf, choices, isRun, after, somePermitted, endOf}
-use Rattle.step.specs.Maps.{begin, outcome, advanced, follow}
-use Rattle.step.specs.declared.Answer.the-variants.{Ran, Refused}
-use Rattle.step.specs.declared.Choice.{Choice}
-use Rattle.step.specs.declared.Choice.the-variants.{Execute}
-use Rattle.step.specs.declared.End.the-variants.{Code, Open}
-use Rattle.step.specs.declared.Thread.{Thread}
+use Rattle.machine.specs.Machine.{start, address, wordTaken, cellsRead, row, jumps, nextPc, executed, casMatches, contains, opened, waiting, permitted, acted, leavesMark, cleared, written, step, reads}
+use Rattle.machine.specs.Runs.{choiceOf, choices, isRun, after, somePermitted, endOf}
+use Rattle.machine.specs.Maps.{begin, outcome, advanced, follow}
+use Rattle.machine.specs.declared.RunAnswer.the-variants.{Ran, Refused}
+use Rattle.machine.specs.declared.Choice.{Choice}
+use Rattle.machine.specs.declared.Choice.the-variants.{Execute}
+use Rattle.machine.specs.declared.End.the-variants.{Code, Open}
+use Rattle.machine.specs.declared.Thread.{Thread}
 use Rattle.simulation.specs.Simulation.{simulated, limited}
 use Rattle.encoding.specs.Assignments.{assignmentOf}
 use Rattle.claims.specs.Cases.{set1, set2, set3, set4, set5, set7, set8, cell, statement, Accepted, Satisfiable, after7, StarredCases}
-use Rattle.claims.specs.Tables.{IsMemory, Agrees, Fails, Model}
+use Rattle.claims.specs.Tables.{IsMemory, Agrees, Fails, Satisfying}
 use Rattle.claims.proofs.Explored.{explored, mappedOver, agrees-over, unsatisfiable}
 use Rattle.claims.proofs.Tables.{tableMeansTheProgram, assignmentsMatchRuns}
 
@@ -105,7 +105,7 @@ satisfiable set map bound accepted agrees low high run fails =
     tableMeansTheProgram set map bound (accepted .acceptedSet) (accepted .acceptedMap) low high .1
     (zeros, (run, record { isMemory = zeros-memory; agrees = agrees; fails = fails }))
 
-model4 : (memory : ℕ → ℕ) → IsMemory memory → Model set4 [] 3 (assignmentOf memory (choices (1 ∷ 0 ∷ 1 ∷ [])))
+model4 : (memory : ℕ → ℕ) → IsMemory memory → Satisfying set4 [] 3 (assignmentOf memory (choices (1 ∷ 0 ∷ 1 ∷ [])))
 model4 memory isMemory =
     assignmentsMatchRuns set4 [] 3 (accepted4 .acceptedSet) (accepted4 .acceptedMap) (omega arith) (omega arith)
     .model memory (choices (1 ∷ 0 ∷ 1 ∷ [])) (record { isMemory = isMemory; agrees = agrees-empty memory; fails = fails4 memory })

@@ -12,8 +12,8 @@ use lib.Seq.{drop-cons, drop-length}
 use borrow.Author.Tests.{eqb-true, eqb-false, eq-eqb, ne-eqb}
 use Rattle.base.specs.Below.{number}
 use Rattle.base.proofs.Choice.{and-true, and-false, and-right-false, clash}
-use Rattle.lines.specs.Lines.{lines, mapLine}
-use Rattle.lines.specs.declared.Cell.{Cell}
+use Rattle.text_lines.specs.Lines.{lines, mapLine}
+use Rattle.text_lines.specs.declared.Cell.{Cell}
 use Rattle.text.specs.Sections.{dots, isGood, inserted, cellAdded, cellsFrom, cells}
 use Rattle.text.proofs.Below.{cond-where}
 use Rattle.text.proofs.Inserted.{In, in-at, at-in, length-inserted, inserted-in, inserted-keeps, inserted-from}

@@ -13,11 +13,11 @@ use Rattle.base.proofs.Below.{every-at, least-passes}
 use Rattle.base.proofs.Choice.{chosen, passed, and-left, and-right}
 use Rattle.records.specs.Maps.{cells, addressAt, valueAt, cellAt, mapped, mapValue}
 use Rattle.records.specs.Sets.{Set, setOf}
-use Rattle.step.specs.Machine.{State, start, actor, step}
-use Rattle.step.specs.Runs.{takes, isRun, after}
-use Rattle.step.specs.declared.Choice.{Choice}
-use Rattle.step.specs.declared.Choice.the-variants.{Execute, Flush}
-use Rattle.step.proofs.Runs.{takes-actor, run-first, run-rest}
+use Rattle.machine.specs.Machine.{State, start, actor, step}
+use Rattle.machine.specs.Runs.{takes, isRun, after}
+use Rattle.machine.specs.declared.Choice.{Choice}
+use Rattle.machine.specs.declared.Choice.the-variants.{Execute, Flush}
+use Rattle.machine.proofs.Runs.{takes-actor, run-first, run-rest}
 use Rattle.claims.specs.Cases.{Accepted, Unsatisfiable}
 use Rattle.claims.specs.Tables.{Agrees}
 use Rattle.claims.proofs.Tables.{tableMeansTheProgram}

@@ -4,11 +4,11 @@ use mathlib.Core.List.{List, [], _∷_}
 use native.Mathlib.Omega.{arith}
 use lib.ListN.{getD}
 use Rattle.encoding.proofs.WellFormed.{well-formed}
-use Rattle.claims.specs.Runs.{Bytes}
+use Rattle.claims.specs.Runs.{AreBytes}
 use Rattle.claims.specs.Tables.{TablesAreWellFormed}
 
 -- each number of a list of bytes is below 256, also the 0 past its end
-pub below : (xs : List ℕ) → Bytes xs → (i : ℕ) → getD xs i 0 < 256
+pub below : (xs : List ℕ) → AreBytes xs → (i : ℕ) → getD xs i 0 < 256
 below [] h i = omega arith
 below (x ∷ xs) h zero = h .0
 below (x ∷ xs) h (suc i) = below xs (h .1) i

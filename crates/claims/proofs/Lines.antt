@@ -12,8 +12,8 @@ use borrow.Author.Tests.{ltb-true, eqb-true, eqb-false, not-true, not-false}
 use Rattle.base.specs.Bytes.{same, over}
 use Rattle.base.proofs.Bytes.{same-equal}
 use Rattle.base.proofs.Choice.{and-left, refuted, clash}
-use Rattle.lines.specs.Bytes.{isInLine, isNameByte, run, name}
-use Rattle.lines.specs.Lines.{extended, lines, unlabelled, padded, isLabel}
+use Rattle.text_lines.specs.Characters.{isInLine, isNameByte, run, name}
+use Rattle.text_lines.specs.Lines.{extended, lines, unlabelled, padded, isLabel}
 use Rattle.claims.specs.Sections.{withLF, LinesPartTheText, LabelsStayApart}
 
 -- ---- lines

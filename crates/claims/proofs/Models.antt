@@ -12,18 +12,18 @@ use borrow.Author.Tests.{lt-ltb}
 use Rattle.base.specs.Below.{number}
 use Rattle.base.proofs.Choice.{chosen, and-true, and-right, or-true, or-right-true}
 use Rattle.records.specs.Maps.{cells, addressAt, mapAccepted, mapped, mapValue}
-use Rattle.records.specs.Sets.{Set, WellFormed, setOf, setAccepted}
+use Rattle.records.specs.Sets.{Set, WellFormedSet, setOf, setAccepted}
 use Rattle.records.proofs.Maps.{few-cells}
 use Rattle.records.proofs.Sets.{well-formed}
-use Rattle.step.specs.Machine.{State, start, noWrite}
-use Rattle.step.specs.Maps.{begin}
-use Rattle.step.specs.Runs.{after, somePermitted, endOf}
-use Rattle.step.specs.Traces.{trace}
-use Rattle.step.specs.declared.Answer.the-variants.{Ran}
-use Rattle.step.specs.declared.Choice.{Choice}
-use Rattle.step.specs.declared.Choice.the-variants.{Execute}
-use Rattle.step.specs.declared.End.the-variants.{Code, Stuck, Open}
-use Rattle.step.proofs.Runs.{inside-start, AllTaken, taken-run, follow-taken, follow-ran, length-trace, stepChoices}
+use Rattle.machine.specs.Machine.{State, start, noWrite}
+use Rattle.machine.specs.Maps.{begin}
+use Rattle.machine.specs.Runs.{after, somePermitted, endOf}
+use Rattle.machine.specs.Traces.{trace}
+use Rattle.machine.specs.declared.RunAnswer.the-variants.{Ran}
+use Rattle.machine.specs.declared.Choice.{Choice}
+use Rattle.machine.specs.declared.Choice.the-variants.{Execute}
+use Rattle.machine.specs.declared.End.the-variants.{Code, Stuck, Open}
+use Rattle.machine.proofs.Runs.{inside-start, AllTaken, taken-run, follow-taken, follow-ran, length-trace, stepChoices}
 use Rattle.replay.specs.Replay.{retrace, replayed}
 use Rattle.table.specs.Values.{Assignment, satisfies}
 use Rattle.encoding.specs.Assignments.{assignmentOf}
@@ -41,14 +41,14 @@ use Rattle.decoding.proofs.Followed.{Along, along}
 use Rattle.decoding.proofs.Maps.{agrees-value, mapped-below, value-below, value-beyond, own-mapped, own-value}
 use Rattle.decoding.proofs.Runs.{run-of}
 use Rattle.claims.specs.Models.{AcceptedModel, Contains, Decodes, ReplaysToFailure, DecodedFromModel, DemandThree}
-use Rattle.claims.specs.Runs.{Bytes}
-use Rattle.claims.specs.Tables.{IsMemory, Fails, Failure, Model, OneToOne}
+use Rattle.claims.specs.Runs.{AreBytes}
+use Rattle.claims.specs.Tables.{IsMemory, Fails, Failure, Satisfying, OneToOne}
 use Rattle.claims.proofs.Formed.{below}
 use Rattle.claims.proofs.Runs.{retrace-trace, retrace-ran, replayed-ran, ran-replayed}
 use Rattle.claims.proofs.Tables.{tableMeansTheProgram, assignmentsMatchRuns}
 
 -- a list whose numbers are all below 256 is made of bytes
-bytes-of : (xs : List ℕ) → ((i : ℕ) → getD xs i 0 < 256) → Bytes xs
+bytes-of : (xs : List ℕ) → ((i : ℕ) → getD xs i 0 < 256) → AreBytes xs
 bytes-of [] f = tt
 bytes-of (x ∷ xs) f = (f 0, bytes-of xs (λ i. f (suc i)))
 
@@ -71,11 +71,11 @@ unfolding endOf
 ended-code S s e = chosen _ _ e
 
 module _ (set map : List ℕ) (bound : ℕ) (accepted : setAccepted set ≡ true) (mapOk : mapAccepted 128 map ≡ true) (few : bound ≤ 64)
-    (setBytes : Bytes set) (mapBytes : Bytes map) where
+    (setBytes : AreBytes set) (mapBytes : AreBytes map) where
   abbrev S : Set
   S = setOf set
 
-  well : WellFormed S
+  well : WellFormedSet S
   well = well-formed set accepted
 
   -- ---- what the assignment of a failing run decodes to
@@ -136,7 +136,7 @@ module _ (set map : List ℕ) (bound : ℕ) (accepted : setAccepted set ≡ true
     unfolding decodedMap
     map-accepted = cells-accepted isCell (g .first) 65536 256 cells-few
 
-    map-bytes : Bytes (decodedMap set map bound g)
+    map-bytes : AreBytes (decodedMap set map bound g)
     unfolding decodedMap
     map-bytes = bytes-of (cellsBelow isCell (g .first) 65536) (cells-bytes isCell (g .first) 65536 (omega arith) (failure .isMemory .words))
 
@@ -252,7 +252,7 @@ module _ (set map : List ℕ) (bound : ℕ) (accepted : setAccepted set ≡ true
   -- ---- the meaning
 
   module _ (oneToOne : OneToOne set map bound) where
-    model-assignment : (model : List ℕ) → AcceptedModel set map bound model → Model set map bound (assigned (S .threads) bound model)
+    model-assignment : (model : List ℕ) → AcceptedModel set map bound model → Satisfying set map bound (assigned (S .threads) bound model)
     unfolding assigned
     model-assignment model ok = record {
       isAssignment = record {
@@ -267,7 +267,7 @@ module _ (set map : List ℕ) (bound : ℕ) (accepted : setAccepted set ≡ true
       pub stands : g ≡ assignmentOf (g .first) (runOf (S .threads) bound g)
       pub failure : Failure set map bound (g .first) (runOf (S .threads) bound g)
 
-    own-run : (g : Assignment) → Model set map bound g → Own g
+    own-run : (g : Assignment) → Satisfying set map bound g → Own g
     own-run g model =
         let r = oneToOne .pair g model in
         let q = r .0 in

@@ -15,14 +15,14 @@ use Rattle.base.proofs.Bytes.{same-self, same-equal}
 use Rattle.base.proofs.Choice.{chosen, passed, and-true, and-left, and-right, refuted, clash}
 use Rattle.records.specs.Instructions.{CHECK, isJump}
 use Rattle.records.specs.Sets.{records, numberAt, argumentAt, opensAt}
-use Rattle.lines.specs.Lines.{lines, isDot, statementLine, mapLine}
-use Rattle.lines.specs.declared.Form.{Form}
-use Rattle.lines.specs.declared.Form.the-variants.{Empty, Malformed, Large, Good}
-use Rattle.lines.specs.declared.Stated.{Stated}
-use Rattle.lines.specs.declared.Cell.{Cell}
+use Rattle.text_lines.specs.Lines.{lines, isDot, statementLine, mapLine}
+use Rattle.text_lines.specs.declared.Form.{Form}
+use Rattle.text_lines.specs.declared.Form.the-variants.{Empty, Malformed, Large, Good}
+use Rattle.text_lines.specs.declared.Stated.{Stated}
+use Rattle.text_lines.specs.declared.Cell.{Cell}
 use Rattle.text.specs.Sections.{Threads, dots}
-use Rattle.text.specs.Records.{isNamed, pcOf, argumentOf, setBytes, statementsBefore, cellAt}
-use Rattle.text.specs.Answers.{refusalOf, refusalIn, threadsFit, statementsFit, doubledAt, targetFits, threadFits, labelsFit, checkpointsFit, addressDoubled, mapFits}
+use Rattle.text.specs.Records.{isNamed, pcOf, argumentOf, setBytes, statementsBefore, mapCell}
+use Rattle.text.specs.Answers.{lineRefusal, refusalIn, threadsFit, statementsFit, doubledAt, targetFits, threadFits, labelsFit, checkpointsFit, addressDoubled, mapFits}
 use Rattle.text.proofs.Accepted.{plain-argument, target-below, statement-fits, counts-between}
 use Rattle.text.proofs.Below.{cond-where, between, some-found, some-none, least-found}
 use Rattle.text.proofs.Sets.{records-set, place-below, number-set, argument-set, place}
@@ -34,7 +34,7 @@ use Rattle.claims.proofs.Sections.{number-no, dots-after}
 
 -- ---- rows 2 and 3: lines
 
-refused-form : (form : Form) → refusalOf form ≡ 0 → (form ≡ Empty) ⊎ (form ≡ Good)
+refused-form : (form : Form) → lineRefusal form ≡ 0 → (form ≡ Empty) ⊎ (form ≡ Good)
 refused-form Empty e = inl refl
 refused-form Good e = inr refl
 refused-form Malformed e = absurd (omega arith)
@@ -45,9 +45,9 @@ module _ (text : List ℕ) (i : ℕ) (h : i < length (lines text)) where
   rest = drop (suc i) (lines text)
 
   -- the refusal of a line that is no dot line is that of its form
-  pub refusal-is : isDot (line text i) ≡ false → refusalIn (line text i) rest ≡ refusalOf (formOf text i)
+  pub refusal-is : isDot (line text i) ≡ false → refusalIn (line text i) rest ≡ lineRefusal (formOf text i)
   unfolding refusalIn
-  refusal-is d = passed _ _ d ∙ ap refusalOf (go (ltb (sectionOf text i) (sections text)) refl)
+  refusal-is d = passed _ _ d ∙ ap lineRefusal (go (ltb (sectionOf text i) (sections text)) refl)
     where
       left : sectionOf text i + dots rest ≡ sections text
       left = omega (arith, number-no (λ j. isDot (line text j)) i d, dots-after text (suc i) h)
@@ -73,7 +73,7 @@ module _ (text : List ℕ) (i : ℕ) (h : i < length (lines text)) where
     where
       go : (b : Bool) → isDot (line text i) ≡ b → refusalIn (line text i) rest ≡ 0
       go true d = dot-passes d
-      go false d = refusal-is d ∙ ⊎-elim (λ e. clash e d) (λ w. ⊎-elim (λ e. ap refusalOf e) (λ e. ap refusalOf e) w) f
+      go false d = refusal-is d ∙ ⊎-elim (λ e. clash e d) (λ w. ⊎-elim (λ e. ap lineRefusal e) (λ e. ap lineRefusal e) w) f
 
   pub line-rule : refusalIn (line text i) rest ≡ 0 ↔ LineFollows text i
   line-rule = (line-follows, line-passes)
@@ -197,16 +197,16 @@ module _ (T : Threads) (kept : Kept T) where
 
 module _ (cs : List Cell) where
   abbrev Once : Type 0
-  Once = (i j : ℕ) → i < length cs → j < i → cellAt cs j .address ≡ cellAt cs i .address → ⊥
+  Once = (i j : ℕ) → i < length cs → j < i → mapCell cs j .address ≡ mapCell cs i .address → ⊥
 
   once : addressDoubled cs ≡ false → Once
   unfolding addressDoubled
   once e i j h l q = clash
-      (some-at _ (length cs) i h (some-at (λ k. eqb (cellAt cs k .address) (cellAt cs i .address)) i j l (eq-eqb (cellAt cs j .address) (cellAt cs i .address) q))) e
+      (some-at _ (length cs) i h (some-at (λ k. eqb (mapCell cs k .address) (mapCell cs i .address)) i j l (eq-eqb (mapCell cs j .address) (mapCell cs i .address) q))) e
 
   not-twice : Once → addressDoubled cs ≡ false
   unfolding addressDoubled
-  not-twice f = some-none _ (length cs) (λ i h. some-none _ i (λ j l. ne-eqb (cellAt cs j .address) (cellAt cs i .address) (f i j h l)))
+  not-twice f = some-none _ (length cs) (λ i h. some-none _ i (λ j l. ne-eqb (mapCell cs j .address) (mapCell cs i .address) (f i j h l)))
 
   pub map-rule : mapFits cs ≡ true ↔ MapFollows cs
   unfolding mapFits

@@ -11,32 +11,32 @@ use borrow.Author.Tests.{ltb-false, le-ltb, eqb-true, eq-eqb, leb-true, le-leb}
 use Rattle.base.specs.Bytes.{same}
 use Rattle.base.proofs.Choice.{chosen, passed, and-true, and-left, and-right}
 use Rattle.records.specs.Maps.{mapAccepted, mapValue}
-use Rattle.records.specs.Sets.{Set, setOf, setAccepted, WellFormed}
-use Rattle.step.specs.Machine.{State, start, actor, step, written, noWrite}
-use Rattle.step.specs.Runs.{choices, takes, isRun}
-use Rattle.step.specs.Maps.{Held, begin, outcome, advanced, onOutcome, follow}
-use Rattle.step.specs.Traces.{traceStep, trace, stepChoice}
-use Rattle.step.specs.declared.Answer.{Answer}
-use Rattle.step.specs.declared.Answer.the-variants.{Ran, Refused}
-use Rattle.step.specs.declared.Choice.{Choice}
-use Rattle.step.specs.declared.Choice.the-variants.{Execute, Flush}
-use Rattle.step.specs.declared.End.{End}
-use Rattle.step.specs.declared.Written.{Written}
+use Rattle.records.specs.Sets.{Set, setOf, setAccepted, WellFormedSet}
+use Rattle.machine.specs.Machine.{State, start, actor, step, written, noWrite}
+use Rattle.machine.specs.Runs.{choices, takes, isRun}
+use Rattle.machine.specs.Maps.{Held, begin, outcome, advanced, onOutcome, follow}
+use Rattle.machine.specs.Traces.{traceStep, trace, stepChoice}
+use Rattle.machine.specs.declared.RunAnswer.{RunAnswer}
+use Rattle.machine.specs.declared.RunAnswer.the-variants.{Ran, Refused}
+use Rattle.machine.specs.declared.Choice.{Choice}
+use Rattle.machine.specs.declared.Choice.the-variants.{Execute, Flush}
+use Rattle.machine.specs.declared.End.{End}
+use Rattle.machine.specs.declared.Written.{Written}
 use Rattle.base.proofs.Bytes.{same-self, same-equal}
 use Rattle.records.proofs.Sets.{well-formed}
-use Rattle.step.proofs.Runs.{ran-after, ran-where, ran-taken}
-use Rattle.step.proofs.Runs.{Inside, inside-start, inside-step, takes-actor, run-first, run-rest}
-use Rattle.step.proofs.Runs.{scheduleOf, schedule, schedule-choices, choices-schedule, length-choices, length-schedule}
-use Rattle.step.proofs.Runs.{AllTaken, taken-takes, taken-run, follow-ran}
-use Rattle.step.proofs.Runs.{length-trace, take-trace, drop-trace, stepChoice-trace, stepChoices, length-stepChoices, stepChoices-trace}
+use Rattle.machine.proofs.Runs.{ran-after, ran-where, ran-taken}
+use Rattle.machine.proofs.Runs.{Inside, inside-start, inside-step, takes-actor, run-first, run-rest}
+use Rattle.machine.proofs.Runs.{scheduleOf, schedule, schedule-choices, choices-schedule, length-choices, length-schedule}
+use Rattle.machine.proofs.Runs.{AllTaken, taken-takes, taken-run, follow-ran}
+use Rattle.machine.proofs.Runs.{length-trace, take-trace, drop-trace, stepChoice-trace, stepChoices, length-stepChoices, stepChoices-trace}
 use Rattle.simulation.specs.Simulation.{simulated, limited, scheduleTrace}
 use Rattle.replay.specs.Replay.{retrace, replayed, limitedTrace}
-use Rattle.claims.specs.Runs.{Bytes, Simulates, ReplayAcceptsWhatSimulationWrites, OneSchedule, SimulationRuns}
+use Rattle.claims.specs.Runs.{AreBytes, Simulates, ReplayAcceptsWhatSimulationWrites, OneSchedule, SimulationRuns}
 
 -- ---- replay and the run that a trace shows
 
 -- one step of a trace, its choice taken to be c
-abbrev retraceBy : Set → Held → Written → ℕ → ℕ → List ℕ → Choice → Answer
+abbrev retraceBy : Set → Held → Written → ℕ → ℕ → List ℕ → Choice → RunAnswer
 retraceBy S h w i n bytes c =
     cond (takes S (h .state) c)
     (cond (same (take 24 bytes) (traceStep S (h .state) w c))
@@ -45,7 +45,7 @@ retraceBy S h w i n bytes c =
     (Refused 12 i)
 
 -- to retrace a run's own trace is to follow the run
-pub retrace-trace : (S : Set) (h : Held) (w : Written) (i : ℕ) (run : List Choice) → WellFormed S → Inside S (h .state .threads) →
+pub retrace-trace : (S : Set) (h : Held) (w : Written) (i : ℕ) (run : List Choice) → WellFormedSet S → Inside S (h .state .threads) →
     AllTaken S h run → retrace S h w i (length run) (trace S (h .state) w run) ≡ follow S h i run
 unfolding retrace follow advanced
 retrace-trace S h w i [] well inside taken = refl
@@ -132,7 +132,7 @@ ran-replayed set map bytes n e r =
     ∙ r .retraced
 
 -- a run's schedule is made of bytes
-pub schedule-bytes : (S : Set) (s : State) (run : List Choice) → S .threads ≤ 128 → isRun S s run ≡ true → Bytes (schedule run)
+pub schedule-bytes : (S : Set) (s : State) (run : List Choice) → S .threads ≤ 128 → isRun S s run ≡ true → AreBytes (schedule run)
 unfolding schedule
 schedule-bytes S s [] h e = tt
 schedule-bytes S s (c ∷ run) h e =
@@ -154,7 +154,7 @@ simulation-runs set map schedule room n e p =
       end = f .end;
     }
 
-well-set : (set map : List ℕ) → (setAccepted set && mapAccepted 256 map) ≡ true → WellFormed (setOf set)
+well-set : (set map : List ℕ) → (setAccepted set && mapAccepted 256 map) ≡ true → WellFormedSet (setOf set)
 well-set set map a = well-formed set (and-left (setAccepted set) (mapAccepted 256 map) a)
 
 -- simulation's trace shows its schedule
@@ -176,7 +176,7 @@ one-schedule set map first second out n e b c s t =
 
 -- what replay accepts, simulation writes; what simulation writes, replay accepts
 simulation-writes : (set map bytes : List ℕ) (n : ℕ) (e : End) → replayed set map bytes ≡ Ran n e →
-    (schedule : List ℕ) × Bytes schedule × Simulates set map schedule n e bytes
+    (schedule : List ℕ) × AreBytes schedule × Simulates set map schedule n e bytes
 unfolding begin scheduleTrace
 simulation-writes set map bytes n e p =
     let S = setOf set in

@@ -13,12 +13,12 @@ use Rattle.base.specs.Below.{number}
 use Rattle.base.proofs.Below.{number-grows}
 use Rattle.base.proofs.Choice.{chosen, passed, and-true, and-false, and-right-false, and-left, or-false, or-left, or-right, clash}
 use Rattle.records.specs.Instructions.{isLast}
-use Rattle.lines.specs.Lines.{lines, isDot, statementLine}
-use Rattle.lines.specs.declared.Stated.{Stated}
+use Rattle.text_lines.specs.Lines.{lines, isDot, statementLine}
+use Rattle.text_lines.specs.declared.Stated.{Stated}
 use Rattle.text.specs.Sections.{Threads, dots, isGood, halt, noThreads, added, isComplete, gained, closed, lineAdded, threadsFrom, threads}
 use Rattle.text.proofs.Below.{cond-where}
 use Rattle.text.proofs.Statements.{added-others, added-count, added-last, added-earlier, gained-ended, gained-others, gained-earlier}
-use Rattle.claims.specs.Sections.{line, sections, sectionOf, holdsStatement, written, Gains, ThreadsAreTheSections}
+use Rattle.claims.specs.Sections.{line, sections, sectionOf, holdsStatement, statementsBefore, Gains, ThreadsAreTheSections}
 
 -- ---- one number more
 
@@ -93,9 +93,9 @@ module _ (text : List ℕ) where
 
   pub record Sorted (i : ℕ) (T : Threads) : Type 0 where
     pub ended : T .ended ≡ sectionOf text i
-    pub counts : (s : ℕ) → s < sections text → T .ended ≤ s → T .count s ≡ written text s i
-    pub shut : (s : ℕ) → s < T .ended → Gains (written text s i) (T .count s) (T .statement s)
-    pub held : (s j : ℕ) → s < sections text → j < i → holdsStatement text s j ≡ true → T .statement s (written text s j) ≡ statementLine (line text j)
+    pub counts : (s : ℕ) → s < sections text → T .ended ≤ s → T .count s ≡ statementsBefore text s i
+    pub shut : (s : ℕ) → s < T .ended → Gains (statementsBefore text s i) (T .count s) (T .statement s)
+    pub held : (s j : ℕ) → s < sections text → j < i → holdsStatement text s j ≡ true → T .statement s (statementsBefore text s j) ≡ statementLine (line text j)
 
   -- a line holds no statement of another section, and a dot line holds none
   elsewhere : (s i : ℕ) → (sectionOf text i ≡ s → ⊥) → holdsStatement text s i ≡ false
@@ -110,7 +110,7 @@ module _ (text : List ℕ) where
       eqb-true (sectionOf text i) s (and-left here (not (ends i)) (and-left (here && not (ends i)) (isGood (statementLine (line text i) .form)) e))
 
   -- statements of a section before line i come before its next one
-  written-before : (s j i : ℕ) → j < i → holdsStatement text s j ≡ true → written text s j < written text s i
+  written-before : (s j i : ℕ) → j < i → holdsStatement text s j ≡ true → statementsBefore text s j < statementsBefore text s i
   written-before s j i h e = omega (arith, number-yes (holdsStatement text s) j e, number-grows (holdsStatement text s) (suc j) i h)
 
   -- a line that holds no statement and is no dot
@@ -145,17 +145,17 @@ module _ (text : List ℕ) where
     other s f = elsewhere s i (λ e. f (sym e ∙ sym (o .ended)))
 
     -- the open section's count, and the statements held by the lines up to i
-    own-count : more .count (T .ended) ≡ written text (T .ended) (suc i)
+    own-count : more .count (T .ended) ≡ statementsBefore text (T .ended) (suc i)
     own-count = omega (arith, added-count x T, o .counts (T .ended) most (omega arith), number-yes (holdsStatement text (T .ended)) i here)
 
-    own-held : (j : ℕ) → j < suc i → holdsStatement text (T .ended) j ≡ true → more .statement (T .ended) (written text (T .ended) j) ≡ statementLine (line text j)
+    own-held : (j : ℕ) → j < suc i → holdsStatement text (T .ended) j ≡ true → more .statement (T .ended) (statementsBefore text (T .ended) j) ≡ statementLine (line text j)
     own-held j l e =
         let n = o .counts (T .ended) most (omega arith) in
         elim (ℕ-discrete j i) [
-          | yes q ↦ ap (λ (k : ℕ). more .statement (T .ended) (written text (T .ended) k)) q ∙ ap (more .statement (T .ended)) (sym n) ∙ added-last x T ∙ ap (λ (k : ℕ). statementLine (line text k)) (sym q)
+          | yes q ↦ ap (λ (k : ℕ). more .statement (T .ended) (statementsBefore text (T .ended) k)) q ∙ ap (more .statement (T .ended)) (sym n) ∙ added-last x T ∙ ap (λ (k : ℕ). statementLine (line text k)) (sym q)
           | no f ↦
               let b = written-before (T .ended) j i (omega arith) e in
-              added-earlier x T (written text (T .ended) j) (omega arith) ∙ o .held (T .ended) j most (omega arith) e
+              added-earlier x T (statementsBefore text (T .ended) j) (omega arith) ∙ o .held (T .ended) j most (omega arith) e
         ]
 
     -- a line of another section stands before line i
@@ -169,26 +169,26 @@ module _ (text : List ℕ) where
     sorted-added = record {
       ended = more-ended ∙ o .ended ∙ sym (number-no ends i d);
       counts = λ s h l. elim (ℕ-discrete s (T .ended)) [
-        | yes q ↦ subst⁻¹ (λ (u : ℕ). more .count u ≡ written text u (suc i)) q own-count
+        | yes q ↦ subst⁻¹ (λ (u : ℕ). more .count u ≡ statementsBefore text u (suc i)) q own-count
         | no f ↦ added-others x T s f .0 ∙ o .counts s h (omega (arith, more-ended)) ∙ sym (number-no (holdsStatement text s) i (other s f))
       ];
       shut = λ s h.
           let f : s ≡ T .ended → ⊥ = λ q. omega (arith, more-ended) in
-          gains-alike (written text s i) (written text s (suc i)) (T .count s) (more .count s) (T .statement s) (more .statement s)
+          gains-alike (statementsBefore text s i) (statementsBefore text s (suc i)) (T .count s) (more .count s) (T .statement s) (more .statement s)
           (sym (number-no (holdsStatement text s) i (other s f))) (sym (added-others x T s f .0)) (λ p. sym (added-others x T s f .1 p))
           (o .shut s (omega (arith, more-ended)));
       held = λ s j h l e. elim (ℕ-discrete s (T .ended)) [
-        | yes q ↦ subst⁻¹ (λ (u : ℕ). more .statement u (written text u j) ≡ statementLine (line text j)) q (own-held j l (subst (λ (u : ℕ). holdsStatement text u j ≡ true) q e))
-        | no f ↦ added-others x T s f .1 (written text s j) ∙ o .held s j h (earlier s j l f e) e
+        | yes q ↦ subst⁻¹ (λ (u : ℕ). more .statement u (statementsBefore text u j) ≡ statementLine (line text j)) q (own-held j l (subst (λ (u : ℕ). holdsStatement text u j ≡ true) q e))
+        | no f ↦ added-others x T s f .1 (statementsBefore text s j) ∙ o .held s j h (earlier s j l f e) e
       ];
     }
 
   -- a dot line
   module _ (i : ℕ) (T : Threads) (d : ends i ≡ true) (most : T .ended < sections text) (o : Sorted i T) where
-    none-at : (s : ℕ) → written text s (suc i) ≡ written text s i
+    none-at : (s : ℕ) → statementsBefore text s (suc i) ≡ statementsBefore text s i
     none-at s = number-no (holdsStatement text s) i (at-dot s i d)
 
-    open-count : T .count (T .ended) ≡ written text (T .ended) i
+    open-count : T .count (T .ended) ≡ statementsBefore text (T .ended) i
     open-count = o .counts (T .ended) most (omega arith)
 
     -- the section that the dot ends
@@ -210,14 +210,14 @@ module _ (text : List ℕ) where
         last : Bool
         last = isLast (T .statement (T .ended) (T .count (T .ended) - 1) .number)
 
-    kept-held : (s j : ℕ) → s < sections text → j < i → holdsStatement text s j ≡ true → gained T .statement s (written text s j) ≡ T .statement s (written text s j)
+    kept-held : (s j : ℕ) → s < sections text → j < i → holdsStatement text s j ≡ true → gained T .statement s (statementsBefore text s j) ≡ T .statement s (statementsBefore text s j)
     kept-held s j h l e = elim (ℕ-discrete s (T .ended)) [
       | yes q ↦
           let b = written-before s j i l e in
           let n = o .counts s h (omega arith) in
-          subst⁻¹ (λ (u : ℕ). gained T .statement u (written text s j) ≡ T .statement u (written text s j)) q
-          (gained-earlier T (written text s j) (omega (arith, ap (T .count) q)))
-      | no f ↦ gained-others T s f .1 (written text s j)
+          subst⁻¹ (λ (u : ℕ). gained T .statement u (statementsBefore text s j) ≡ T .statement u (statementsBefore text s j)) q
+          (gained-earlier T (statementsBefore text s j) (omega (arith, ap (T .count) q)))
+      | no f ↦ gained-others T s f .1 (statementsBefore text s j)
     ]
 
     sorted-closed : Sorted (suc i) (closed T)
@@ -228,9 +228,9 @@ module _ (text : List ℕ) where
           let f : s ≡ T .ended → ⊥ = λ q. omega (arith, gained-ended T) in
           gained-others T s f .0 ∙ o .counts s h (omega (arith, gained-ended T)) ∙ sym (none-at s);
       shut = λ s h. elim (ℕ-discrete s (T .ended)) [
-        | yes q ↦ subst⁻¹ (λ (u : ℕ). Gains (written text u (suc i)) (gained T .count u) (gained T .statement u)) q
+        | yes q ↦ subst⁻¹ (λ (u : ℕ). Gains (statementsBefore text u (suc i)) (gained T .count u) (gained T .statement u)) q
             (subst (λ (n : ℕ). Gains n (gained T .count (T .ended)) (gained T .statement (T .ended))) (open-count ∙ sym (none-at (T .ended))) own-gains)
-        | no f ↦ gains-alike (written text s i) (written text s (suc i)) (T .count s) (gained T .count s) (T .statement s) (gained T .statement s)
+        | no f ↦ gains-alike (statementsBefore text s i) (statementsBefore text s (suc i)) (T .count s) (gained T .count s) (T .statement s) (gained T .statement s)
             (sym (none-at s)) (sym (gained-others T s f .0)) (λ p. sym (gained-others T s f .1 p))
             (o .shut s (omega (arith, gained-ended T)))
       ];

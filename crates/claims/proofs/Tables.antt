@@ -12,9 +12,9 @@ use Rattle.base.proofs.Choice.{passed}
 use Rattle.records.specs.Maps.{cells, addressAt, valueAt, mapAccepted}
 use Rattle.records.specs.Sets.{Set, countOf, setOf, setAccepted}
 use Rattle.records.proofs.Sets.{well-formed}
-use Rattle.step.specs.Machine.{start}
-use Rattle.step.specs.Runs.{after}
-use Rattle.step.specs.declared.Choice.{Choice}
+use Rattle.machine.specs.Machine.{start}
+use Rattle.machine.specs.Runs.{after}
+use Rattle.machine.specs.declared.Choice.{Choice}
 use Rattle.table.specs.Values.{Assignment, satisfies}
 use Rattle.encoding.specs.Assignments.{bitsOf, assignmentOf}
 use Rattle.encoding.specs.Checkpoints.{checkpoints}
@@ -25,7 +25,7 @@ use Rattle.encoding.proofs.Listed.{complete}
 use Rattle.encoding.proofs.Marks.{Beyond}
 use Rattle.encoding.proofs.Meant.{agreesAt, meant}
 use Rattle.encoding.proofs.Tests.{same-tests}
-use Rattle.claims.specs.Tables.{Agrees, Fails, Failure, IsAssignment, Model, SatisfiableExactly, OneToOne, TableMeansTheProgram, AssignmentsMatchRuns}
+use Rattle.claims.specs.Tables.{Agrees, Fails, Failure, IsAssignment, Satisfying, SatisfiableExactly, OneToOne, TableMeansTheProgram, AssignmentsMatchRuns}
 
 -- ---- failing runs
 
@@ -85,7 +85,7 @@ module _ (set map : List ℕ) (bound : ℕ) (accepted : setAccepted set ≡ true
       let r = bits-inside S (start memory) run (fails .permitted) k kind t e in
       (omega (arith, r .0, fails .bounded), r .1)
 
-  model-of : (memory : ℕ → ℕ) (run : List Choice) → Failure set map bound memory run → Model set map bound (assignmentOf memory run)
+  model-of : (memory : ℕ → ℕ) (run : List Choice) → Failure set map bound memory run → Satisfying set map bound (assignmentOf memory run)
   model-of memory run failure =
       let g = assignmentOf memory run in
       record {
@@ -103,7 +103,7 @@ module _ (set map : List ℕ) (bound : ℕ) (accepted : setAccepted set ≡ true
           (λ e. let r = isAssignment .bits k kind t e in sym (stands-out S cs g bound run stands k kind t (r .0) (r .1 .0) (r .1 .1)) ∙ e)
           (λ e. let r = bits-are (g .first) run fails k kind t e in stands-out S cs g bound run stands k kind t (r .0) (r .1 .0) (r .1 .1) ∙ e)
 
-  pair-of : (g : Assignment) → Model set map bound g → (run : List Choice) × ((g ≡ assignmentOf (g .first) run) × Failure set map bound (g .first) run)
+  pair-of : (g : Assignment) → Satisfying set map bound g → (run : List Choice) × ((g ≡ assignmentOf (g .first) run) × Failure set map bound (g .first) run)
   pair-of g model =
       let r = table-meant g .0 (model .satisfied) in
       let run = r .1 .0 in

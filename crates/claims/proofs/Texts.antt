@@ -15,21 +15,21 @@ use Rattle.base.proofs.Choice.{chosen, passed, and-true, and-left, and-right, r
 use Rattle.records.specs.Instructions.{isJump}
 use Rattle.records.specs.Sets.{setOf}
 use Rattle.records.specs.declared.Statement.{Statement}
-use Rattle.lines.specs.Lines.{lines, unlabelled}
-use Rattle.lines.specs.declared.Form.{Form}
-use Rattle.lines.specs.declared.Form.the-variants.{Malformed, Large}
-use Rattle.lines.specs.declared.Cell.{Cell}
+use Rattle.text_lines.specs.Lines.{lines, unlabelled}
+use Rattle.text_lines.specs.declared.Form.{Form}
+use Rattle.text_lines.specs.declared.Form.the-variants.{Malformed, Large}
+use Rattle.text_lines.specs.declared.Cell.{Cell}
 use Rattle.text.specs.Sections.{Threads, threads, cells}
 use Rattle.text.specs.Records.{isNamed, argumentOf, setBytes, mapBytes, statements}
-use Rattle.text.specs.Answers.{refusalOf, refusalIn, inLines, threadsFit, statementsFit, labelsFit, checkpointsFit, mapFits, roomFits, refused, whole, answer, outputBy, setOutput, mapOutput}
-use Rattle.text.specs.declared.Answer.{Answer}
-use Rattle.text.specs.declared.Answer.the-variants.{Read, Refused}
+use Rattle.text.specs.Answers.{lineRefusal, refusalIn, inLines, threadsFit, statementsFit, labelsFit, checkpointsFit, mapFits, roomFits, refused, whole, answer, outputBy, setOutput, mapOutput}
+use Rattle.text.specs.declared.ReadAnswer.{ReadAnswer}
+use Rattle.text.specs.declared.ReadAnswer.the-variants.{Read, Refused}
 use Rattle.text.proofs.Accepted.{Fitting, fitting, set-accepted}
 use Rattle.text.proofs.Maps.{cells-ordered, map-fits, length-map, cells-map, address-map, value-map}
 use Rattle.text.proofs.Sets.{length-set, number-set, mode-set, argument-set, count-set, threads-set, statement-set}
 use Rattle.text.proofs.Statements.{Kept, kept-threads}
 use Rattle.claims.specs.Sections.{line}
-use Rattle.claims.specs.Texts.{SizeFollows, LinesFollow, Follows, Room, AcceptedExactly, FirstLine, Refusals, RefusedInOrder, SetSays, MapSays, RecordsSayTheText, Written, OutputsHoldTheRecords}
+use Rattle.claims.specs.Texts.{SizeFollows, LinesFollow, Follows, Room, AcceptedExactly, FirstLine, Refusals, RefusedInOrder, SetSays, MapSays, RecordsSayTheText, WrittenOver, OutputsHoldTheRecords}
 use Rattle.claims.proofs.Rules.{refusal-is, line-rule, threads-rule, statements-rule, labels-rule, checkpoints-rule, map-rule, by-number, label-at}
 
 -- ---- lines in order
@@ -38,17 +38,17 @@ use Rattle.claims.proofs.Rules.{refusal-is, line-rule, threads-rule, st
 abbrev Passes : List (List ℕ) → Type 0
 Passes ls = (i : ℕ) → i < length ls → refusalIn (getD ls i []) (drop (suc i) ls) ≡ 0
 
-abbrev Refusal : Answer → Type 0
+abbrev Refusal : ReadAnswer → Type 0
 Refusal r = (number : ℕ) × (place : ℕ) × (r ≡ Refused number place)
 
-lines-pass : (n : ℕ) (ls : List (List ℕ)) (next : Answer) → Passes ls → inLines n ls next ≡ next
+lines-pass : (n : ℕ) (ls : List (List ℕ)) (next : ReadAnswer) → Passes ls → inLines n ls next ≡ next
 unfolding inLines
 lines-pass n [] next f = refl
 lines-pass n (l ∷ ls) next f =
     chosen _ _ (eq-eqb (refusalIn l ls) 0 (f 0 (omega arith))) ∙ lines-pass (suc n) ls next (λ i h. f (suc i) (omega arith))
 
 -- the first line that is refused decides
-lines-refuse : (n : ℕ) (ls : List (List ℕ)) (next : Answer) (i : ℕ) → i < length ls →
+lines-refuse : (n : ℕ) (ls : List (List ℕ)) (next : ReadAnswer) (i : ℕ) → i < length ls →
     ((j : ℕ) → j < i → refusalIn (getD ls j []) (drop (suc j) ls) ≡ 0) → (refusalIn (getD ls i []) (drop (suc i) ls) ≡ 0 → ⊥) →
     inLines n ls next ≡ Refused (refusalIn (getD ls i []) (drop (suc i) ls)) (n + i)
 unfolding inLines
@@ -60,7 +60,7 @@ lines-refuse n (l ∷ ls) next (suc i) h f g =
     ∙ lines-refuse (suc n) ls next i (omega arith) (λ j k. f (suc j) (omega arith)) g
     ∙ ap (Refused (refusalIn (getD ls i []) (drop (suc i) ls))) (omega arith)
 
-lines-judged : (n : ℕ) (ls : List (List ℕ)) (next : Answer) → Passes ls ⊎ Refusal (inLines n ls next)
+lines-judged : (n : ℕ) (ls : List (List ℕ)) (next : ReadAnswer) → Passes ls ⊎ Refusal (inLines n ls next)
 unfolding inLines
 lines-judged n [] next = inl (λ i h. absurd (omega arith))
 lines-judged n (l ∷ ls) next = go (lines-judged (suc n) ls next) (eqb (refusalIn l ls) 0) refl
@@ -78,16 +78,16 @@ lines-judged n (l ∷ ls) next = go (lines-judged (suc n) ls next) (eqb (refusal
 -- ---- the answer
 
 -- a test of the whole text: it passes, or the text is refused
-tested : {A : Type 0} (b : Bool) (n : ℕ) (next : Answer) → (b ≡ true → A ⊎ Refusal next) → A ⊎ Refusal (cond (not b) (refused n) next)
+tested : {A : Type 0} (b : Bool) (n : ℕ) (next : ReadAnswer) → (b ≡ true → A ⊎ Refusal next) → A ⊎ Refusal (cond (not b) (refused n) next)
 tested true n next f = f refl
 tested false n next f = inr (n, 0, refl)
 
 -- a test that a broken rule fails
-broken : {A : Type 0} (b : Bool) (n : ℕ) (next : Answer) → b ≡ true ↔ A → (A → ⊥) → cond (not b) (refused n) next ≡ refused n
+broken : {A : Type 0} (b : Bool) (n : ℕ) (next : ReadAnswer) → b ≡ true ↔ A → (A → ⊥) → cond (not b) (refused n) next ≡ refused n
 broken b n next rule f = chosen _ _ (ap not (refuted b (λ e. f (rule .0 e))))
 
 -- a test that a kept rule passes
-kept : {A : Type 0} (b : Bool) (n : ℕ) (next : Answer) → b ≡ true ↔ A → A → cond (not b) (refused n) next ≡ next
+kept : {A : Type 0} (b : Bool) (n : ℕ) (next : ReadAnswer) → b ≡ true ↔ A → A → cond (not b) (refused n) next ≡ next
 kept b n next rule a = passed _ _ (ap not (rule .1 a))
 
 module _ (text : List ℕ) (setRoom mapRoom : ℕ) where
@@ -128,7 +128,7 @@ module _ (text : List ℕ) (setRoom mapRoom : ℕ) where
   by-lines : SizeFollows text → Passes (lines text) → Follows text ⊎ Refusal (answer text setRoom mapRoom)
   by-lines h f =
       let follow : LinesFollow text = λ i l. line-rule text i l .0 (f i l) in
-      subst⁻¹ (λ (r : Answer). Follows text ⊎ Refusal r) (lined h follow) (by-whole h follow)
+      subst⁻¹ (λ (r : ReadAnswer). Follows text ⊎ Refusal r) (lined h follow) (by-whole h follow)
 
   by-size : SizeFollows text → Follows text ⊎ Refusal (answer text setRoom mapRoom)
   by-size h = ⊎-elim (by-lines h) (λ r. inr (subst⁻¹ Refusal (sized h) r)) (lines-judged 1 (lines text) (whole T cs setRoom mapRoom))
@@ -166,9 +166,9 @@ module _ (text : List ℕ) (setRoom mapRoom : ℕ) where
 
   -- ---- a text that is refused
 
-  first-line : SizeFollows text → (i : ℕ) (form : Form) → FirstLine text i form → (refusalOf form ≡ 0 → ⊥) → answer text setRoom mapRoom ≡ Refused (refusalOf form) (i + 1)
+  first-line : SizeFollows text → (i : ℕ) (form : Form) → FirstLine text i form → (lineRefusal form ≡ 0 → ⊥) → answer text setRoom mapRoom ≡ Refused (lineRefusal form) (i + 1)
   first-line h i form l f =
-      let here : refusalIn (line text i) (drop (suc i) (lines text)) ≡ refusalOf form = refusal-is text i (l .inside) (l .noDot) ∙ ap refusalOf (l .isForm) in
+      let here : refusalIn (line text i) (drop (suc i) (lines text)) ≡ lineRefusal form = refusal-is text i (l .inside) (l .noDot) ∙ ap lineRefusal (l .isForm) in
       let inside = l .inside in
       let place : 1 + i ≡ i + 1 = omega arith in
       sized h
@@ -232,7 +232,7 @@ follow-fitting text f =
 
 -- ---- the lent outputs
 
-written-over : (bytes out : List ℕ) → length bytes ≤ length out → Written bytes out (over bytes out)
+written-over : (bytes out : List ℕ) → length bytes ≤ length out → WrittenOver bytes out (over bytes out)
 unfolding over
 written-over bytes out h = record {
   start = take-append-seam bytes (drop (length bytes) out);
@@ -241,23 +241,23 @@ written-over bytes out h = record {
 }
 
 module _ (text set map : List ℕ) where
-  outputs-read : (r : Answer) (m n : ℕ) → r ≡ Read m n → Room text (length set) (length map) →
-      Written (setBytes (threads (lines text))) set (setOutput r text set) × Written (mapBytes (cells (lines text))) map (mapOutput r text map)
+  outputs-read : (r : ReadAnswer) (m n : ℕ) → r ≡ Read m n → Room text (length set) (length map) →
+      WrittenOver (setBytes (threads (lines text))) set (setOutput r text set) × WrittenOver (mapBytes (cells (lines text))) map (mapOutput r text map)
   unfolding setOutput mapOutput
   outputs-read r m n e room =
       let T = threads (lines text) in
       let cs = cells (lines text) in
-      subst⁻¹ (λ (a : Answer). Written (setBytes T) set (outputBy a (setBytes T) set) × Written (mapBytes cs) map (outputBy a (mapBytes cs) map)) e
+      subst⁻¹ (λ (a : ReadAnswer). WrittenOver (setBytes T) set (outputBy a (setBytes T) set) × WrittenOver (mapBytes cs) map (outputBy a (mapBytes cs) map)) e
       (written-over (setBytes T) set (omega (arith, length-set T, room .0)), written-over (mapBytes cs) map (omega (arith, length-map cs, room .1)))
 
-  outputs-stay : (r : Answer) → Refusal r → (setOutput r text set ≡ set) × (mapOutput r text map ≡ map)
+  outputs-stay : (r : ReadAnswer) → Refusal r → (setOutput r text set ≡ set) × (mapOutput r text map ≡ map)
   unfolding setOutput mapOutput
   outputs-stay r (number, place, e) =
-      (ap (λ (a : Answer). outputBy a (setBytes (threads (lines text))) set) e, ap (λ (a : Answer). outputBy a (mapBytes (cells (lines text))) map) e)
+      (ap (λ (a : ReadAnswer). outputBy a (setBytes (threads (lines text))) set) e, ap (λ (a : ReadAnswer). outputBy a (mapBytes (cells (lines text))) map) e)
 
 -- ---- the claims
 
-read-refused : {A : Type 0} (r : Answer) (m n : ℕ) → r ≡ Read m n → Refusal r → A
+read-refused : {A : Type 0} (r : ReadAnswer) (m n : ℕ) → r ≡ Read m n → Refusal r → A
 read-refused r m n e (number, place, q) = let z : _≡_ {A = ℕ} 0 1 = cc in absurd (omega arith)
 
 pub accepted-exactly : AcceptedExactly

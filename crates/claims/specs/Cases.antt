@@ -9,15 +9,15 @@ use Rattle.records.specs.Instructions.{LOAD, STORE, FENCE, ADDI, MULI, JMP, JZ,
 use Rattle.records.specs.Maps.{mapAccepted}
 use Rattle.records.specs.Sets.{setOf, setAccepted}
 use Rattle.records.specs.declared.Statement.{Statement}
-use Rattle.step.specs.Machine.{State, start, executed}
-use Rattle.step.specs.Runs.{choices, isRun, after}
-use Rattle.step.specs.declared.Answer.the-variants.{Ran, Refused}
-use Rattle.step.specs.declared.End.the-variants.{Code, Open}
-use Rattle.step.specs.declared.Thread.{Thread}
+use Rattle.machine.specs.Machine.{State, start, executed}
+use Rattle.machine.specs.Runs.{choices, isRun, after}
+use Rattle.machine.specs.declared.RunAnswer.the-variants.{Ran, Refused}
+use Rattle.machine.specs.declared.End.the-variants.{Code, Open}
+use Rattle.machine.specs.declared.Thread.{Thread}
 use Rattle.simulation.specs.Simulation.{simulated}
 use Rattle.table.specs.Values.{Assignment}
 use Rattle.encoding.specs.Assignments.{assignmentOf}
-use Rattle.claims.specs.Tables.{IsMemory, Agrees, Model}
+use Rattle.claims.specs.Tables.{IsMemory, Agrees, Satisfying}
 
 -- ---- sets and maps
 
@@ -71,10 +71,10 @@ pub record Accepted (set map : List ℕ) : Type 0 where
   pub acceptedMap : mapAccepted 128 map ≡ true
 
 abbrev pub Satisfiable : (set map : List ℕ) (bound : ℕ) → Type 0
-Satisfiable set map bound = (g : Assignment) × Model set map bound g
+Satisfiable set map bound = (g : Assignment) × Satisfying set map bound g
 
 abbrev pub Unsatisfiable : (set map : List ℕ) (bound : ℕ) → Type 0
-Unsatisfiable set map bound = (g : Assignment) → Model set map bound g → ⊥
+Unsatisfiable set map bound = (g : Assignment) → Satisfying set map bound g → ⊥
 
 -- a bound is 1 to 64
 abbrev pub ForNoBound : (set map : List ℕ) → Type 0
@@ -100,7 +100,7 @@ pub record StarredCases : Type 0 where
   -- 4. Threads (JMP 0) and (ADDI 1, EXIT 3): schedule 1, 0, 1 runs and ends with 3.
   -- The run's assignment satisfies the table: the jump to itself keeps its statement where it did not run ("Traps in the encoding").
   pub case4 : (simulated set4 [] (1 ∷ 0 ∷ 1 ∷ []) 72 ≡ Ran 3 (Code 3))
-      × (Accepted set4 [] × ((memory : ℕ → ℕ) → IsMemory memory → Model set4 [] 3 (assignmentOf memory (choices (1 ∷ 0 ∷ 1 ∷ [])))))
+      × (Accepted set4 [] × ((memory : ℕ → ℕ) → IsMemory memory → Satisfying set4 [] 3 (assignmentOf memory (choices (1 ∷ 0 ∷ 1 ∷ [])))))
   -- 5. ADDI 1, JZ 2, EXIT 2: yes for K 3.
   pub case5 : Accepted set5 [] × Satisfiable set5 [] 3
   -- 6. accu 65,535, ADDI 1: 0.

@@ -11,22 +11,22 @@ use mathlib.Core.Logic.{_↔_}
 use lib.ListN.{length}
 use Rattle.records.specs.Maps.{mapAccepted, mapped, mapValue}
 use Rattle.records.specs.Sets.{setOf}
-use Rattle.step.specs.Machine.{start}
-use Rattle.step.specs.Runs.{after}
-use Rattle.step.specs.declared.Answer.the-variants.{Ran}
-use Rattle.step.specs.declared.End.the-variants.{Code}
+use Rattle.machine.specs.Machine.{start}
+use Rattle.machine.specs.Runs.{after}
+use Rattle.machine.specs.declared.RunAnswer.the-variants.{Ran}
+use Rattle.machine.specs.declared.End.the-variants.{Code}
 use Rattle.replay.specs.Replay.{replayed}
 use Rattle.table.specs.Values.{Assignment, satisfies}
 use Rattle.encoding.specs.Assignments.{assignmentOf}
 use Rattle.encoding.specs.Encodings.{tableOf}
 use Rattle.decoding.specs.Decodings.{runOf, readsFirst, decodedTrace, decodedMap}
 use Rattle.decoding.specs.Models.{modelFits, assigned}
-use Rattle.claims.specs.Runs.{Bytes}
+use Rattle.claims.specs.Runs.{AreBytes}
 use Rattle.claims.specs.Tables.{Failure, ForAccepted, SatisfiableExactly, OneToOne}
 
 -- Past 11 a model is accepted exactly if its assignment satisfies.
 pub record AcceptedModel (set map : List ℕ) (bound : ℕ) (model : List ℕ) : Type 0 where
-  pub bytes : Bytes model
+  pub bytes : AreBytes model
   pub fits : modelFits (setOf set .threads) bound model ≡ true
   pub satisfied : satisfies (assigned (setOf set .threads) bound model) (tableOf set map bound) ≡ true
 
@@ -51,7 +51,7 @@ pub record Decodes (set map : List ℕ) (bound : ℕ) (g : Assignment) : Type 0 
 -- a trace of at most so many steps that replays to a code other than 0 over some map of at most 256 cells that contains the set's
 pub record ReplaysToFailure (set map : List ℕ) (bound : ℕ) (trace : List ℕ) : Type 0 where
   pub other : List ℕ
-  pub bytes : Bytes other
+  pub bytes : AreBytes other
   pub accepted : mapAccepted 256 other ≡ true
   pub contains : Contains other map
   pub steps : ℕ
@@ -75,4 +75,4 @@ pub record Meaning (set map : List ℕ) (bound : ℕ) : Type 0 where
 
 -- for every accepted set with its map, their records being bytes, and every bound from 1 to 64
 abbrev pub DemandThree : Type 0
-DemandThree = ForAccepted (λ set map bound. Bytes set → Bytes map → Meaning set map bound)
+DemandThree = ForAccepted (λ set map bound. AreBytes set → AreBytes map → Meaning set map bound)

@@ -8,17 +8,17 @@ use mathlib.Core.Logic.{_↔_}
 use lib.ListN.{length}
 use Rattle.records.specs.Maps.{mapValue}
 use Rattle.records.specs.Sets.{setOf}
-use Rattle.step.specs.Machine.{start}
-use Rattle.step.specs.Runs.{choices, isRun, after, endOf}
-use Rattle.step.specs.declared.Answer.the-variants.{Ran}
-use Rattle.step.specs.declared.End.{End}
+use Rattle.machine.specs.Machine.{start}
+use Rattle.machine.specs.Runs.{choices, isRun, after, endOf}
+use Rattle.machine.specs.declared.RunAnswer.the-variants.{Ran}
+use Rattle.machine.specs.declared.End.{End}
 use Rattle.simulation.specs.Simulation.{simulated, scheduleTrace}
 use Rattle.replay.specs.Replay.{replayed}
 
 -- every one of a schedule's numbers is a byte
-abbrev pub Bytes : List ℕ → Type 0
-Bytes [] = Unit {0}
-Bytes (k ∷ schedule) = (k < 256) × Bytes schedule
+abbrev pub AreBytes : List ℕ → Type 0
+AreBytes [] = Unit {0}
+AreBytes (k ∷ schedule) = (k < 256) × AreBytes schedule
 
 -- simulation, lent the room that 11 asks, takes the schedule's n steps to the end e and writes this trace
 pub record Simulates (set map schedule : List ℕ) (n : ℕ) (e : End) (trace : List ℕ) : Type 0 where
@@ -29,12 +29,12 @@ pub record Simulates (set map schedule : List ℕ) (n : ℕ) (e : End) (trace : 
 abbrev pub ReplayAcceptsWhatSimulationWrites : Type 0
 ReplayAcceptsWhatSimulationWrites =
     (set map trace : List ℕ) (n : ℕ) (e : End) →
-    replayed set map trace ≡ Ran n e ↔ ((schedule : List ℕ) × Bytes schedule × Simulates set map schedule n e trace)
+    replayed set map trace ≡ Ran n e ↔ ((schedule : List ℕ) × AreBytes schedule × Simulates set map schedule n e trace)
 
 -- One trace comes from one schedule.
 abbrev pub OneSchedule : Type 0
 OneSchedule =
-    (set map first second trace : List ℕ) (n : ℕ) (e : End) → Bytes first → Bytes second →
+    (set map first second trace : List ℕ) (n : ℕ) (e : End) → AreBytes first → AreBytes second →
     Simulates set map first n e trace → Simulates set map second n e trace → first ≡ second
 
 -- What simulation runs is a run of the machine from a first memory that the map gives: the step count equals the number of steps

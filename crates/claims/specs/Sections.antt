@@ -8,12 +8,12 @@ use lib.Dec.{eqb}
 use lib.ListN.{length, getD}
 use Rattle.base.specs.Below.{number}
 use Rattle.records.specs.Instructions.{isLast}
-use Rattle.lines.specs.Bytes.{name}
-use Rattle.lines.specs.Lines.{lines, isDot, isLabel, padded, statementLine, mapLine}
-use Rattle.lines.specs.declared.Stated.{Stated}
-use Rattle.lines.specs.declared.Cell.{Cell}
+use Rattle.text_lines.specs.Characters.{name}
+use Rattle.text_lines.specs.Lines.{lines, isDot, isLabel, padded, statementLine, mapLine}
+use Rattle.text_lines.specs.declared.Stated.{Stated}
+use Rattle.text_lines.specs.declared.Cell.{Cell}
 use Rattle.text.specs.Sections.{Threads, isGood, halt, threads, cells}
-use Rattle.text.specs.Records.{isNamed, cellAt}
+use Rattle.text.specs.Records.{isNamed, mapCell}
 
 -- ---- lines
 
@@ -49,8 +49,8 @@ abbrev pub holdsStatement : List ℕ → ℕ → ℕ → Bool
 holdsStatement text s i = eqb (sectionOf text i) s && not (isDot (line text i)) && isGood (statementLine (line text i) .form)
 
 -- how many statements of section s stand before line i
-abbrev pub written : List ℕ → ℕ → ℕ → ℕ
-written text s i = number i (holdsStatement text s)
+abbrev pub statementsBefore : List ℕ → ℕ → ℕ → ℕ
+statementsBefore text s i = number i (holdsStatement text s)
 
 -- A thread of which n statements are written gains a HALT where the last is not EXIT, JMP or HALT; an empty one gains none.
 pub record Gains (n count : ℕ) (x : ℕ → Stated) : Type 0 where
@@ -62,10 +62,10 @@ pub record Gains (n count : ℕ) (x : ℕ → Stated) : Type 0 where
 pub record ThreadsOf (text : List ℕ) (T : Threads) : Type 0 where
   pub count : T .ended ≡ sections text
   pub statements : (s i : ℕ) → s < sections text → i < length (lines text) → holdsStatement text s i ≡ true →
-      T .statement s (written text s i) ≡ statementLine (line text i)
-  pub held : (s p : ℕ) → s < sections text → p < written text s (length (lines text)) →
+      T .statement s (statementsBefore text s i) ≡ statementLine (line text i)
+  pub held : (s p : ℕ) → s < sections text → p < statementsBefore text s (length (lines text)) →
       (i : ℕ) × (i < length (lines text)) × (holdsStatement text s i ≡ true) × (T .statement s p ≡ statementLine (line text i))
-  pub ends : (s : ℕ) → s < sections text → Gains (written text s (length (lines text))) (T .count s) (T .statement s)
+  pub ends : (s : ℕ) → s < sections text → Gains (statementsBefore text s (length (lines text))) (T .count s) (T .statement s)
 
 abbrev pub ThreadsAreTheSections : Type 0
 ThreadsAreTheSections = (text : List ℕ) → ThreadsOf text (threads (lines text))
@@ -79,8 +79,8 @@ holdsCell text i = eqb (sectionOf text i) (sections text) && isGood (mapLine (li
 -- The map's cells are those of its lines.
 pub record CellsOf (text : List ℕ) (cs : List Cell) : Type 0 where
   pub count : length cs ≡ number (length (lines text)) (holdsCell text)
-  pub listed : (i : ℕ) → i < length (lines text) → holdsCell text i ≡ true → (k : ℕ) × (k < length cs) × (cellAt cs k ≡ mapLine (line text i))
-  pub held : (k : ℕ) → k < length cs → (i : ℕ) × (i < length (lines text)) × (holdsCell text i ≡ true) × (cellAt cs k ≡ mapLine (line text i))
+  pub listed : (i : ℕ) → i < length (lines text) → holdsCell text i ≡ true → (k : ℕ) × (k < length cs) × (mapCell cs k ≡ mapLine (line text i))
+  pub held : (k : ℕ) → k < length cs → (i : ℕ) × (i < length (lines text)) × (holdsCell text i ≡ true) × (mapCell cs k ≡ mapLine (line text i))
 
 abbrev pub CellsAreTheMap : Type 0
 CellsAreTheMap = (text : List ℕ) → CellsOf text (cells (lines text))

@@ -11,15 +11,15 @@ use lib.ListN.{length}
 use Rattle.records.specs.Instructions.{EXIT}
 use Rattle.records.specs.Maps.{cells, addressAt, valueAt, mapAccepted}
 use Rattle.records.specs.Sets.{Set, setOf, setAccepted}
-use Rattle.step.specs.Machine.{start, current}
-use Rattle.step.specs.Runs.{isRun, after}
-use Rattle.step.specs.declared.Choice.{Choice}
-use Rattle.step.specs.declared.Choice.the-variants.{Execute}
-use Rattle.table.specs.Tables.{WellFormed}
+use Rattle.machine.specs.Machine.{start, current}
+use Rattle.machine.specs.Runs.{isRun, after}
+use Rattle.machine.specs.declared.Choice.{Choice}
+use Rattle.machine.specs.declared.Choice.the-variants.{Execute}
+use Rattle.table.specs.Tables.{WellFormedTable}
 use Rattle.table.specs.Values.{Assignment, satisfies}
 use Rattle.encoding.specs.Assignments.{assignmentOf}
 use Rattle.encoding.specs.Encodings.{tableOf}
-use Rattle.claims.specs.Runs.{Bytes}
+use Rattle.claims.specs.Runs.{AreBytes}
 
 -- ---- memories and runs
 
@@ -56,7 +56,7 @@ pub record IsAssignment (threads bound : ℕ) (g : Assignment) : Type 0 where
   pub isMemory : IsMemory (g .first)
 
 -- an assignment that satisfies the table
-pub record Model (set map : List ℕ) (bound : ℕ) (g : Assignment) : Type 0 where
+pub record Satisfying (set map : List ℕ) (bound : ℕ) (g : Assignment) : Type 0 where
   pub isAssignment : IsAssignment (setOf set .threads) bound g
   pub satisfied : satisfies g (tableOf set map bound) ≡ true
 
@@ -70,15 +70,15 @@ ForAccepted Claim =
 -- F has a satisfying assignment exactly when some first memory that agrees with the map has a failing run.
 abbrev pub SatisfiableExactly : (set map : List ℕ) (bound : ℕ) → Type 0
 SatisfiableExactly set map bound =
-    ((g : Assignment) × Model set map bound g)
+    ((g : Assignment) × Satisfying set map bound g)
     ↔ ((memory : ℕ → ℕ) × ((run : List Choice) × Failure set map bound memory run))
 
 -- Satisfying assignments match such pairs of memory and run one to one.
 pub record OneToOne (set map : List ℕ) (bound : ℕ) : Type 0 where
   -- each pair has its assignment
-  pub model : (memory : ℕ → ℕ) (run : List Choice) → Failure set map bound memory run → Model set map bound (assignmentOf memory run)
+  pub model : (memory : ℕ → ℕ) (run : List Choice) → Failure set map bound memory run → Satisfying set map bound (assignmentOf memory run)
   -- each satisfying assignment is that of a pair
-  pub pair : (g : Assignment) → Model set map bound g →
+  pub pair : (g : Assignment) → Satisfying set map bound g →
       (run : List Choice) × ((g ≡ assignmentOf (g .first) run) × Failure set map bound (g .first) run)
   -- two pairs with one assignment are one
   pub apart : (memory other : ℕ → ℕ) (run another : List Choice) → Failure set map bound memory run → Failure set map bound other another →
@@ -86,7 +86,7 @@ pub record OneToOne (set map : List ℕ) (bound : ℕ) : Type 0 where
 
 -- The table is well formed by document 01's rules.
 abbrev pub TableWellFormed : (set map : List ℕ) (bound : ℕ) → Type 0
-TableWellFormed set map bound = WellFormed (setOf set .threads) bound (cells map) (tableOf set map bound)
+TableWellFormed set map bound = WellFormedTable (setOf set .threads) bound (cells map) (tableOf set map bound)
 
 abbrev pub TableMeansTheProgram : Type 0
 TableMeansTheProgram = ForAccepted SatisfiableExactly
@@ -96,4 +96,4 @@ AssignmentsMatchRuns = ForAccepted OneToOne
 
 -- A set's and a map's records are bytes, as every lent slice is; a list of numbers need not be.
 abbrev pub TablesAreWellFormed : Type 0
-TablesAreWellFormed = ForAccepted (λ set map bound. Bytes set → Bytes map → TableWellFormed set map bound)
+TablesAreWellFormed = ForAccepted (λ set map bound. AreBytes set → AreBytes map → TableWellFormed set map bound)

@@ -11,16 +11,16 @@ use Rattle.records.specs.Instructions.{CHECK, isJump}
 use Rattle.records.specs.Maps.{addressAt, valueAt, mapAccepted}
 use Rattle.records.specs.Maps.{cells as cellsIn}
 use Rattle.records.specs.Sets.{setOf, setAccepted}
-use Rattle.lines.specs.Lines.{lines, isDot, statementLine, mapLine}
-use Rattle.lines.specs.declared.Form.{Form}
-use Rattle.lines.specs.declared.Form.the-variants.{Empty, Malformed, Large, Good}
-use Rattle.lines.specs.declared.Stated.{Stated}
-use Rattle.lines.specs.declared.Cell.{Cell}
+use Rattle.text_lines.specs.Lines.{lines, isDot, statementLine, mapLine}
+use Rattle.text_lines.specs.declared.Form.{Form}
+use Rattle.text_lines.specs.declared.Form.the-variants.{Empty, Malformed, Large, Good}
+use Rattle.text_lines.specs.declared.Stated.{Stated}
+use Rattle.text_lines.specs.declared.Cell.{Cell}
 use Rattle.text.specs.Sections.{Threads, threads, cells}
-use Rattle.text.specs.Records.{isNamed, statements, cellAt, setBytes, mapBytes}
+use Rattle.text.specs.Records.{isNamed, statements, mapCell, setBytes, mapBytes}
 use Rattle.text.specs.Answers.{answer, setOutput, mapOutput}
-use Rattle.text.specs.declared.Answer.{Answer}
-use Rattle.text.specs.declared.Answer.the-variants.{Read, Refused}
+use Rattle.text.specs.declared.ReadAnswer.{ReadAnswer}
+use Rattle.text.specs.declared.ReadAnswer.the-variants.{Read, Refused}
 use Rattle.claims.specs.Sections.{line, sections, sectionOf}
 
 -- ---- the rules, by the row that refuses what breaks them
@@ -77,7 +77,7 @@ CheckpointsFollow T = (eight : List ℕ) × (length eight ≤ 8) × Each T (λ t
 
 -- 8: at most 128 cells, no address doubled
 abbrev pub MapFollows : List Cell → Type 0
-MapFollows cs = (length cs ≤ 128) × ((i j : ℕ) → i < length cs → j < i → cellAt cs j .address ≡ cellAt cs i .address → ⊥)
+MapFollows cs = (length cs ≤ 128) × ((i j : ℕ) → i < length cs → j < i → mapCell cs j .address ≡ mapCell cs i .address → ⊥)
 
 -- a set text follows document 01
 pub record Follows (text : List ℕ) : Type 0 where
@@ -116,7 +116,7 @@ pub record FirstLine (text : List ℕ) (i : ℕ) (form : Form) : Type 0 where
   pub isForm : formOf text i ≡ form
 
 -- Texts: 1, then lines in order, then 4 to 8. Place is the line (from 1) for 2 and 3, else 0. T and cs are the text's threads and cells.
-pub record Refusals (text : List ℕ) (T : Threads) (cs : List Cell) (r : Answer) : Type 0 where
+pub record Refusals (text : List ℕ) (T : Threads) (cs : List Cell) (r : ReadAnswer) : Type 0 where
   pub row1 : (SizeFollows text → ⊥) → r ≡ Refused 1 0
   pub row2 : SizeFollows text → (i : ℕ) → FirstLine text i Malformed → r ≡ Refused 2 (i + 1)
   pub row3 : SizeFollows text → (i : ℕ) → FirstLine text i Large → r ≡ Refused 3 (i + 1)
@@ -145,8 +145,8 @@ pub record SetSays (set : List ℕ) (T : Threads) : Type 0 where
 -- the map's records hold these cells
 pub record MapSays (map : List ℕ) (cs : List Cell) : Type 0 where
   pub count : cellsIn map ≡ length cs
-  pub addresses : (k : ℕ) → k < length cs → addressAt map k ≡ cellAt cs k .address
-  pub values : (k : ℕ) → k < length cs → valueAt map k ≡ cellAt cs k .value
+  pub addresses : (k : ℕ) → k < length cs → addressAt map k ≡ mapCell cs k .address
+  pub values : (k : ℕ) → k < length cs → valueAt map k ≡ mapCell cs k .value
 
 -- the records of a text are accepted and say what it says
 pub record RecordsSay (text : List ℕ) : Type 0 where
@@ -161,15 +161,15 @@ RecordsSayTheText = (text : List ℕ) → Follows text → RecordsSay text
 -- ---- the lent outputs
 
 -- bytes written from an output's start on; those beyond them stay
-pub record Written (bytes before after : List ℕ) : Type 0 where
+pub record WrittenOver (bytes before after : List ℕ) : Type 0 where
   pub start : take (length bytes) after ≡ bytes
   pub beyond : drop (length bytes) after ≡ drop (length bytes) before
   pub size : length after ≡ length before
 
 -- what two lent outputs hold after the answer r
-pub record Outputs (text set map : List ℕ) (r : Answer) : Type 0 where
+pub record Outputs (text set map : List ℕ) (r : ReadAnswer) : Type 0 where
   pub read : Follows text → Room text (length set) (length map) →
-      Written (setBytes (threads (lines text))) set (setOutput r text set) × Written (mapBytes (cells (lines text))) map (mapOutput r text map)
+      WrittenOver (setBytes (threads (lines text))) set (setOutput r text set) × WrittenOver (mapBytes (cells (lines text))) map (mapOutput r text map)
   pub short : (Room text (length set) (length map) → ⊥) → (setOutput r text set ≡ set) × (mapOutput r text map ≡ map)
   pub refused : (Follows text → ⊥) → (setOutput r text set ≡ set) × (mapOutput r text map ≡ map)
 

@@ -11,12 +11,12 @@ use Rattle.base.specs.Bytes.{over}
 use Rattle.base.proofs.Choice.{chosen, and-true}
 use Rattle.records.specs.Maps.{cells}
 use Rattle.records.specs.Sets.{Set}
-use Rattle.step.specs.Machine.{start, noWrite}
-use Rattle.step.specs.Runs.{choices, isRun}
-use Rattle.step.specs.Traces.{trace}
+use Rattle.machine.specs.Machine.{start, noWrite}
+use Rattle.machine.specs.Runs.{choices, isRun}
+use Rattle.machine.specs.Traces.{trace}
 use Rattle.decoding.specs.Decodings.{cellsBelow}
-use Rattle.firsts.specs.Firsts.{firstCell, fits, foundBy, writtenBy}
-use Rattle.firsts.specs.declared.Found.{Found}
+use Rattle.first_cells.specs.Firsts.{firstCell, fits, foundBy, writtenBy}
+use Rattle.first_cells.specs.declared.Found.{Found}
 
 -- a set's map, and a run of at most 64 steps
 pub record Asked (S : Set) (map : List ℕ) (first : ℕ → ℕ) (schedule : List ℕ) : Type 0 where

@@ -13,21 +13,21 @@ use Rattle.base.proofs.Choice.{chosen, passed, and-true, and-left, or-left, or-
 use Rattle.records.specs.Maps.{cells, mapAccepted}
 use Rattle.records.specs.Sets.{setOf}
 use Rattle.table.specs.Formulas.{tableBytes}
-use Rattle.table.specs.Tables.{WellFormed}
+use Rattle.table.specs.Tables.{WellFormedTable}
 use Rattle.table.proofs.Written.{table-length}
 use Rattle.encoding.specs.Encodings.{tableOf}
 use Rattle.encoding.proofs.Bytes.{Bytes}
 use Rattle.encoding.proofs.WellFormed.{well-formed}
 use Rattle.decoding.specs.Models.{bits, listedCells, modelFits, assigned}
 use Rattle.encoder.specs.Answers.{sizeAnswer, encodeAnswer}
-use Rattle.encoder.specs.declared.Answer.the-variants.{Encoded}
+use Rattle.encoder.specs.declared.TableAnswer.the-variants.{Encoded}
 use Rattle.evaluation.specs.Evaluations.{givenBy, falseIn}
 use Rattle.evaluation.proofs.Choices.{small-choices}
 use Rattle.evaluation.proofs.Evaluated.{evaluated}
 use Rattle.decoder.specs.Answers.{falseRecord, judged, modelAnswer, decoded, tooShort, modelDecoding}
-use Rattle.decoder.specs.declared.Answer.the-variants.{Refused}
-use Rattle.decoder.specs.declared.Decoding.{Decoding}
-use Rattle.decoder.specs.declared.Decoding.the-variants.{Refused as Undecoded}
+use Rattle.decoder.specs.declared.CheckAnswer.the-variants.{Refused}
+use Rattle.decoder.specs.declared.DecodeAnswer.{DecodeAnswer}
+use Rattle.decoder.specs.declared.DecodeAnswer.the-variants.{Refused as Undecoded}
 use Rattle.decoder.proofs.Sized.{Sized, sized}
 
 -- a model that fits has all its bits
@@ -65,8 +65,8 @@ module _ (set map : List ℕ) (bound n : ℕ) (e : sizeAnswer set map bound ≡ 
         let b = s .fewSteps in
         let one = s .someStep in
         let l = table-length table in
-        let formed : WellFormed threads bound (cells map) table =
-        subst (λ (T : ℕ). WellFormed T bound (cells map) table) (sym t) (well-formed set map bound bytes mapBytes (omega arith)) in
+        let formed : WellFormedTable threads bound (cells map) table =
+        subst (λ (T : ℕ). WellFormedTable T bound (cells map) table) (sym t) (well-formed set map bound bytes mapBytes (omega arith)) in
         ap (λ (k : ℕ). falseIn (assigned threads bound model) k (over (tableBytes table) work)) p
         ∙ evaluated (assigned threads bound model) table work (omega arith)
         (small-choices threads bound (omega arith) (omega arith) (cells map) table formed) (formed .records) (omega arith) (omega arith)
@@ -96,7 +96,7 @@ module _ (set map : List ℕ) (bound n : ℕ) (e : sizeAnswer set map bound ≡ 
       -- ---- decoding
 
       module _ (traceRoom mapRoom : ℕ) where
-        abbrev answer : Decoding
+        abbrev answer : DecodeAnswer
         answer = modelDecoding set map bound model room traceRoom mapRoom
 
         short-there : (b : Bool) → tooShort n bound room traceRoom mapRoom ≡ b → tooShort (length (tableOf set map bound)) bound room traceRoom mapRoom ≡ b

@@ -15,7 +15,7 @@ use Rattle.table.specs.declared.Formula.{Formula}
 use Rattle.encoding.specs.Encodings.{tableOf}
 use Rattle.decoding.specs.Models.{modelFits, assigned, firstFalse}
 use Rattle.decoder.specs.Answers.{falseRecord, judged, modelAnswer, checkAnswer}
-use Rattle.decoder.specs.declared.Answer.the-variants.{Accepted, Refused}
+use Rattle.decoder.specs.declared.CheckAnswer.the-variants.{Accepted, Refused}
 
 -- a record is found exactly where not all is met
 found-unmet : (values : ℕ → Value) (table : List Formula) (n : ℕ) → ltb (firstFalse values n table) (n + length table) ≡ not (met values table)

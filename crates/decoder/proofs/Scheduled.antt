@@ -12,8 +12,8 @@ use lib.Seq.{take-suc-set}
 use Rattle.base.specs.Below.{some, least}
 use Rattle.base.proofs.Below.{least-ext}
 use Rattle.base.proofs.Choice.{chosen, passed, and-true, or-true, or-false, or-right-true}
-use Rattle.step.specs.Runs.{choiceOf, choices}
-use Rattle.step.specs.declared.Choice.{Choice}
+use Rattle.machine.specs.Runs.{choiceOf, choices}
+use Rattle.machine.specs.declared.Choice.{Choice}
 use Rattle.table.specs.Values.{Assignment}
 use Rattle.decoding.specs.Decodings.{bitAt, choiceNumber, runFrom, runOf}
 use Rattle.decoding.specs.Models.{bitIndex, assigned}

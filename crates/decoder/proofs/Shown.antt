@@ -14,10 +14,10 @@ use Rattle.records.specs.Sets.{setOf, setBy, layoutOf}
 use Rattle.records.specs.declared.Layout.{Layout}
 use Rattle.records.proofs.Layouts.{set-read, few-threads}
 use Rattle.records.proofs.Maps.{few-cells}
-use Rattle.step.specs.Machine.{start, noWrite}
-use Rattle.step.specs.Runs.{choices, isRun}
-use Rattle.step.specs.Traces.{trace}
-use Rattle.step.proofs.Runs.{length-choices}
+use Rattle.machine.specs.Machine.{start, noWrite}
+use Rattle.machine.specs.Runs.{choices, isRun}
+use Rattle.machine.specs.Traces.{trace}
+use Rattle.machine.proofs.Runs.{length-choices}
 use Rattle.table.specs.Values.{Assignment, Value, asBit, isDemand, met, satisfies, valuesOf}
 use Rattle.table.specs.declared.Formula.{Formula}
 use Rattle.encoding.specs.Encodings.{tableOf}
@@ -26,16 +26,16 @@ use Rattle.decoding.specs.Decodings.{runOf, readsFirst, cellsBelow, decodedTrac
 use Rattle.decoding.specs.Models.{listedCells, modelFits, assigned, firstFalse}
 use Rattle.decoding.proofs.Cells.{cells-count}
 use Rattle.decoder.proofs.Given.{Asked, Given}
-use Rattle.firsts.specs.declared.Found.{Found}
+use Rattle.first_cells.specs.declared.Found.{Found}
 use Rattle.claims.specs.Models.{Decodes}
-use Rattle.claims.specs.Runs.{Bytes}
+use Rattle.claims.specs.Runs.{AreBytes}
 use Rattle.claims.proofs.Models.{demandThree}
 use Rattle.decoder.specs.Answers.{falseRecord, decoded}
-use Rattle.decoder.specs.declared.Decoding.the-variants.{Decoded}
+use Rattle.decoder.specs.declared.DecodeAnswer.the-variants.{Decoded}
 use Rattle.decoder.proofs.Sized.{Sized}
 
 -- a list whose numbers are all below 256 is made of bytes
-bytes-of : (xs : List ℕ) → Below xs → Bytes xs
+bytes-of : (xs : List ℕ) → Below xs → AreBytes xs
 bytes-of [] f = tt
 bytes-of (x ∷ xs) f = (f 0, bytes-of xs (λ i. f (suc i)))
 

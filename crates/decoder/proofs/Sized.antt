@@ -11,11 +11,11 @@ use Rattle.records.specs.Maps.{mapAccepted}
 use Rattle.records.specs.Sets.{setAccepted}
 use Rattle.encoding.specs.Encodings.{tableOf}
 use Rattle.encoder.specs.Answers.{sizeAnswer}
-use Rattle.encoder.specs.declared.Answer.{Answer as Size}
-use Rattle.encoder.specs.declared.Answer.the-variants.{Encoded, Refused as Unsized}
+use Rattle.encoder.specs.declared.TableAnswer.{TableAnswer as Size}
+use Rattle.encoder.specs.declared.TableAnswer.the-variants.{Encoded, Refused as Unsized}
 use Rattle.decoder.specs.Answers.{modelAnswer, checkAnswer, modelDecoding, decodeAnswer}
-use Rattle.decoder.specs.declared.Answer.the-variants.{Refused}
-use Rattle.decoder.specs.declared.Decoding.the-variants.{Refused as Undecoded}
+use Rattle.decoder.specs.declared.CheckAnswer.the-variants.{Refused}
+use Rattle.decoder.specs.declared.DecodeAnswer.the-variants.{Refused as Undecoded}
 
 -- ---- the parts of an answer about a size
 

@@ -7,23 +7,23 @@ ghost use lib.ListN.{length, getD, take, replicate};
 ghost use Rattle.base.specs.Below.{every, least};
 ghost use Rattle.base.specs.Bytes.{over};
 ghost use Rattle.records.specs.Sets.{setOf, layoutOf};
-ghost use Rattle.step.specs.Runs.{choiceOf, choices};
+ghost use Rattle.machine.specs.Runs.{choiceOf, choices};
 ghost use Rattle.encoding.specs.Encodings.{tableOf};
 ghost use Rattle.decoding.specs.Decodings.{choiceNumber, runOf, decodedTrace, decodedMap};
 ghost use Rattle.decoding.specs.Models.{modelFits, assigned};
 ghost use Rattle.encoder.specs.Answers.{sizeAnswer};
-ghost use Rattle.encoder.specs.declared.Answer.the-variants.{Encoded};
+ghost use Rattle.encoder.specs.declared.TableAnswer.the-variants.{Encoded};
 ghost use Rattle.decoder.specs.Answers.{falseRecord, modelAnswer, checkAnswer, workAfter, decoded, modelDecoding, decodeAnswer, workLeft, traceLeft, mapLeft};
 use records::Layout;
 
 // What the model check gives: the model is accepted, or the refusal with its number and place.
-pub enum Answer {
+pub enum CheckAnswer {
     Accepted,
     Refused { number: u8, place: u32 },
 }
 
 // What decoding gives: how many steps the run took and the cells of the map, or the refusal with its number and place.
-pub enum Decoding {
+pub enum DecodeAnswer {
     Decoded { steps: u16, cells: u16 },
     Refused { number: u8, place: u32 },
 }
@@ -100,42 +100,42 @@ fn judge(
     threads: u8,
     n: u32,
     work: &mut [u8],
-) -> Answer
+) -> CheckAnswer
     requires { ⌜ (sizeAnswer (now set) (now map) bound ≡ Encoded n) × (threads ≡ setOf (now set) .threads) ⌝ }
     ensures { λ r. ⌜ (r ≡ modelAnswer (now (set .entry)) (now (map .entry)) bound (now (model .entry)) (length (now (work .entry))))
         × (now (work .exit) ≡ workAfter r (now (work .entry))) ⌝ }
 {
     if !model_fits(model, threads, bound as u8) {
-        return Answer::Refused {
+        return CheckAnswer::Refused {
             number: 15,
             place: 0,
         };
     }
     if work.len() < 32 * (n as usize) {
-        return Answer::Refused {
+        return CheckAnswer::Refused {
             number: 11,
             place: 0,
         };
     }
     let index = false_record(set, map, bound, model, threads, n, work);
     if index < n {
-        return Answer::Refused {
+        return CheckAnswer::Refused {
             number: 16,
             place: index,
         };
     }
-    Answer::Accepted
+    CheckAnswer::Accepted
 }
 
 // Checks a model against the table of a set, a map and a bound, in lent work memory.
-pub fn check(set: &[u8], map: &[u8], bound: u64, model: &[u8], work: &mut [u8]) -> Answer
+pub fn check(set: &[u8], map: &[u8], bound: u64, model: &[u8], work: &mut [u8]) -> CheckAnswer
     ensures { λ r. ⌜ (r ≡ checkAnswer (now (set .entry)) (now (map .entry)) bound (now (model .entry)) (length (now (work .entry))))
         × (now (work .exit) ≡ workAfter r (now (work .entry))) ⌝ }
 {
     let layout = records::set::layout(set);
     let size = encoder::table_size(set, map, bound);
     match size {
-        encoder::Answer::Encoded { records } => judge(
+        encoder::TableAnswer::Encoded { records } => judge(
             set,
             map,
             bound,
@@ -144,7 +144,7 @@ pub fn check(set: &[u8], map: &[u8], bound: u64, model: &[u8], work: &mut [u8]) 
             records,
             work,
         ),
-        encoder::Answer::Refused { number, place } => Answer::Refused { number, place },
+        encoder::TableAnswer::Refused { number, place } => CheckAnswer::Refused { number, place },
     }
 }
 
@@ -203,7 +203,7 @@ fn show(
     n: u32,
     trace: &mut [u8],
     found: &mut [u8],
-) -> Decoding
+) -> DecodeAnswer
     requires { ⌜ (sizeAnswer (now set) (now map) bound ≡ Encoded n) × (layout ≡ layoutOf (now set))
         × (modelFits (layout .threads) bound (now model) ≡ true) × (n ≤ falseRecord (assigned (layout .threads) bound (now model)) (tableOf (now set) (now map) bound))
         × (24 * bound ≤ length (now trace)) × (1024 ≤ length (now found)) ⌝ }
@@ -216,7 +216,7 @@ fn show(
     let bits = 2 * (threads as usize) * (steps as usize);
     let mut schedule = [0u8; 64];
     let count = schedule_of(model, threads, steps, &mut schedule);
-    let given = firsts::first_cells(
+    let given = first_cells::first_cells(
         set,
         layout,
         map,
@@ -225,13 +225,13 @@ fn show(
         trace,
         found,
     );
-    Decoding::Decoded {
+    DecodeAnswer::Decoded {
         steps: given.steps,
         cells: given.cells,
     }
 }
 
-// Decoding once 9 and 10 are passed, with the number of the table's records.
+// DecodeAnswer once 9 and 10 are passed, with the number of the table's records.
 fn judge_run(
     set: &[u8],
     map: &[u8],
@@ -242,7 +242,7 @@ fn judge_run(
     work: &mut [u8],
     trace: &mut [u8],
     found: &mut [u8],
-) -> Decoding
+) -> DecodeAnswer
     requires { ⌜ (sizeAnswer (now set) (now map) bound ≡ Encoded n) × (layout ≡ layoutOf (now set)) ⌝ }
     ensures { λ r. ⌜ (r ≡ modelDecoding (now (set .entry)) (now (map .entry)) bound (now (model .entry)) (length (now (work .entry))) (length (now (trace .entry))) (length (now (found .entry))))
         × (now (work .exit) ≡ workLeft r (now (work .entry)))
@@ -252,7 +252,7 @@ fn judge_run(
     let threads = layout.threads;
     let steps = bound as u8;
     if !model_fits(model, threads, steps) {
-        return Decoding::Refused {
+        return DecodeAnswer::Refused {
             number: 15,
             place: 0,
         };
@@ -261,14 +261,14 @@ fn judge_run(
         | (trace.len() < 24 * (steps as usize))
         | (found.len() < 1024);
     if short {
-        return Decoding::Refused {
+        return DecodeAnswer::Refused {
             number: 11,
             place: 0,
         };
     }
     let index = false_record(set, map, bound, model, threads, n, work);
     if index < n {
-        return Decoding::Refused {
+        return DecodeAnswer::Refused {
             number: 16,
             place: index,
         };
@@ -286,7 +286,7 @@ pub fn decode(
     work: &mut [u8],
     trace: &mut [u8],
     found: &mut [u8],
-) -> Decoding
+) -> DecodeAnswer
     ensures { λ r. ⌜ (r ≡ decodeAnswer (now (set .entry)) (now (map .entry)) bound (now (model .entry)) (length (now (work .entry))) (length (now (trace .entry))) (length (now (found .entry))))
         × (now (work .exit) ≡ workLeft r (now (work .entry)))
         × (now (trace .exit) ≡ traceLeft r (now (set .entry)) bound (now (model .entry)) (now (trace .entry)))
@@ -295,7 +295,7 @@ pub fn decode(
     let layout = records::set::layout(set);
     let size = encoder::table_size(set, map, bound);
     match size {
-        encoder::Answer::Encoded { records } => judge_run(
+        encoder::TableAnswer::Encoded { records } => judge_run(
             set,
             map,
             bound,
@@ -306,6 +306,6 @@ pub fn decode(
             trace,
             found,
         ),
-        encoder::Answer::Refused { number, place } => Decoding::Refused { number, place },
+        encoder::TableAnswer::Refused { number, place } => DecodeAnswer::Refused { number, place },
     }
 }

@@ -15,10 +15,10 @@ use Rattle.base.proofs.Below.{every-all}
 use Rattle.base.proofs.Choice.{and-true, and-left, and-right}
 use Rattle.records.specs.Maps.{mapAccepted, mapValue}
 use Rattle.records.specs.Sets.{Set}
-use Rattle.step.specs.Machine.{State}
-use Rattle.step.specs.Runs.{isRun}
-use Rattle.step.specs.Traces.{bit}
-use Rattle.step.specs.declared.Choice.{Choice}
+use Rattle.machine.specs.Machine.{State}
+use Rattle.machine.specs.Runs.{isRun}
+use Rattle.machine.specs.Traces.{bit}
+use Rattle.machine.specs.declared.Choice.{Choice}
 use Rattle.encoding.specs.Assignments.{bitsOf, assignmentOf}
 use Rattle.encoding.proofs.Assigned.{bits-inside}
 use Rattle.encoding.proofs.Bytes.{Bytes}

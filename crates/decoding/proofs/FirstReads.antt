@@ -13,13 +13,13 @@ use Rattle.base.proofs.Choice.{cond-both, and-right, clash}
 use Rattle.records.specs.Instructions.{LOAD, STORE, FENCE, ADD, ADDI, SUB, SUBI, MUL, MULI, MEM, CAS, HALT, EXIT, isMemory}
 use Rattle.records.specs.Sets.{Set}
 use Rattle.records.specs.declared.Statement.{Statement}
-use Rattle.step.specs.Machine.{State, current, actor, acted, written, reads, step}
-use Rattle.step.specs.Machine.{forwards, load, address, takesWord, wordTaken, readsArgument, readsAddress, cellsRead, row, executed, withAccu, casMatches}
-use Rattle.step.specs.Runs.{after}
-use Rattle.step.specs.declared.Choice.{Choice}
-use Rattle.step.specs.declared.Choice.the-variants.{Execute, Flush}
-use Rattle.step.specs.declared.Thread.{Thread}
-use Rattle.step.specs.declared.Written.{Written}
+use Rattle.machine.specs.Machine.{State, current, actor, acted, written, reads, step}
+use Rattle.machine.specs.Machine.{forwards, load, address, takesWord, wordTaken, readsArgument, readsAddress, cellsRead, row, executed, withAccu, casMatches}
+use Rattle.machine.specs.Runs.{after}
+use Rattle.machine.specs.declared.Choice.{Choice}
+use Rattle.machine.specs.declared.Choice.the-variants.{Execute, Flush}
+use Rattle.machine.specs.declared.Thread.{Thread}
+use Rattle.machine.specs.declared.Written.{Written}
 use Rattle.encoding.specs.Checkpoints.{member}
 use Rattle.encoding.proofs.Sorts.{Words}
 use Rattle.decoding.specs.Decodings.{writes, readsFirst}

@@ -9,17 +9,17 @@ use Rattle.base.proofs.Choice.{and-true, and-left, and-right, or-true, or-right
 use Rattle.records.specs.Instructions.{CAS, isMemory}
 use Rattle.records.specs.Sets.{Set}
 use Rattle.records.specs.declared.Statement.{Statement}
-use Rattle.step.specs.Machine.{State, current, permitted, acted, leavesMark, wrote, noWrite, written, memoryAfter, exits, allHalted, reads, step}
-use Rattle.step.specs.Machine.{forwards, address, takesWord, wordTaken, readsArgument, readsAddress, cellsRead, row, nextPc, withPc, executed, casMatches}
-use Rattle.step.specs.Maps.{Held, knowsAll, knownAfter, advanced}
-use Rattle.step.specs.Runs.{takes, isRun, after}
-use Rattle.step.specs.Traces.{shown, traceStep, trace}
-use Rattle.step.specs.declared.Choice.{Choice}
-use Rattle.step.specs.declared.Choice.the-variants.{Execute, Flush}
-use Rattle.step.specs.declared.Thread.{Thread}
-use Rattle.step.specs.declared.Written.{Written}
-use Rattle.step.proofs.Loads.{knows-cells}
-use Rattle.step.proofs.Runs.{AllTaken, outcome-taken, run-first, run-rest}
+use Rattle.machine.specs.Machine.{State, current, permitted, acted, leavesMark, wrote, noWrite, written, memoryAfter, exits, allHalted, reads, step}
+use Rattle.machine.specs.Machine.{forwards, address, takesWord, wordTaken, readsArgument, readsAddress, cellsRead, row, nextPc, withPc, executed, casMatches}
+use Rattle.machine.specs.Maps.{Held, knowsAll, knownAfter, advanced}
+use Rattle.machine.specs.Runs.{takes, isRun, after}
+use Rattle.machine.specs.Traces.{shown, traceStep, trace}
+use Rattle.machine.specs.declared.Choice.{Choice}
+use Rattle.machine.specs.declared.Choice.the-variants.{Execute, Flush}
+use Rattle.machine.specs.declared.Thread.{Thread}
+use Rattle.machine.specs.declared.Written.{Written}
+use Rattle.machine.proofs.Loads.{knows-cells}
+use Rattle.machine.proofs.Runs.{AllTaken, outcome-taken, run-first, run-rest}
 use Rattle.encoding.specs.Checkpoints.{member}
 use Rattle.decoding.specs.Decodings.{writes, readsFirst}
 

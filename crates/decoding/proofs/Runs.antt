@@ -12,11 +12,11 @@ use Rattle.base.specs.Below.{some, least}
 use Rattle.base.proofs.Below.{some-at, least-hit}
 use Rattle.base.proofs.Choice.{chosen, passed, refuted, clash}
 use Rattle.records.specs.Sets.{Set}
-use Rattle.step.specs.Machine.{State, actor, step}
-use Rattle.step.specs.Runs.{isRun}
-use Rattle.step.specs.declared.Choice.{Choice}
-use Rattle.step.specs.declared.Choice.the-variants.{Execute, Flush}
-use Rattle.step.proofs.Runs.{takes-actor, run-first, run-rest}
+use Rattle.machine.specs.Machine.{State, actor, step}
+use Rattle.machine.specs.Runs.{isRun}
+use Rattle.machine.specs.declared.Choice.{Choice}
+use Rattle.machine.specs.declared.Choice.the-variants.{Execute, Flush}
+use Rattle.machine.proofs.Runs.{takes-actor, run-first, run-rest}
 use Rattle.table.specs.Values.{Assignment}
 use Rattle.encoding.specs.Assignments.{named, bitsOf, assignmentOf}
 use Rattle.encoding.proofs.Tests.{some-passes}

@@ -7,11 +7,11 @@ use Rattle.base.specs.Below.{some, least}
 use Rattle.base.specs.Bytes.{word}
 use Rattle.records.specs.Maps.{mapped}
 use Rattle.records.specs.Sets.{Set, setOf}
-use Rattle.step.specs.Machine.{State, start, step, reads, written, noWrite}
-use Rattle.step.specs.Traces.{trace}
-use Rattle.step.specs.declared.Choice.{Choice}
-use Rattle.step.specs.declared.Choice.the-variants.{Execute, Flush}
-use Rattle.step.specs.declared.Written.{Written}
+use Rattle.machine.specs.Machine.{State, start, step, reads, written, noWrite}
+use Rattle.machine.specs.Traces.{trace}
+use Rattle.machine.specs.declared.Choice.{Choice}
+use Rattle.machine.specs.declared.Choice.the-variants.{Execute, Flush}
+use Rattle.machine.specs.declared.Written.{Written}
 use Rattle.table.specs.Values.{Assignment}
 use Rattle.encoding.specs.Checkpoints.{member}
 

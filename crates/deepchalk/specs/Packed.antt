@@ -1,17 +1,17 @@
 -- What each answer is to a caller in C or Rust: one number of 64 bits. Assumes nothing.
 use Prim.Native.Nat.{ℕ, _+_, _*_}
-use Rattle.step.specs.declared.Answer.{Answer}
-use Rattle.step.specs.declared.Answer.the-variants.{Ran, Refused}
-use Rattle.step.specs.declared.End.{End}
-use Rattle.text.specs.declared.Answer.{Answer as Text}
-use Rattle.text.specs.declared.Answer.the-variants.{Read, Refused as Unread}
-use Rattle.step.specs.declared.End.the-variants.{Code, Stuck, Open}
-use Rattle.encoder.specs.declared.Answer.{Answer as Table}
-use Rattle.encoder.specs.declared.Answer.the-variants.{Encoded, Refused as Unencoded}
-use Rattle.decoder.specs.declared.Answer.{Answer as Check}
-use Rattle.decoder.specs.declared.Answer.the-variants.{Accepted, Refused as Unaccepted}
-use Rattle.decoder.specs.declared.Decoding.{Decoding}
-use Rattle.decoder.specs.declared.Decoding.the-variants.{Decoded, Refused as Undecoded}
+use Rattle.machine.specs.declared.RunAnswer.{RunAnswer}
+use Rattle.machine.specs.declared.RunAnswer.the-variants.{Ran, Refused}
+use Rattle.machine.specs.declared.End.{End}
+use Rattle.text.specs.declared.ReadAnswer.{ReadAnswer as Text}
+use Rattle.text.specs.declared.ReadAnswer.the-variants.{Read, Refused as Unread}
+use Rattle.machine.specs.declared.End.the-variants.{Code, Stuck, Open}
+use Rattle.encoder.specs.declared.TableAnswer.{TableAnswer as Table}
+use Rattle.encoder.specs.declared.TableAnswer.the-variants.{Encoded, Refused as Unencoded}
+use Rattle.decoder.specs.declared.CheckAnswer.{CheckAnswer as Check}
+use Rattle.decoder.specs.declared.CheckAnswer.the-variants.{Accepted, Refused as Unaccepted}
+use Rattle.decoder.specs.declared.DecodeAnswer.{DecodeAnswer}
+use Rattle.decoder.specs.declared.DecodeAnswer.the-variants.{Decoded, Refused as Undecoded}
 
 -- the end: 0 for a code, 1 stuck, 2 open
 abbrev pub endNumber : End → ℕ
@@ -27,7 +27,7 @@ endCode Open = 0
 
 -- Bits 0 to 7 are the refusal's number, 0 on success; on a refusal bits 32 to 63 are its place.
 -- On success bits 8 to 15 are the end, 16 to 31 the code and 32 to 47 the steps.
-abbrev pub packed : Answer → ℕ
+abbrev pub packed : RunAnswer → ℕ
 packed (Ran steps end) = 256 * endNumber end + 65536 * endCode end + 4294967296 * steps
 packed (Refused number place) = number + 4294967296 * place
 
@@ -47,6 +47,6 @@ packedCheck Accepted = 0
 packedCheck (Unaccepted number place) = number + 4294967296 * place
 
 -- On success bits 32 to 47 are the steps and 48 to 63 the map cells.
-abbrev pub packedDecoding : Decoding → ℕ
+abbrev pub packedDecoding : DecodeAnswer → ℕ
 packedDecoding (Decoded steps count) = 4294967296 * steps + 281474976710656 * count
 packedDecoding (Undecoded number place) = number + 4294967296 * place

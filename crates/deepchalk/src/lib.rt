@@ -7,15 +7,15 @@ ghost use Rattle.text.specs.Answers.{answer as answerOf, setOutput, mapOutput};
 ghost use Rattle.encoder.specs.Answers.{sizeAnswer, encodeAnswer, tableOutput};
 ghost use Rattle.decoder.specs.Answers.{checkAnswer, workAfter, decodeAnswer, workLeft, traceLeft, mapLeft};
 ghost use Rattle.deepchalk.specs.Packed.{packed, packedRead, packedTable, packedCheck, packedDecoding};
-use step::Answer;
-use step::End;
+use machine::End;
+use machine::RunAnswer;
 
 // An answer as one number.
-fn pack(answer: Answer) -> u64
+fn pack(answer: RunAnswer) -> u64
     ensures { λ r. ⌜ r ≡ packed answer ⌝ }
 {
     match answer {
-        Answer::Ran { steps, end } => {
+        RunAnswer::Ran { steps, end } => {
             let count = 4294967296 * (steps as u64);
             match end {
                 End::Code(code) => 65536 * (code as u64) + count,
@@ -23,51 +23,54 @@ fn pack(answer: Answer) -> u64
                 End::Open => 512 + count,
             }
         }
-        Answer::Refused { number, place } => (number as u64) + 4294967296 * (place as u64),
+        RunAnswer::Refused { number, place } => (number as u64) + 4294967296 * (place as u64),
     }
 }
 
 // The answer of reading as one number.
-fn pack_read(answer: text::Answer) -> u64
+fn pack_read(answer: text::ReadAnswer) -> u64
     ensures { λ r. ⌜ r ≡ packedRead answer ⌝ }
 {
     match answer {
-        text::Answer::Read { statements, cells } => {
+        text::ReadAnswer::Read { statements, cells } => {
             65536 * (statements as u64) + 4294967296 * (cells as u64)
         }
-        text::Answer::Refused { number, place } => (number as u64) + 4294967296 * (place as u64),
+        text::ReadAnswer::Refused { number, place } => (number as u64)
+            + 4294967296 * (place as u64),
     }
 }
 
 // The answer of the encoder as one number.
-fn pack_table(answer: encoder::Answer) -> u64
+fn pack_table(answer: encoder::TableAnswer) -> u64
     ensures { λ r. ⌜ r ≡ packedTable answer ⌝ }
 {
     match answer {
-        encoder::Answer::Encoded { records } => 4294967296 * (records as u64),
-        encoder::Answer::Refused { number, place } => (number as u64) + 4294967296 * (place as u64),
+        encoder::TableAnswer::Encoded { records } => 4294967296 * (records as u64),
+        encoder::TableAnswer::Refused { number, place } => (number as u64)
+            + 4294967296 * (place as u64),
     }
 }
 
 // The answer of the model check as one number.
-fn pack_check(answer: decoder::Answer) -> u64
+fn pack_check(answer: decoder::CheckAnswer) -> u64
     ensures { λ r. ⌜ r ≡ packedCheck answer ⌝ }
 {
     match answer {
-        decoder::Answer::Accepted => 0,
-        decoder::Answer::Refused { number, place } => (number as u64) + 4294967296 * (place as u64),
+        decoder::CheckAnswer::Accepted => 0,
+        decoder::CheckAnswer::Refused { number, place } => (number as u64)
+            + 4294967296 * (place as u64),
     }
 }
 
 // The answer of decoding as one number.
-fn pack_decoding(answer: decoder::Decoding) -> u64
+fn pack_decoding(answer: decoder::DecodeAnswer) -> u64
     ensures { λ r. ⌜ r ≡ packedDecoding answer ⌝ }
 {
     match answer {
-        decoder::Decoding::Decoded { steps, cells } => {
+        decoder::DecodeAnswer::Decoded { steps, cells } => {
             4294967296 * (steps as u64) + 281474976710656 * (cells as u64)
         }
-        decoder::Decoding::Refused { number, place } => {
+        decoder::DecodeAnswer::Refused { number, place } => {
             (number as u64) + 4294967296 * (place as u64)
         }
     }

@@ -21,14 +21,15 @@ use Rattle.encoding.specs.Slots.{Slot}
 use Rattle.encoding.proofs.Begun.{start-below}
 use Rattle.encoding.proofs.Distinct.{first-checkpoints-differ}
 use Rattle.encoding.proofs.Listed.{few}
-use Rattle.lists.specs.Tables.{Distinct}
-use Rattle.places.specs.Places.{listed, size}
-use Rattle.places.specs.declared.Points.{Points}
-use Rattle.places.proofs.Starts.{place-replicate}
+use Rattle.set_index.specs.Tables.{Distinct}
+use Rattle.encoder_slots.specs.Places.{size}
+use Rattle.set_index.specs.Points.{listed}
+use Rattle.set_index.specs.declared.points.Points.{Points}
+use Rattle.encoder_slots.proofs.Starts.{place-replicate}
 use Rattle.encoder.specs.Answers.{checked}
-use Rattle.places.specs.Pieces.{Limits}
-use Rattle.encoder.specs.declared.Answer.{Answer}
-use Rattle.encoder.specs.declared.Answer.the-variants.{Refused}
+use Rattle.encoder_slots.specs.Pieces.{Limits}
+use Rattle.encoder.specs.declared.TableAnswer.{TableAnswer}
+use Rattle.encoder.specs.declared.TableAnswer.the-variants.{Refused}
 
 module _ (set : List ℕ) (layout : Layout) (points : Points) (ok : setAccepted set ≡ true) (l : layout ≡ layoutOf set)
     (p : listed points ≡ take 8 (checkpoints (setBy set layout))) where
@@ -64,7 +65,7 @@ module _ (set : List ℕ) (layout : Layout) (points : Points) (ok : setAccepted 
 
 -- ---- the refusals before the table
 
-module _ (set map : List ℕ) (bound : ℕ) (rest : Answer) where
+module _ (set map : List ℕ) (bound : ℕ) (rest : TableAnswer) where
   pub set-refused : setAccepted set ≡ false → checked set map bound rest ≡ Refused 9 0
   set-refused e = passed _ _ (and-false (mapAccepted 128 map) e)
 

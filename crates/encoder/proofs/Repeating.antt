@@ -25,10 +25,10 @@ use Rattle.encoding.proofs.Leaves.{AllOperate, rest-operates}
 use Rattle.encoding.proofs.Repeats.{stride as strideOf, both, afterChoices, step-next, step-size, step-records, placesAt, indexAt, index-at, limit, bounded, repeats, far-ahead}
 use Rattle.encoding.proofs.Sources.{steady}
 use Rattle.encoding.proofs.Split.{chosenPlaces, rest, choiceLeaf}
-use Rattle.places.specs.Places.{placeOf, size}
-use Rattle.places.specs.Pieces.{Writes}
+use Rattle.encoder_slots.specs.Places.{placeOf, size}
+use Rattle.encoder_slots.specs.Pieces.{Writes}
 use Rattle.encoder.specs.Repeating.{Started, Stepped, Ended}
-use Rattle.places.proofs.Pieces.{written-cut}
+use Rattle.encoder_slots.proofs.Pieces.{written-cut}
 use Rattle.encoder.proofs.Sizes.{early, encoded-bytes, steps-end}
 
 -- ---- the records of a step
@@ -237,11 +237,11 @@ module _ (S : Set) (cs : List ℕ) (start : Slot → ℕ) (threads first stride 
 
 -- ---- the whole table
 
-pub encoded-ended : (S : Set) (cs map : List ℕ) (bound : ℕ) (out begun out1 slots1 : List ℕ) (first : ℕ) (out2 : List ℕ) (next codeAt noughtAt : ℕ) (out3 : List ℕ) →
-    begun ≡ writtenAt out 0 firsts → Writes (early S cs map) begun (replicate size 0) 4 out1 slots1 first → Ended S cs (placeOf slots1) first bound out1 out2 next codeAt noughtAt →
+pub encoded-ended : (S : Set) (cs map : List ℕ) (bound : ℕ) (out begun out1 slots1 : List ℕ) (first : ℕ) (out2 : List ℕ) (next codeAt wordZeroAt : ℕ) (out3 : List ℕ) →
+    begun ≡ writtenAt out 0 firsts → Writes (early S cs map) begun (replicate size 0) 4 out1 slots1 first → Ended S cs (placeOf slots1) first bound out1 out2 next codeAt wordZeroAt →
     out3 ≡ writtenAt out2 next (compiled same (placesAfter same (placeOf slots1) first (upto (step S cs) bound)) next (aims goalTree ∷ [])) →
     out3 ≡ writtenAt out 0 (encoded S cs map bound)
-encoded-ended S cs map bound out begun out1 slots1 first out2 next codeAt noughtAt out3 b w e g =
+encoded-ended S cs map bound out begun out1 slots1 first out2 next codeAt wordZeroAt out3 b w e g =
     let rest = upto (step S cs) bound ++ (aims goalTree ∷ []) in
     encoded-bytes S cs map bound out begun out3 b
     (written-cut (early S cs map) rest (placeOf (replicate size 0)) begun 4 out1 first out3 (w .written) (w .next)

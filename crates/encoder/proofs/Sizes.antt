@@ -13,8 +13,8 @@ use Rattle.table.proofs.Written.{written-++}
 use Rattle.encoding.specs.Encodings.{mapDemand, goalTree, starting, program, firsts, encoded}
 use Rattle.encoding.specs.Slots.{Slot, same, startPlace}
 use Rattle.encoding.specs.Steps.{step}
-use Rattle.places.specs.Places.{placeOf, size}
-use Rattle.places.proofs.Starts.{place-replicate}
+use Rattle.encoder_slots.specs.Places.{placeOf, size}
+use Rattle.encoder_slots.proofs.Starts.{place-replicate}
 
 module _ (S : Set) (cs : List ℕ) where
   -- what stands before the steps

@@ -9,25 +9,25 @@ use Rattle.records.specs.Maps.{mapAccepted}
 use Rattle.records.specs.Sets.{setAccepted}
 use Rattle.table.specs.Formulas.{tableBytes}
 use Rattle.encoding.specs.Encodings.{tableOf}
-use Rattle.encoder.specs.declared.Answer.{Answer}
-use Rattle.encoder.specs.declared.Answer.the-variants.{Encoded, Refused}
+use Rattle.encoder.specs.declared.TableAnswer.{TableAnswer}
+use Rattle.encoder.specs.declared.TableAnswer.the-variants.{Encoded, Refused}
 
 -- 9, set or map records not as document 01 has them; 10, a bound not 1 to 64; else what comes after
-abbrev pub checked : (set map : List ℕ) (bound : ℕ) → Answer → Answer
+abbrev pub checked : (set map : List ℕ) (bound : ℕ) → TableAnswer → TableAnswer
 checked set map bound rest =
     cond (setAccepted set && mapAccepted 128 map) (cond (ltb 0 bound && leb bound 64) rest (Refused 10 0)) (Refused 9 0)
 
 -- how many records the table has
-unfoldable pub sizeAnswer : (set map : List ℕ) (bound : ℕ) → Answer
+unfoldable pub sizeAnswer : (set map : List ℕ) (bound : ℕ) → TableAnswer
 sizeAnswer set map bound = checked set map bound (Encoded (length (tableOf set map bound)))
 
 -- 11, an output below 16 bytes a record
-unfoldable pub encodeAnswer : (set map : List ℕ) (bound room : ℕ) → Answer
+unfoldable pub encodeAnswer : (set map : List ℕ) (bound room : ℕ) → TableAnswer
 encodeAnswer set map bound room =
     checked set map bound
     (cond (ltb room (16 * length (tableOf set map bound))) (Refused 11 0) (Encoded (length (tableOf set map bound))))
 
 -- the output afterwards: the table's bytes over its start, and as it was where the call is refused
-abbrev pub tableOutput : Answer → (set map : List ℕ) (bound : ℕ) (out : List ℕ) → List ℕ
+abbrev pub tableOutput : TableAnswer → (set map : List ℕ) (bound : ℕ) (out : List ℕ) → List ℕ
 tableOutput (Encoded records) set map bound out = over (tableBytes (tableOf set map bound)) out
 tableOutput (Refused number place) set map bound out = out

@@ -20,7 +20,7 @@ pub record Stepped (S : Set) (cs : List ℕ) (start : Slot → ℕ) (first k : �
   pub next : after ≡ nextAfter same first (upto (step S cs) k)
 
 -- the same, with where the code and the word 0 lie after them
-pub record Ended (S : Set) (cs : List ℕ) (start : Slot → ℕ) (first k : ℕ) (out outAfter : List ℕ) (after codeAt noughtAt : ℕ) : Type 0 where
+pub record Ended (S : Set) (cs : List ℕ) (start : Slot → ℕ) (first k : ℕ) (out outAfter : List ℕ) (after codeAt wordZeroAt : ℕ) : Type 0 where
   pub stepped : Stepped S cs start first k out outAfter after
   pub codeIs : codeAt ≡ placesAfter same start first (upto (step S cs) k) (only code)
-  pub noughtIs : noughtAt ≡ placesAfter same start first (upto (step S cs) k) word0
+  pub wordZeroIs : wordZeroAt ≡ placesAfter same start first (upto (step S cs) k) word0

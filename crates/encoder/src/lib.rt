@@ -13,22 +13,23 @@ ghost use Rattle.table.specs.Programs.{leafFormula, choiceBit, aims, upto, comp
 ghost use Rattle.encoding.specs.Encodings.{mapDemand, starting, goalTree, firsts as firstsOf, encoded as encodedOf};
 ghost use Rattle.encoding.specs.Slots.{Slot, same, code as codeKind};
 ghost use Rattle.encoding.specs.Steps.{only, word0, step as stepOf};
-ghost use Rattle.places.specs.Places.{placeOf, listed, size as placesCount};
-ghost use Rattle.lists.specs.Tables.{ListTable, Distinct};
-ghost use Rattle.members.specs.Members.{Members};
+ghost use Rattle.encoder_slots.specs.Places.{placeOf, size as placesCount};
+ghost use Rattle.set_index.specs.Points.{listed};
+ghost use Rattle.set_index.specs.Tables.{ListTable, Distinct};
+ghost use Rattle.set_index.specs.Members.{Members};
 ghost use Rattle.encoder.specs.Answers.{sizeAnswer, encodeAnswer, tableOutput};
-ghost use Rattle.places.specs.Pieces.{Writes, Limits};
-ghost use Rattle.places.specs.Idle.{Idle};
+ghost use Rattle.encoder_slots.specs.Pieces.{Writes, Limits};
+ghost use Rattle.encoder_slots.specs.Idle.{Idle};
 ghost use Rattle.encoder.specs.Repeating.{Started, Stepped, Ended};
-use places::Points;
-use places::kinds::CODE;
-use places::kinds::HEAP;
-use places::kinds::NOUGHT;
+use encoder_slots::kinds::CODE;
+use encoder_slots::kinds::SHARED_MEMORY;
+use encoder_slots::kinds::WORD_ZERO;
 use records::Layout;
+use set_index::points::Points;
 use table::Formula;
 
 // What a call gives: how many records the table has, or the refusal with its number and place.
-pub enum Answer {
+pub enum TableAnswer {
     Encoded { records: u32 },
     Refused { number: u8, place: u32 },
 }
@@ -55,7 +56,7 @@ fn steps(
     let mut next = n;
     let mut k: u8 = 0;
     while k < bound {
-        next = blocks::one_step(set, layout, points, members, lists, slots, out, k, next);
+        next = encoder_step::one_step(set, layout, points, members, lists, slots, out, k, next);
         k += 1;
     }
     next
@@ -109,7 +110,7 @@ fn demand(map: &[u8], slots: &[u32], out: &mut [u8], j: u32, n: u32) -> u32
         operation: 12,
         sort: 2,
         constant: 0,
-        a: places::place(slots, HEAP, 0, 0, 3),
+        a: encoder_slots::place(slots, SHARED_MEMORY, 0, 0, 3),
         b: at,
         c: 0,
     };
@@ -177,14 +178,14 @@ fn before_steps(
         (now (out .entry)) (now (slots .entry)) 4 (now (out .exit)) (now (slots .exit)) r)
         × (r ≤ 9860) ⌝ }
 {
-    let all = blocks::shared(set, layout, members, slots, out, 4);
+    let all = encoder_step::shared(set, layout, members, slots, out, 4);
     demands(map, slots, out, all)
 }
 
 // Writes the goal: the code is not 0.
-fn goal(out: &mut [u8], n: u32, code: u64, nought: u64)
+fn goal(out: &mut [u8], n: u32, code: u64, zero: u64)
     requires { ⌜ n ≤ 2000000000 ⌝ }
-    ensures { λ _. ⌜ ((places : Slot → ℕ) → code ≡ places (only codeKind) → nought ≡ places word0
+    ensures { λ _. ⌜ ((places : Slot → ℕ) → code ≡ places (only codeKind) → zero ≡ places word0
         → now (out .exit) ≡ writtenAt (now (out .entry)) n (compiled same places n (aims goalTree ∷ []))) ⌝ }
 {
     let at = n as u64;
@@ -193,7 +194,7 @@ fn goal(out: &mut [u8], n: u32, code: u64, nought: u64)
         sort: 1,
         constant: 0,
         a: code,
-        b: nought,
+        b: zero,
         c: 0,
     };
     let not = Formula {
@@ -303,7 +304,7 @@ fn further(x: u64, first: u32, distance: u64) -> u64
 struct Last {
     next: u32,
     code: u64,
-    nought: u64,
+    zero: u64,
 }
 
 // Writes steps for themselves.
@@ -320,7 +321,7 @@ fn few_steps(
 ) -> Last
     requires { ⌜ (Limits layout points (now slots) first) × (first ≤ 10000) × (bound ≤ 64) × (Members (setBy (now set) layout) (now members)) × (ListTable (setBy (now set) layout) (listed points) (now lists)) × (Idle (setBy (now set) layout) (placeOf (now slots))) ⌝ }
     ensures { λ r. ⌜ (Ended (setBy (now (set .entry)) layout) (listed points) (placeOf (now (slots .entry))) first bound
-        (now (out .entry)) (now (out .exit)) (r .next) (r .code) (r .nought))
+        (now (out .entry)) (now (out .exit)) (r .next) (r .code) (r .zero))
         × (r .next ≤ 25000000) ⌝ }
 {
     let next = steps(
@@ -336,19 +337,19 @@ fn few_steps(
     );
     Last {
         next,
-        code: places::place(slots, CODE, 0, 0, 2),
-        nought: places::place(slots, NOUGHT, 0, 0, 2),
+        code: encoder_slots::place(slots, CODE, 0, 0, 2),
+        zero: encoder_slots::place(slots, WORD_ZERO, 0, 0, 2),
     }
 }
 
 // Writes the steps after the second, which repeat the one before.
 fn later_steps(threads: u8, out: &mut [u8], bound: u8, first: u32, second: Last) -> Last
     requires { ⌜ (threads ≤ 4) × (2 ≤ bound) × (bound ≤ 64) × (first + 4 * threads ≤ second .next) × (second .next ≤ 25000000)
-        × (second .code ≤ 4294967296) × (second .nought ≤ 4294967296) ⌝ }
+        × (second .code ≤ 4294967296) × (second .zero ≤ 4294967296) ⌝ }
     ensures { λ r. ⌜ ((S : Set) (cs : List ℕ) (start : Slot → ℕ) (begun : List ℕ) → S .threads ≡ threads → ((s : Slot) → start s < first)
         → 16 * nextAfter same first (upto (stepOf S cs) bound) ≤ length begun
-        → Ended S cs start first 2 begun (now (out .entry)) (second .next) (second .code) (second .nought)
-        → Ended S cs start first bound begun (now (out .exit)) (r .next) (r .code) (r .nought))
+        → Ended S cs start first 2 begun (now (out .entry)) (second .next) (second .code) (second .zero)
+        → Ended S cs start first bound begun (now (out .exit)) (r .next) (r .code) (r .zero))
         × (r .next ≤ 900000000) ⌝ }
 {
     let next = second.next;
@@ -357,7 +358,7 @@ fn later_steps(threads: u8, out: &mut [u8], bound: u8, first: u32, second: Last)
     Last {
         next: repeated_steps(threads, out, bound, first, stride, next),
         code: further(second.code, first, distance),
-        nought: further(second.nought, first, distance),
+        zero: further(second.zero, first, distance),
     }
 }
 
@@ -376,7 +377,7 @@ fn all_steps(
     requires { ⌜ (Limits layout points (now slots) first) × (first ≤ 10000) × (bound ≤ 64) × (Members (setBy (now set) layout) (now members)) × (ListTable (setBy (now set) layout) (listed points) (now lists))
         × (16 * nextAfter same first (upto (stepOf (setBy (now set) layout) (listed points)) bound) ≤ length (now out)) × (Idle (setBy (now set) layout) (placeOf (now slots))) ⌝ }
     ensures { λ r. ⌜ (Ended (setBy (now (set .entry)) layout) (listed points) (placeOf (now (slots .entry))) first bound
-        (now (out .entry)) (now (out .exit)) (r .next) (r .code) (r .nought))
+        (now (out .entry)) (now (out .exit)) (r .next) (r .code) (r .zero))
         × (r .next ≤ 900000000) ⌝ }
 {
     if bound <= 2 {
@@ -406,9 +407,9 @@ fn write(set: &[u8], layout: Layout, points: Points, map: &[u8], bound: u8, tabl
     ensures { λ _. ⌜ now (table .exit) ≡ writtenAt (now (table .entry)) 0 (encodedOf (setBy (now (set .entry)) layout) (listed points) (now (map .entry)) bound) ⌝ }
 {
     let mut members = [0u8; 1452];
-    members::make(set, layout, &mut members);
+    set_index::members::make(set, layout, &mut members);
     let mut lists = [32u8; 416];
-    lists::make(set, layout, points, &members, &mut lists);
+    set_index::lists::make(set, layout, points, &members, &mut lists);
     let mut slots = [0u32; 2304];
     firsts(table);
     let first = before_steps(set, layout, points, &members, map, &mut slots, table);
@@ -423,75 +424,81 @@ fn write(set: &[u8], layout: Layout, points: Points, map: &[u8], bound: u8, tabl
         bound,
         first,
     );
-    goal(table, last.next, last.code, last.nought);
+    goal(table, last.next, last.code, last.zero);
 }
 
 // ---- the calls
 
 // The size once set and map are accepted.
-fn accepted_size(set: &[u8], layout: Layout, map: &[u8], bound: u64) -> Answer
+fn accepted_size(set: &[u8], layout: Layout, map: &[u8], bound: u64) -> TableAnswer
     requires { ⌜ (setAccepted (now set) ≡ true) × (mapAccepted 128 (now map) ≡ true) × (layout ≡ layoutOf (now set)) ⌝ }
     ensures { λ r. ⌜ r ≡ sizeAnswer (now (set .entry)) (now (map .entry)) bound ⌝ }
 {
     if bound == 0 {
-        return Answer::Refused {
+        return TableAnswer::Refused {
             number: 10,
             place: 0,
         };
     }
     if 64 < bound {
-        return Answer::Refused {
+        return TableAnswer::Refused {
             number: 10,
             place: 0,
         };
     }
-    let points = checkpoints::points(set, layout);
-    let records = sizes::table_records(set, layout, points, map, bound as u8);
-    Answer::Encoded {
+    let points = set_index::points::of_set(set, layout);
+    let records = encoder_size::table_records(set, layout, points, map, bound as u8);
+    TableAnswer::Encoded {
         records: records as u32,
     }
 }
 
 // The table once set and map are accepted.
-fn accepted_encode(set: &[u8], layout: Layout, map: &[u8], bound: u64, table: &mut [u8]) -> Answer
+fn accepted_encode(
+    set: &[u8],
+    layout: Layout,
+    map: &[u8],
+    bound: u64,
+    table: &mut [u8],
+) -> TableAnswer
     requires { ⌜ (setAccepted (now set) ≡ true) × (mapAccepted 128 (now map) ≡ true) × (layout ≡ layoutOf (now set)) ⌝ }
     ensures { λ r. ⌜ (r ≡ encodeAnswer (now (set .entry)) (now (map .entry)) bound (length (now (table .entry))))
         × (now (table .exit) ≡ tableOutput r (now (set .entry)) (now (map .entry)) bound (now (table .entry))) ⌝ }
 {
     if bound == 0 {
-        return Answer::Refused {
+        return TableAnswer::Refused {
             number: 10,
             place: 0,
         };
     }
     if 64 < bound {
-        return Answer::Refused {
+        return TableAnswer::Refused {
             number: 10,
             place: 0,
         };
     }
-    let points = checkpoints::points(set, layout);
+    let points = set_index::points::of_set(set, layout);
     let steps = bound as u8;
-    let records = sizes::table_records(set, layout, points, map, steps);
+    let records = encoder_size::table_records(set, layout, points, map, steps);
     if (table.len() as u64) < 16 * records {
-        return Answer::Refused {
+        return TableAnswer::Refused {
             number: 11,
             place: 0,
         };
     }
     write(set, layout, points, map, steps, table);
-    Answer::Encoded {
+    TableAnswer::Encoded {
         records: records as u32,
     }
 }
 
 // How many records the table of a set, a map and a bound has.
-pub fn table_size(set: &[u8], map: &[u8], bound: u64) -> Answer
+pub fn table_size(set: &[u8], map: &[u8], bound: u64) -> TableAnswer
     ensures { λ r. ⌜ r ≡ sizeAnswer (now (set .entry)) (now (map .entry)) bound ⌝ }
 {
     let layout = records::set::layout(set);
     if layout.threads == 0 {
-        return Answer::Refused {
+        return TableAnswer::Refused {
             number: 9,
             place: 0,
         };
@@ -499,20 +506,20 @@ pub fn table_size(set: &[u8], map: &[u8], bound: u64) -> Answer
     if records::map::map_accepted(map, 128) {
         return accepted_size(set, layout, map, bound);
     }
-    Answer::Refused {
+    TableAnswer::Refused {
         number: 9,
         place: 0,
     }
 }
 
 // Writes the table of a set, a map and a bound.
-pub fn encode(set: &[u8], map: &[u8], bound: u64, table: &mut [u8]) -> Answer
+pub fn encode(set: &[u8], map: &[u8], bound: u64, table: &mut [u8]) -> TableAnswer
     ensures { λ r. ⌜ (r ≡ encodeAnswer (now (set .entry)) (now (map .entry)) bound (length (now (table .entry))))
         × (now (table .exit) ≡ tableOutput r (now (set .entry)) (now (map .entry)) bound (now (table .entry))) ⌝ }
 {
     let layout = records::set::layout(set);
     if layout.threads == 0 {
-        return Answer::Refused {
+        return TableAnswer::Refused {
             number: 9,
             place: 0,
         };
@@ -520,7 +527,7 @@ pub fn encode(set: &[u8], map: &[u8], bound: u64, table: &mut [u8]) -> Answer
     if records::map::map_accepted(map, 128) {
         return accepted_encode(set, layout, map, bound, table);
     }
-    Answer::Refused {
+    TableAnswer::Refused {
         number: 9,
         place: 0,
     }

@@ -10,10 +10,10 @@ use lib.Dec.{eqb, ltb}
 use Rattle.base.proofs.Choice.{and-true, and-left, and-right-false, and-yes, passed}
 use Rattle.records.specs.Sets.{Set, nothing}
 use Rattle.records.specs.declared.Statement.{Statement}
-use Rattle.step.specs.Machine.{State, current, executed, flushed, permitted, actor, acted, threadsAfter}
-use Rattle.step.specs.declared.Choice.{Choice}
-use Rattle.step.specs.declared.Choice.the-variants.{Execute, Flush}
-use Rattle.step.specs.declared.Thread.{Thread}
+use Rattle.machine.specs.Machine.{State, current, executed, flushed, permitted, actor, acted, threadsAfter}
+use Rattle.machine.specs.declared.Choice.{Choice}
+use Rattle.machine.specs.declared.Choice.the-variants.{Execute, Flush}
+use Rattle.machine.specs.declared.Thread.{Thread}
 use Rattle.table.specs.Values.{Assignment, Value, bit, asBit}
 use Rattle.encoding.specs.Assignments.{named}
 use Rattle.encoding.specs.Slots.{active, Slot, slot}
@@ -77,7 +77,7 @@ module _ (S : Set) (cs : List ℕ) (g : Assignment) (k : ℕ) (slots : Slot → 
   -- the thread that acts is there
   pub actor-below : actor c < S .threads
   unfolding permitted
-  actor-below = go c (given .may)
+  actor-below = go c (given .isPermitted)
     where
       go : (c : Choice) → permitted S s c ≡ true → actor c < S .threads
       go (Execute t) h = ltb-true t (S .threads) (and-left _ _ (and-left _ _ (and-left _ _ h)))

@@ -8,10 +8,10 @@ use lib.Dec.{eqb}
 use Rattle.base.proofs.Choice.{cond-both}
 use Rattle.records.specs.Sets.{Set}
 use Rattle.table.specs.Formulas.{wordSort, memorySort}
-use Rattle.table.specs.Programs.{holds}
+use Rattle.table.specs.Programs.{programHolds}
 use Rattle.table.specs.Values.{Assignment, Value, satisfies}
 use Rattle.table.proofs.Meaning.{startValue, means}
-use Rattle.encoding.specs.Slots.{yes, flag, Slot, slot, same, kindNumber, kindSort, startPlace}
+use Rattle.encoding.specs.Slots.{bitOne, flag, Slot, slot, same, kindNumber, kindSort, startPlace}
 use Rattle.encoding.specs.Encodings.{encoded, program}
 
 -- every slot lies in one of the first four records
@@ -21,7 +21,7 @@ start-below (slot k a b) =
     let second : 1 < 4 = omega arith in
     let third : 2 < 4 = omega arith in
     let fourth : 3 < 4 = omega arith in
-    cond-both (λ (n : ℕ). n < 4) (eqb (kindNumber k) (kindNumber yes) || eqb (kindNumber k) (kindNumber flag) && eqb b 0) second
+    cond-both (λ (n : ℕ). n < 4) (eqb (kindNumber k) (kindNumber bitOne) || eqb (kindNumber k) (kindNumber flag) && eqb b 0) second
     (cond-both (λ (n : ℕ). n < 4) (eqb (kindSort k) memorySort) fourth
     (cond-both (λ (n : ℕ). n < 4) (eqb (kindSort k) wordSort) third first))
 
@@ -30,6 +30,6 @@ abbrev pub startValues : Assignment → Slot → Value
 startValues g s = startValue g (startPlace s)
 
 pub begun : (g : Assignment) (S : Set) (cs map : List ℕ) (bound : ℕ) →
-    satisfies g (encoded S cs map bound) ≡ holds same g (startValues g) (program S cs map bound)
+    satisfies g (encoded S cs map bound) ≡ programHolds same g (startValues g) (program S cs map bound)
 unfolding encoded
 begun g S cs map bound = means same g (program S cs map bound) startPlace start-below (startValues g) (λ s. refl)

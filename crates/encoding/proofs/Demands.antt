@@ -8,7 +8,7 @@ use native.Mathlib.Omega.{arith}
 use lib.Dec.{eqb}
 use Rattle.base.proofs.Choice.{cond-both, and-true, and-yes}
 use Rattle.records.specs.Sets.{Set}
-use Rattle.table.specs.Programs.{treeValue, Command, needs, aims, upto, valuesAfter, holds}
+use Rattle.table.specs.Programs.{treeValue, Command, needs, aims, upto, valuesAfter, programHolds}
 use Rattle.table.specs.Values.{Assignment, Value, asBit, asWord}
 use Rattle.table.proofs.Sequences.{values-++, holds-++}
 use Rattle.encoding.specs.Slots.{Kind, code, Slot, same, kindAt}
@@ -19,17 +19,17 @@ use Rattle.encoding.specs.Steps.{only, word0, shape, rows, columns, kept
 
 module _ (g : Assignment) where
   abbrev pub NoDemand : List (Command Slot) → Type 0
-  NoDemand program = (slots : Slot → Value) → holds same g slots program ≡ true
+  NoDemand program = (slots : Slot → Value) → programHolds same g slots program ≡ true
 
   no-demand-upto : (f : ℕ → List (Command Slot)) (n : ℕ) → ((i : ℕ) → NoDemand (f i)) → NoDemand (upto f n)
-  unfolding upto holds
+  unfolding upto programHolds
   no-demand-upto f zero free slots = refl
   no-demand-upto f (suc n) free slots =
       holds-++ same g slots (upto f n) (f n) ∙ and-true (no-demand-upto f n free slots) (free n (valuesAfter same g slots (upto f n)))
 
   module _ (S : Set) (cs : List ℕ) (k : ℕ) where
     entry-free : (kind : Kind) (a b : ℕ) → NoDemand (entry S cs k kind a b)
-    unfolding holds
+    unfolding programHolds
     entry-free kind a b = cond-both NoDemand (kept S cs k (shape kind) a b) (λ slots. refl) (λ slots. refl)
 
     pub block-free : (kind : Kind) → NoDemand (block S cs k kind)
@@ -79,20 +79,20 @@ module _ (S : Set) (cs : List ℕ) where
     unfolding step valuesAfter
     step-values k slots = values-++ same g slots (blocks S cs k 0 11) (needs (ruled S cs k) ∷ blocks S cs k 11 25)
 
-    step-holds : (k : ℕ) (slots : Slot → Value) → holds same g slots (step S cs k) ≡ rule k slots
-    unfolding step holds
+    step-holds : (k : ℕ) (slots : Slot → Value) → programHolds same g slots (step S cs k) ≡ rule k slots
+    unfolding step programHolds
     step-holds k slots =
         holds-++ same g slots (blocks S cs k 0 11) (needs (ruled S cs k) ∷ blocks S cs k 11 25)
         ∙ (ap₂ (λ (a b : Bool). a && (rule k slots && b)) (blocks-free g S cs k 0 11 slots) (blocks-free g S cs k 11 25 (chosenAt k slots))
         ∙ and-yes (rule k slots))
 
     pub steps-demand : (k n : ℕ) (slots : Slot → Value) →
-        holds same g slots (stepsFrom k (suc n)) ≡ (rule k slots && holds same g (nextAt k slots) (stepsFrom (suc k) n))
+        programHolds same g slots (stepsFrom k (suc n)) ≡ (rule k slots && programHolds same g (nextAt k slots) (stepsFrom (suc k) n))
     unfolding stepsFrom
     steps-demand k n slots =
         holds-++ same g slots (step S cs k) (stepsFrom (suc k) n)
-        ∙ ap₂ (λ (b : Bool) (after : Slot → Value). b && holds same g after (stepsFrom (suc k) n)) (step-holds k slots) (step-values k slots)
+        ∙ ap₂ (λ (b : Bool) (after : Slot → Value). b && programHolds same g after (stepsFrom (suc k) n)) (step-holds k slots) (step-values k slots)
 
-    pub goal-demand : (k : ℕ) (slots : Slot → Value) → holds same g slots (stepsFrom k 0) ≡ not (eqb (asWord (slots (only code))) (asWord (slots word0)))
-    unfolding stepsFrom holds
+    pub goal-demand : (k : ℕ) (slots : Slot → Value) → programHolds same g slots (stepsFrom k 0) ≡ not (eqb (asWord (slots (only code))) (asWord (slots word0)))
+    unfolding stepsFrom programHolds
     goal-demand k slots = and-yes (not (eqb (asWord (slots (only code))) (asWord (slots word0))))

@@ -9,13 +9,13 @@ use lib.Dec.{eqb}
 use Rattle.base.specs.Below.{every}
 use Rattle.records.specs.Instructions.{EXIT}
 use Rattle.records.specs.Sets.{Set}
-use Rattle.step.specs.Machine.{State, current, actor, threadsAfter, allHalted, exits as exitsBy}
-use Rattle.step.specs.declared.Choice.{Choice}
-use Rattle.step.specs.declared.Choice.the-variants.{Execute, Flush}
-use Rattle.step.specs.declared.Thread.{Thread}
+use Rattle.machine.specs.Machine.{State, current, actor, threadsAfter, allHalted, exits as exitsBy}
+use Rattle.machine.specs.declared.Choice.{Choice}
+use Rattle.machine.specs.declared.Choice.the-variants.{Execute, Flush}
+use Rattle.machine.specs.declared.Thread.{Thread}
 use Rattle.table.specs.Formulas.{bitSort, wordSort}
 use Rattle.table.specs.Values.{Assignment, Value, bit, word, asBit}
-use Rattle.encoding.specs.Slots.{active, exits, codes, halted, halts, ended, code, yes, argument, Slot, slot}
+use Rattle.encoding.specs.Slots.{active, exits, codes, halted, halts, ended, code, bitOne, argument, Slot, slot}
 use Rattle.encoding.specs.Steps.{andWith, only, ifActive, link}
 use Rattle.encoding.proofs.Active.{executing, scan-one, actor-below, executes-is, thread-after, active-at, active-links, uncounted}
 use Rattle.encoding.proofs.Blocks.{linksValue, links-none}
@@ -61,11 +61,11 @@ module _ (S : Set) (cs : List ℕ) (g : Assignment) (k : ℕ) (slots : Slot → 
       let first : eqb (suc u) 0 ≡ false = ne-eqb (suc u) 0 (λ (q : suc u ≡ 0). omega arith) in
       let before : suc u - 1 ≡ u = omega arith in
       scanned S cs g k slots 11 exits refl 0 (suc u) (omega arith) (omega arith) refl refl
-      ∙ ((λ z. linksValue (at 12) (λ j. ifActive S cs k (eqb (S .statement (before z) j .number) EXIT) bitSort (before z) j (only yes))
+      ∙ ((λ z. linksValue (at 12) (λ j. ifActive S cs k (eqb (S .statement (before z) j .number) EXIT) bitSort (before z) j (only bitOne))
       (cond (first z) 0 (S .count (before z))) (at 12 (cond (first z) (only ended) (slot exits 0 (before z)))))
       ∙ (active-links S cs g k slots s c given u hu (at 12) (active-at S cs g k slots s c given u hu 12 (λ j. was S cs g k slots active u j 12 refl))
-      (λ j. eqb (S .statement u j .number) EXIT) bitSort (λ j. only yes) (bit true) (at 12 (slot exits 0 u))
-      (λ l. was S cs g k slots yes 0 0 12 refl ∙ given .ready .constants .yesIs) (uncounted S cs g k slots s c given u hu (λ n. eqb n EXIT) refl)
+      (λ j. eqb (S .statement u j .number) EXIT) bitSort (λ j. only bitOne) (bit true) (at 12 (slot exits 0 u))
+      (λ l. was S cs g k slots bitOne 0 0 12 refl ∙ given .ready .constants .yesIs) (uncounted S cs g k slots s c given u hu (λ n. eqb n EXIT) refl)
       ∙ twice (g .choice k 0 u) (exiting u) (bit true) (at 12 (slot exits 0 u))))
 
   exits-value : at 12 (slot exits 0 (S .threads)) ≡ bit (exitsBy S s c || s .ended)
@@ -103,7 +103,7 @@ module _ (S : Set) (cs : List ℕ) (g : Assignment) (k : ℕ) (slots : Slot → 
   halts-value : at 23 (only halts) ≡ bit (allHalted S (threadsAfter S s c))
   halts-value =
       settles S cs g k slots 22 halts refl 0 0 (omega arith) (omega arith) refl refl
-      ∙ (ap (linksValue (at 22) (link S cs k halts 0 0) (S .threads)) (was S cs g k slots yes 0 0 22 refl ∙ given .ready .constants .yesIs)
+      ∙ (ap (linksValue (at 22) (link S cs k halts 0 0) (S .threads)) (was S cs g k slots bitOne 0 0 22 refl ∙ given .ready .constants .yesIs)
       ∙ and-links (at 22) (S .threads) (λ t. threadsAfter S s c t .halted)
       (λ t l. since S cs g k slots halted t 0 20 22 refl ∙ (halted-value S cs g k slots s c given t l ∙ ap (λ (y : Thread). bit (y .halted)) (thread-after S cs g k slots s c given t l))))
 

@@ -10,12 +10,12 @@ use borrow.Author.Tests.{eqb-true, eq-eqb, ne-eqb, not-true}
 use Rattle.base.proofs.Choice.{passed, and-true, and-left, and-right, or-true, or-left, or-right, or-right-true, clash}
 use Rattle.records.specs.Instructions.{EXIT}
 use Rattle.records.specs.Sets.{Set}
-use Rattle.step.specs.Machine.{State, current, permitted, exits, allHalted, threadsAfter, step}
-use Rattle.step.specs.Runs.{takes, isRun, after}
-use Rattle.step.specs.declared.Choice.{Choice}
-use Rattle.step.specs.declared.Choice.the-variants.{Execute, Flush}
-use Rattle.step.proofs.Runs.{run-first, run-rest}
-use Rattle.table.specs.Programs.{holds}
+use Rattle.machine.specs.Machine.{State, current, permitted, exits, allHalted, threadsAfter, step}
+use Rattle.machine.specs.Runs.{takes, isRun, after}
+use Rattle.machine.specs.declared.Choice.{Choice}
+use Rattle.machine.specs.declared.Choice.the-variants.{Execute, Flush}
+use Rattle.machine.proofs.Runs.{run-first, run-rest}
+use Rattle.table.specs.Programs.{programHolds}
 use Rattle.table.specs.Values.{Assignment, Value, bit, word, asWord}
 use Rattle.encoding.specs.Slots.{ended, code, Slot, same}
 use Rattle.encoding.specs.Steps.{only}
@@ -119,10 +119,10 @@ module _ (S : Set) (cs : List ℕ) (g : Assignment) where
     pub fails : after S s run .code ≡ 0 → ⊥
 
   abbrev holdsFrom : (k n : ℕ) (slots : Slot → Value) → Bool
-  holdsFrom k n slots = holds same g slots (stepsFrom S cs k n)
+  holdsFrom k n slots = programHolds same g slots (stepsFrom S cs k n)
 
   goal-is : (k v : ℕ) (slots : Slot → Value) → Constants S slots → slots (only code) ≡ word v → holdsFrom k 0 slots ≡ not (eqb v 0)
-  goal-is k v slots constants e = goal-demand S cs g k slots ∙ ap₂ (λ (a b : Value). not (eqb (asWord a) (asWord b))) e (constants .noughtIs)
+  goal-is k v slots constants e = goal-demand S cs g k slots ∙ ap₂ (λ (a b : Value). not (eqb (asWord a) (asWord b))) e (constants .wordZeroIs)
 
   goal-out : (v : ℕ) → not (eqb v 0) ≡ true → v ≡ 0 → ⊥
   goal-out v e q = clash (eq-eqb v 0 q) (not-true (eqb v 0) e)

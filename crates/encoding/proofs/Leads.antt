@@ -7,13 +7,13 @@ use lib.Dec.{eqb, ltb}
 use Rattle.base.proofs.Choice.{clash}
 use Rattle.base.specs.Words.{topBit}
 use Rattle.records.specs.Instructions.{JMP, HALT, EXIT, instructions}
-use Rattle.step.specs.Machine.{jumps}
+use Rattle.machine.specs.Machine.{jumps}
 use Rattle.table.specs.Formulas.{bitSort}
 use Rattle.table.specs.Values.{Value, bit, asBit}
-use Rattle.encoding.specs.Slots.{active, test, untest, yes, Slot, slot}
+use Rattle.encoding.specs.Slots.{active, test, notTest, bitOne, Slot, slot}
 use Rattle.encoding.specs.Steps.{Link, skip, ifThen, only, isConditional, isOneWay, isPlain, rests}
 use Rattle.encoding.proofs.Blocks.{linkValue}
-use Rattle.encoding.proofs.Rows.{byNumber, testOf, untestOf}
+use Rattle.encoding.proofs.Rows.{byNumber, testOf, notTestOf}
 
 not-or : (a b : Bool) → not (a || b) ≡ (not a && not b)
 not-or true b = refl
@@ -28,32 +28,32 @@ module _ (slots : Slot → Value) (t i j argument v : ℕ) where
   -- `leads` with the instruction number apart
   abbrev pub leadsBy : ℕ → Link
   leadsBy n =
-      let taken = slot (cond (isPlain n) test untest) t i in
-      let missed = slot (cond (isPlain n) untest test) t i in
+      let taken = slot (cond (isPlain n) test notTest) t i in
+      let missed = slot (cond (isPlain n) notTest test) t i in
       cond (rests n) skip
-      (cond (isOneWay n argument i) (cond (eqb argument j) (ifThen bitSort (slot active t i) (only yes)) skip)
+      (cond (isOneWay n argument i) (cond (eqb argument j) (ifThen bitSort (slot active t i) (only bitOne)) skip)
       (cond (isConditional n)
       (cond (eqb argument j) (ifThen bitSort (slot active t i) taken)
       (cond (eqb (suc i) j) (ifThen bitSort (slot active t i) missed) skip))
-      (cond (eqb (suc i) j) (ifThen bitSort (slot active t i) (only yes)) skip)))
+      (cond (eqb (suc i) j) (ifThen bitSort (slot active t i) (only bitOne)) skip)))
 
   -- the next pc
   abbrev pub goes : ℕ → ℕ
   goes n = cond (eqb n HALT || eqb n EXIT || not (ltb n instructions)) i (cond (jumps n v) argument (suc i))
 
-  module _ (on : slots (slot active t i) ≡ bit true) (yesIs : slots (only yes) ≡ bit true) where
+  module _ (on : slots (slot active t i) ≡ bit true) (yesIs : slots (only bitOne) ≡ bit true) where
     fires : (y : Slot) (b : Bool) → slots y ≡ bit b → (w : Value) → linkValue slots (ifThen bitSort (slot active t i) y) w ≡ bit b
     fires y b e w = λ z. cond (asBit (on z)) (e z) w
 
-    straight : (p : ℕ) → linkValue slots (cond (eqb p j) (ifThen bitSort (slot active t i) (only yes)) skip) (bit false) ≡ bit (eqb p j)
+    straight : (p : ℕ) → linkValue slots (cond (eqb p j) (ifThen bitSort (slot active t i) (only bitOne)) skip) (bit false) ≡ bit (eqb p j)
     straight p = go (eqb p j)
       where
-        go : (b : Bool) → linkValue slots (cond b (ifThen bitSort (slot active t i) (only yes)) skip) (bit false) ≡ bit b
-        go true = fires (only yes) true yesIs (bit false)
+        go : (b : Bool) → linkValue slots (cond b (ifThen bitSort (slot active t i) (only bitOne)) skip) (bit false) ≡ bit b
+        go true = fires (only bitOne) true yesIs (bit false)
         go false = refl
 
     jump : (c : Bool) (taken missed : Slot) → slots taken ≡ bit c → slots missed ≡ bit (not c)
-        → linkValue slots (cond (eqb argument (suc i)) (cond (eqb argument j) (ifThen bitSort (slot active t i) (only yes)) skip)
+        → linkValue slots (cond (eqb argument (suc i)) (cond (eqb argument j) (ifThen bitSort (slot active t i) (only bitOne)) skip)
         (cond (eqb argument j) (ifThen bitSort (slot active t i) taken) (cond (eqb (suc i) j) (ifThen bitSort (slot active t i) missed) skip))) (bit false)
         ≡ bit (eqb (cond c argument (suc i)) j)
     jump c taken missed p q = go (eqb argument (suc i)) refl
@@ -80,14 +80,14 @@ module _ (slots : Slot → Value) (t i j argument v : ℕ) where
         apart false e f = fall c (eqb (suc i) j) e refl q
 
         go : (b : Bool) → eqb argument (suc i) ≡ b
-            → linkValue slots (cond b (cond (eqb argument j) (ifThen bitSort (slot active t i) (only yes)) skip)
+            → linkValue slots (cond b (cond (eqb argument j) (ifThen bitSort (slot active t i) (only bitOne)) skip)
             (cond (eqb argument j) (ifThen bitSort (slot active t i) taken) (cond (eqb (suc i) j) (ifThen bitSort (slot active t i) missed) skip))) (bit false)
             ≡ bit (eqb (cond c argument (suc i)) j)
         go true e = straight argument ∙ into c (eqb-true argument (suc i) e)
         go false e = apart (eqb argument j) refl (eqb-false argument (suc i) e)
 
     abbrev Leads : ℕ → Type 0
-    Leads n = ltb n instructions ≡ true → slots (slot test t i) ≡ bit (testOf n v) → slots (slot untest t i) ≡ bit (untestOf n v)
+    Leads n = ltb n instructions ≡ true → slots (slot test t i) ≡ bit (testOf n v) → slots (slot notTest t i) ≡ bit (notTestOf n v)
         → linkValue slots (leadsBy n) (bit (rests n && eqb i j)) ≡ bit (eqb (goes n) j)
 
     -- a statement that executes: its link, over whether it rests at j
@@ -104,11 +104,11 @@ module _ (slots : Slot → Value) (t i j argument v : ℕ) where
         (λ l c d. straight (suc i))
         (λ l c d. straight (suc i))
         (λ l c d. straight argument)
-        (λ l c d. jump (jumps 10 v) (slot test t i) (slot untest t i) c d)
-        (λ l c d. jump (jumps 11 v) (slot untest t i) (slot test t i) d (c ∙ ap bit (sym (Bool·not-not (testOf 11 v)))))
-        (λ l c d. jump (jumps 12 v) (slot test t i) (slot untest t i) c d)
-        (λ l c d. jump (jumps 13 v) (slot untest t i) (slot test t i) d (c ∙ ap bit (sym (Bool·not-not (testOf 13 v)))))
-        (λ l c d. jump (jumps 14 v) (slot untest t i) (slot test t i) (d ∙ ap bit (not-or (topBit v) (eqb v 0))) (c ∙ ap bit (or-not (topBit v) (eqb v 0))))
+        (λ l c d. jump (jumps 10 v) (slot test t i) (slot notTest t i) c d)
+        (λ l c d. jump (jumps 11 v) (slot notTest t i) (slot test t i) d (c ∙ ap bit (sym (Bool·not-not (testOf 11 v)))))
+        (λ l c d. jump (jumps 12 v) (slot test t i) (slot notTest t i) c d)
+        (λ l c d. jump (jumps 13 v) (slot notTest t i) (slot test t i) d (c ∙ ap bit (sym (Bool·not-not (testOf 13 v)))))
+        (λ l c d. jump (jumps 14 v) (slot notTest t i) (slot test t i) (d ∙ ap bit (not-or (topBit v) (eqb v 0))) (c ∙ ap bit (or-not (topBit v) (eqb v 0))))
         (λ l c d. straight (suc i))
         (λ l c d. straight (suc i))
         (λ l c d. refl)

@@ -11,7 +11,7 @@ use Rattle.records.specs.Sets.{Set}
 use Rattle.table.specs.Formulas.{wordSort}
 use Rattle.table.specs.declared.Formula.{Formula}
 use Rattle.table.specs.Programs.{Unary, not1, top1, Binary, and2, or2, equal2, plus2, minus2, times2, read2, Ternary, if3, write3, unaryNumber, binaryNumber, ternaryNumber, ref, leaf, unary, binary, ternary, records, root, next, Command, sets, needs, aims, put, compiled}
-use Rattle.encoding.specs.Slots.{Kind, choice, active, opening, shut, barred, held, waits, may, none, fit, one, address, loaded, swaps, result, test, untest, flushTo, writeTo, flushValue, writeValue, raised, exits, codes, heap, val, adr, mem, accu, full, halted, flag, mark, halts, ended, code, no as bit0, yes as bit1, nought, unit, argument, Slot, slot, same, Term, kindNumber}
+use Rattle.encoding.specs.Slots.{Kind, choice, active, opening, shut, barred, held, waits, mayExecute, none, permittedFirst, onePermitted, address, loaded, swaps, result, test, notTest, flushTo, writeTo, flushValue, writeValue, raised, exits, codes, sharedMemory, val, adr, mem, accu, full, halted, flag, mark, halts, ended, code, bitZero as bit0, bitOne as bit1, wordZero, wordOne, argument, Slot, slot, same, Term, kindNumber}
 use Rattle.encoding.specs.Steps.{Link, skip, ifThen, andWith, orWith, linked, chain, only, word0, loads, isConditional, rests, numberOf, loadTree, indirectTree, resultTree, testTree, noneTree, leavingTree, base, links, link}
 use Rattle.encoding.proofs.Split.{rest}
 use Rattle.encoding.proofs.Walks.{with, Along, along-rest}
@@ -44,7 +44,7 @@ module _ (S : Set) (cs : List ℕ) where
       let X = ref (slot accu t 0) in
       let W = ref (slot loaded t i) in
       let N = ref (slot argument t i) in
-      let r6 = cond (eqb n CAS) (ternary (if3 wordSort) (ref (slot swaps t i)) (ref (only unit)) (ref word0)) W in
+      let r6 = cond (eqb n CAS) (ternary (if3 wordSort) (ref (slot swaps t i)) (ref (only wordOne)) (ref word0)) W in
       let r5 = cond (eqb n MULI) (binary times2 X N) r6 in
       let r4 = cond (eqb n MUL) (binary times2 X W) r5 in
       let r3 = cond (eqb n SUBI) (binary minus2 X N) r4 in
@@ -52,7 +52,7 @@ module _ (S : Set) (cs : List ℕ) where
       let r1 = cond (eqb n ADDI) (binary plus2 X N) r2 in
       either (eqb n ADD) (binary plus2 X W) r1 refl (either (eqb n ADDI) (binary plus2 X N) r2 refl (either (eqb n SUB) (binary minus2 X W) r3 refl
       (either (eqb n SUBI) (binary minus2 X N) r4 refl (either (eqb n MUL) (binary times2 X W) r5 refl (either (eqb n MULI) (binary times2 X N) r6 refl
-      (either (eqb n CAS) (ternary (if3 wordSort) (ref (slot swaps t i)) (ref (only unit)) (ref word0)) W refl refl))))))
+      (either (eqb n CAS) (ternary (if3 wordSort) (ref (slot swaps t i)) (ref (only wordOne)) (ref word0)) W refl refl))))))
 
   test-bare : (n t : ℕ) → bare (testTree S cs 0 n t) ≡ true
   test-bare n t =
@@ -70,16 +70,16 @@ module _ (S : Set) (cs : List ℕ) where
   base-bare barred l n a b = refl
   base-bare held l n a b = refl
   base-bare waits l n a b = refl
-  base-bare may l n a b = refl
+  base-bare mayExecute l n a b = refl
   base-bare none l n a b = either (eqb b 0) (ref (only bit1)) (noneTree S cs 0 b) refl refl
-  base-bare fit l n a b = refl
-  base-bare one l n a b = refl
+  base-bare permittedFirst l n a b = refl
+  base-bare onePermitted l n a b = refl
   base-bare address l n a b = either (eqb (S .statement a b .mode) 1) (indirectTree S cs 0 a b) (ref (slot argument a b)) refl refl
   base-bare loaded l n a b = either (loads (numberOf S cs 0 a b)) (loadTree S cs 0 a (slot address a b)) (ref word0) refl refl
-  base-bare swaps l n a b = either (eqb (numberOf S cs 0 a b) CAS) (binary and2 (ref (slot active a b)) (binary equal2 (binary read2 (ref (only heap)) (ref (slot address a b))) (ref (slot mem a 0)))) (ref (only bit0)) refl refl
+  base-bare swaps l n a b = either (eqb (numberOf S cs 0 a b) CAS) (binary and2 (ref (slot active a b)) (binary equal2 (binary read2 (ref (only sharedMemory)) (ref (slot address a b))) (ref (slot mem a 0)))) (ref (only bit0)) refl refl
   base-bare result l n a b = result-bare (numberOf S cs 0 a b) a b
   base-bare test l n a b = test-bare (numberOf S cs 0 a b) a
-  base-bare untest l n a b = either (isConditional (numberOf S cs 0 a b)) (unary not1 (ref (slot test a b))) (ref (only bit0)) refl refl
+  base-bare notTest l n a b = either (isConditional (numberOf S cs 0 a b)) (unary not1 (ref (slot test a b))) (ref (only bit0)) refl refl
   base-bare flushTo l n a b = refl
   base-bare writeTo l n a b = refl
   base-bare flushValue l n a b = refl
@@ -87,7 +87,7 @@ module _ (S : Set) (cs : List ℕ) where
   base-bare raised l n a b = refl
   base-bare exits l n a b = refl
   base-bare codes l n a b = refl
-  base-bare heap l n a b = refl
+  base-bare sharedMemory l n a b = refl
   base-bare val l n a b = refl
   base-bare adr l n a b = refl
   base-bare mem l n a b = refl
@@ -101,8 +101,8 @@ module _ (S : Set) (cs : List ℕ) where
   base-bare code l n a b = refl
   base-bare bit0 l n a b = absurd (omega arith)
   base-bare bit1 l n a b = absurd (omega arith)
-  base-bare nought l n a b = absurd (omega arith)
-  base-bare unit l n a b = absurd (omega arith)
+  base-bare wordZero l n a b = absurd (omega arith)
+  base-bare wordOne l n a b = absurd (omega arith)
   base-bare argument l n a b = absurd (omega arith)
 
   abbrev Bare : (Slot → Bool) → List (Command Slot) → Type 0

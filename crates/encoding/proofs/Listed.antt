@@ -16,7 +16,7 @@ use Rattle.records.specs.Instructions.{CHECK}
 use Rattle.records.specs.Sets.{Set, records, statementAt, argumentAt, countOf, startOf, setOf, threadsOf, checksAt, opensAt, setAccepted}
 use Rattle.records.specs.declared.Statement.{Statement}
 use Rattle.records.proofs.Sets.{accepted, found-at, well-formed}
-use Rattle.step.specs.Machine.{isCheck, contains}
+use Rattle.machine.specs.Machine.{isCheck, contains}
 use Rattle.encoding.specs.Checkpoints.{member, noted, notedIn, notedBelow, checkpoints}
 use Rattle.encoding.proofs.Shown.{Complete}
 

@@ -14,10 +14,10 @@ use Rattle.base.proofs.Choice.{and-true, and-left, and-right, clash}
 use Rattle.records.specs.Instructions.{CHECK}
 use Rattle.records.specs.Sets.{Set, nothing}
 use Rattle.records.specs.declared.Statement.{Statement}
-use Rattle.step.specs.Machine.{State, start, unmarked, isCheck, contains, markedAt, opened, waiting, current, actor, leavesMark, cleared, step}
-use Rattle.step.specs.declared.Choice.{Choice}
-use Rattle.step.specs.declared.Choice.the-variants.{Execute, Flush}
-use Rattle.step.specs.declared.Mark.{Mark}
+use Rattle.machine.specs.Machine.{State, start, unmarked, isCheck, contains, markedAt, opened, waiting, current, actor, leavesMark, cleared, step}
+use Rattle.machine.specs.declared.Choice.{Choice}
+use Rattle.machine.specs.declared.Choice.the-variants.{Execute, Flush}
+use Rattle.machine.specs.declared.Mark.{Mark}
 use Rattle.encoding.proofs.Shown.{Complete, Sound}
 use Rattle.encoding.proofs.Tests.{same-tests, some-passes}
 

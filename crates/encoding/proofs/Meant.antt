@@ -9,15 +9,15 @@ use lib.Dec.{eqb, eqb·zero-suc, eqb·suc-zero}
 use Rattle.base.specs.Below.{every}
 use Rattle.base.proofs.Choice.{and-true, and-left, and-right, and-yes}
 use Rattle.records.specs.Maps.{cells, addressAt, valueAt}
-use Rattle.records.specs.Sets.{Set, WellFormed}
-use Rattle.step.specs.Machine.{State, start, permitted, step}
-use Rattle.step.specs.declared.Choice.{Choice}
-use Rattle.table.specs.Programs.{upto, valuesAfter, holds}
+use Rattle.records.specs.Sets.{Set, WellFormedSet}
+use Rattle.machine.specs.Machine.{State, start, permitted, step}
+use Rattle.machine.specs.declared.Choice.{Choice}
+use Rattle.table.specs.Programs.{upto, valuesAfter, programHolds}
 use Rattle.table.specs.Values.{Assignment, Value, bit, memory, asMemory, satisfies}
 use Rattle.table.proofs.Meaning.{startValue}
 use Rattle.table.proofs.Sequences.{values-++, holds-++}
 use Rattle.encoding.specs.Encodings.{mapDemand, starting, program, encoded}
-use Rattle.encoding.specs.Slots.{Kind, heap, val, adr, mem, accu, full, halted, flag, mark, ended, code, no, yes, nought, unit, argument, Slot, slot, same, kindNumber}
+use Rattle.encoding.specs.Slots.{Kind, sharedMemory, val, adr, mem, accu, full, halted, flag, mark, ended, code, bitZero, bitOne, wordZero, wordOne, argument, Slot, slot, same, kindNumber}
 use Rattle.encoding.specs.Steps.{chain, only, block}
 use Rattle.encoding.proofs.Begun.{startValues, begun}
 use Rattle.encoding.proofs.Blocks.{others, settled}
@@ -31,7 +31,7 @@ use Rattle.encoding.proofs.Shown.{Complete, Bits, Constants, Shows}
 
 -- ---- the laws of a step
 
-module _ (S : Set) (cs : List ℕ) (g : Assignment) (wellFormed : WellFormed S) (beyond : Beyond S) (complete : Complete S cs) where
+module _ (S : Set) (cs : List ℕ) (g : Assignment) (wellFormed : WellFormedSet S) (beyond : Beyond S) (complete : Complete S cs) where
   live-next : (k : ℕ) (slots : Slot → Value) (s : State) (c : Choice) → Live S cs g slots s → permitted S s c ≡ true → Bits S g k c → Live S cs g (nextAt S cs g k slots) (step S s c)
   live-next k slots s c live p b =
       let r = nextValues S cs g k (chosenAt S cs g k slots) s c wellFormed beyond (ready S cs g k slots s (live .constants) (live .shows)) p b in
@@ -58,23 +58,23 @@ module _ (S : Set) (cs : List ℕ) (g : Assignment) where
   begin = startValues g
 
   abbrev withUnit : Slot → Value
-  withUnit = valuesAfter same g begin (block S cs 0 unit)
+  withUnit = valuesAfter same g begin (block S cs 0 wordOne)
 
   abbrev withArguments : Slot → Value
   withArguments = valuesAfter same g withUnit (block S cs 0 argument)
 
   -- a slot whose kind the start values leave
-  untouched : (l : Kind) (a b : ℕ) → eqb (kindNumber l) (kindNumber unit) ≡ false → eqb (kindNumber l) (kindNumber argument) ≡ false →
+  untouched : (l : Kind) (a b : ℕ) → eqb (kindNumber l) (kindNumber wordOne) ≡ false → eqb (kindNumber l) (kindNumber argument) ≡ false →
       withArguments (slot l a b) ≡ begin (slot l a b)
-  untouched l a b p q = others g S cs 0 argument withUnit l a b q ∙ others g S cs 0 unit begin l a b p
+  untouched l a b p q = others g S cs 0 argument withUnit l a b q ∙ others g S cs 0 wordOne begin l a b p
 
   begin-constants : Constants S withArguments
   unfolding chain
   begin-constants = record {
-    noIs = untouched no 0 0 refl refl;
-    yesIs = untouched yes 0 0 refl refl;
-    noughtIs = untouched nought 0 0 refl refl;
-    unitIs = others g S cs 0 argument withUnit unit 0 0 refl ∙ settled g S cs 0 unit begin 0 0 (omega arith) (omega arith) refl refl;
+    noIs = untouched bitZero 0 0 refl refl;
+    yesIs = untouched bitOne 0 0 refl refl;
+    wordZeroIs = untouched wordZero 0 0 refl refl;
+    unitIs = others g S cs 0 argument withUnit wordOne 0 0 refl ∙ settled g S cs 0 wordOne begin 0 0 (omega arith) (omega arith) refl refl;
     argumentIs = λ t i h l. settled g S cs 0 argument withUnit t i h l refl refl;
   }
 
@@ -85,7 +85,7 @@ module _ (S : Set) (cs : List ℕ) (g : Assignment) where
 
   begin-shows : Shows S cs withArguments (start (g .first))
   begin-shows = record {
-    heapIs = untouched heap 0 0 refl refl;
+    memoryIs = untouched sharedMemory 0 0 refl refl;
     endedIs = untouched ended 0 0 refl refl;
     codeIs = untouched code 0 0 refl refl;
     accuIs = λ t h. untouched accu t 0 refl refl;
@@ -102,12 +102,12 @@ module _ (S : Set) (cs : List ℕ) (g : Assignment) where
   begin-live = record { constants = begin-constants; shows = begin-shows; sound = sound-start S (g .first) }
 
   starting-values : valuesAfter same g begin (starting S cs) ≡ withArguments
-  starting-values = values-++ same g begin (block S cs 0 unit) (block S cs 0 argument)
+  starting-values = values-++ same g begin (block S cs 0 wordOne) (block S cs 0 argument)
 
-  starting-holds : holds same g begin (starting S cs) ≡ true
+  starting-holds : programHolds same g begin (starting S cs) ≡ true
   starting-holds =
-      holds-++ same g begin (block S cs 0 unit) (block S cs 0 argument)
-      ∙ and-true (block-free g S cs 0 unit begin) (block-free g S cs 0 argument withUnit)
+      holds-++ same g begin (block S cs 0 wordOne) (block S cs 0 argument)
+      ∙ and-true (block-free g S cs 0 wordOne begin) (block-free g S cs 0 argument withUnit)
 
   -- ---- the map
 
@@ -121,28 +121,28 @@ module _ (S : Set) (cs : List ℕ) (g : Assignment) where
     map-values slots zero = refl
     map-values slots (suc n) = values-++ same g slots (upto (mapDemand map) n) (mapDemand map n) ∙ map-values slots n
 
-    map-holds : (slots : Slot → Value) → slots (only heap) ≡ memory (g .first) → (n : ℕ) → holds same g slots (upto (mapDemand map) n) ≡ every n agreesAt
-    unfolding upto holds every
+    map-holds : (slots : Slot → Value) → slots (only sharedMemory) ≡ memory (g .first) → (n : ℕ) → programHolds same g slots (upto (mapDemand map) n) ≡ every n agreesAt
+    unfolding upto programHolds every
     map-holds slots e zero = refl
     map-holds slots e (suc n) =
         holds-++ same g slots (upto (mapDemand map) n) (mapDemand map n)
         ∙ ap₂ _&&_ (map-holds slots e n)
-        (ap (λ (after : Slot → Value). holds same g after (mapDemand map n)) (map-values slots n)
-        ∙ (and-yes (eqb (asMemory (slots (only heap)) (addressAt map n)) (valueAt map n))
+        (ap (λ (after : Slot → Value). programHolds same g after (mapDemand map n)) (map-values slots n)
+        ∙ (and-yes (eqb (asMemory (slots (only sharedMemory)) (addressAt map n)) (valueAt map n))
         ∙ ap (λ (m : Value). eqb (asMemory m (addressAt map n)) (valueAt map n)) e))
 
     -- ---- the whole
 
     module _ (bound : ℕ) where
-      program-holds : holds same g begin (program S cs map bound) ≡ (every (cells map) agreesAt && holds same g withArguments (stepsFrom S cs 0 bound))
+      program-holds : programHolds same g begin (program S cs map bound) ≡ (every (cells map) agreesAt && programHolds same g withArguments (stepsFrom S cs 0 bound))
       unfolding program
       program-holds =
           holds-++ same g begin (starting S cs) _
-          ∙ (ap₂ (λ (b : Bool) (after : Slot → Value). b && holds same g after (upto (mapDemand map) (cells map) ++ stepsAndGoal S cs bound)) starting-holds starting-values
+          ∙ (ap₂ (λ (b : Bool) (after : Slot → Value). b && programHolds same g after (upto (mapDemand map) (cells map) ++ stepsAndGoal S cs bound)) starting-holds starting-values
           ∙ (holds-++ same g withArguments (upto (mapDemand map) (cells map)) _
-          ∙ (λ z. map-holds withArguments (begin-shows .heapIs) (cells map) z && holds same g (map-values withArguments (cells map) z) (all-steps S cs bound z))))
+          ∙ (λ z. map-holds withArguments (begin-shows .memoryIs) (cells map) z && programHolds same g (map-values withArguments (cells map) z) (all-steps S cs bound z))))
 
-      module _ (wellFormed : WellFormed S) (beyond : Beyond S) (complete : Complete S cs) where
+      module _ (wellFormed : WellFormedSet S) (beyond : Beyond S) (complete : Complete S cs) where
         pub meant : (satisfies g (encoded S cs map bound) ≡ true) ↔
             ((every (cells map) agreesAt ≡ true) × ((run : List Choice) × (Failing S cs g bound (start (g .first)) run × Stands S cs g 0 bound run)))
         meant =

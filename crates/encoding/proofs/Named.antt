@@ -9,11 +9,11 @@ use lib.Dec.{eqb, ltb}
 use Rattle.base.proofs.Choice.{and-true, clash, cond-both}
 use Rattle.records.specs.Instructions.{STORE, ADD, ADDI, SUB, SUBI, MUL, MULI, JMP, JZ, JNZ, JS, JNS, JNZNS, MEM, CAS, HALT, EXIT, CHECK}
 use Rattle.records.specs.Sets.{Set}
-use Rattle.step.specs.Machine.{needsEmpty}
+use Rattle.machine.specs.Machine.{needsEmpty}
 use Rattle.table.specs.Formulas.{bitSort, wordSort}
 use Rattle.table.specs.Programs.{ref, unary, binary, ternary, not1, top1, and2, or2, equal2, plus2, minus2, times2, read2, if3, treeValue}
 use Rattle.table.specs.Values.{Assignment, Value}
-use Rattle.encoding.specs.Slots.{Kind, choice, active, opening, shut, barred, held, waits, may, none, fit, one, address, loaded, swaps, result, test, untest, flushTo, writeTo, flushValue, writeValue, raised, exits, codes, heap, val, adr, mem, accu, full, halted, flag, mark, halts, ended, code, no, yes, nought, unit, argument, Slot, slot, Term}
+use Rattle.encoding.specs.Slots.{Kind, choice, active, opening, shut, barred, held, waits, mayExecute, none, permittedFirst, onePermitted, address, loaded, swaps, result, test, notTest, flushTo, writeTo, flushValue, writeValue, raised, exits, codes, sharedMemory, val, adr, mem, accu, full, halted, flag, mark, halts, ended, code, bitZero, bitOne, wordZero, wordOne, argument, Slot, slot, Term}
 use Rattle.encoding.specs.Steps.{Link, skip, ifThen, andWith, orWith, only, word0, shape, loads, setsAccu, isConditional, isOneWay, isPlain, rests, numberOf, argumentOf, checkpoint, has, executes, loadTree, resultTree, testTree, base, leads, links, link, tree, rows, columns, kept, indirectTree, noneTree, leavingTree}
 use Rattle.encoding.proofs.Blocks.{refs, linkRefs, chain-refs, own, earlier, afterBlock, settled, scanned}
 
@@ -26,16 +26,16 @@ scans shut = false
 scans barred = false
 scans held = false
 scans waits = false
-scans may = false
+scans mayExecute = false
 scans none = true
-scans fit = false
-scans one = false
+scans permittedFirst = false
+scans onePermitted = false
 scans address = false
 scans loaded = false
 scans swaps = false
 scans result = false
 scans test = false
-scans untest = false
+scans notTest = false
 scans flushTo = false
 scans writeTo = true
 scans flushValue = false
@@ -43,7 +43,7 @@ scans writeValue = true
 scans raised = false
 scans exits = true
 scans codes = true
-scans heap = false
+scans sharedMemory = false
 scans val = false
 scans adr = false
 scans mem = false
@@ -55,10 +55,10 @@ scans mark = false
 scans halts = false
 scans ended = false
 scans code = false
-scans no = false
-scans yes = false
-scans nought = false
-scans unit = false
+scans bitZero = false
+scans bitOne = false
+scans wordZero = false
+scans wordOne = false
 scans argument = false
 
 module _ (test : Slot → Bool) (b : Bool) where
@@ -95,9 +95,9 @@ module _ (S : Set) (cs : List ℕ) (k : ℕ) where
       let n = numberOf S cs k t i in
       let target = argumentOf S cs k t i in
       let on = slot active t i in
-      let always = ifThen bitSort on (only yes) in
-      let taken = ifThen bitSort on (slot (cond (isPlain n) test untest) t i) in
-      let missed = ifThen bitSort on (slot (cond (isPlain n) untest test) t i) in
+      let always = ifThen bitSort on (only bitOne) in
+      let taken = ifThen bitSort on (slot (cond (isPlain n) test notTest) t i) in
+      let missed = ifThen bitSort on (slot (cond (isPlain n) notTest test) t i) in
       let jump = cond (eqb target j) always skip in
       let miss = cond (eqb (suc i) j) missed skip in
       let both = cond (eqb target j) taken miss in
@@ -106,8 +106,8 @@ module _ (S : Set) (cs : List ℕ) (k : ℕ) where
       link-both (own flag t j) (rests n) skip (cond (isOneWay n target i) jump rest) refl
       (link-both (own flag t j) (isOneWay n target i) jump rest (link-both (own flag t j) (eqb target j) always skip refl refl)
       (link-both (own flag t j) (isConditional n) both next
-      (link-both (own flag t j) (eqb target j) taken miss (named (isPlain n) test untest refl refl)
-      (link-both (own flag t j) (eqb (suc i) j) missed skip (named (isPlain n) untest test refl refl) refl))
+      (link-both (own flag t j) (eqb target j) taken miss (named (isPlain n) test notTest refl refl)
+      (link-both (own flag t j) (eqb (suc i) j) missed skip (named (isPlain n) notTest test refl refl) refl))
       (link-both (own flag t j) (eqb (suc i) j) always skip refl refl)))
     where
       named : (b : Bool) (l m : Kind) → own flag t j (slot l t i) ≡ true → own flag t j (slot m t i) ≡ true → own flag t j (slot (cond b l m) t i) ≡ true
@@ -118,7 +118,7 @@ module _ (S : Set) (cs : List ℕ) (k : ℕ) where
       let x = ref (slot accu t 0) in
       let w = ref (slot loaded t i) in
       let v = ref (slot argument t i) in
-      let r6 = cond (eqb n CAS) (ternary (if3 wordSort) (ref (slot swaps t i)) (ref (only unit)) (ref word0)) w in
+      let r6 = cond (eqb n CAS) (ternary (if3 wordSort) (ref (slot swaps t i)) (ref (only wordOne)) (ref word0)) w in
       let r5 = cond (eqb n MULI) (binary times2 x v) r6 in
       let r4 = cond (eqb n MUL) (binary times2 x w) r5 in
       let r3 = cond (eqb n SUBI) (binary minus2 x v) r4 in
@@ -130,16 +130,16 @@ module _ (S : Set) (cs : List ℕ) (k : ℕ) where
       (tree-both (own result t i) (eqb n SUBI) (binary minus2 x v) r4 refl
       (tree-both (own result t i) (eqb n MUL) (binary times2 x w) r5 refl
       (tree-both (own result t i) (eqb n MULI) (binary times2 x v) r6 refl
-      (tree-both (own result t i) (eqb n CAS) (ternary (if3 wordSort) (ref (slot swaps t i)) (ref (only unit)) (ref word0)) w refl refl))))))
+      (tree-both (own result t i) (eqb n CAS) (ternary (if3 wordSort) (ref (slot swaps t i)) (ref (only wordOne)) (ref word0)) w refl refl))))))
 
   test-own : (n t i : ℕ) → refs (own test t i) (testTree S cs k n t) ≡ true
   test-own n t i =
       let x = ref (slot accu t 0) in
-      let r2 = cond (eqb n JNZNS) (binary or2 (unary top1 x) (binary equal2 x (ref word0))) (ref (only no)) in
+      let r2 = cond (eqb n JNZNS) (binary or2 (unary top1 x) (binary equal2 x (ref word0))) (ref (only bitZero)) in
       let r1 = cond (eqb n JS || eqb n JNS) (unary top1 x) r2 in
       tree-both (own test t i) (eqb n JZ || eqb n JNZ) (binary equal2 x (ref word0)) r1 refl
       (tree-both (own test t i) (eqb n JS || eqb n JNS) (unary top1 x) r2 refl
-      (tree-both (own test t i) (eqb n JNZNS) (binary or2 (unary top1 x) (binary equal2 x (ref word0))) (ref (only no)) refl refl))
+      (tree-both (own test t i) (eqb n JNZNS) (binary or2 (unary top1 x) (binary equal2 x (ref word0))) (ref (only bitZero)) refl refl))
 
   -- the base of a kind that is not scanned, and its links, name of their own kind their own slot alone
   base-own : (kind : Kind) → scans kind ≡ false → (a b : ℕ) → a < rows S cs k (shape kind) → b < columns S cs k (shape kind) a → refs (own kind a b) (base S cs k kind a b) ≡ true
@@ -150,16 +150,16 @@ module _ (S : Set) (cs : List ℕ) (k : ℕ) where
   base-own barred e a b ha hb = refl
   base-own held e a b ha hb = refl
   base-own waits e a b ha hb = refl
-  base-own may e a b ha hb = refl
+  base-own mayExecute e a b ha hb = refl
   base-own none e a b ha hb = clash refl e
-  base-own fit e a b ha hb = (and-true (slot-both (own fit a b) (ltb b (S .threads)) (slot may b 0) (slot full (b - S .threads) 0) refl refl) refl)
-  base-own one e a b ha hb = refl
+  base-own permittedFirst e a b ha hb = (and-true (slot-both (own permittedFirst a b) (ltb b (S .threads)) (slot mayExecute b 0) (slot full (b - S .threads) 0) refl refl) refl)
+  base-own onePermitted e a b ha hb = refl
   base-own address e a b ha hb = (tree-both (own address a b) (eqb (S .statement a b .mode) 1) (indirectTree S cs k a b) (ref (slot argument a b)) refl refl)
   base-own loaded e a b ha hb = (tree-both (own loaded a b) (loads (numberOf S cs k a b)) (loadTree S cs k a (slot address a b)) (ref word0) refl refl)
-  base-own swaps e a b ha hb = (tree-both (own swaps a b) (eqb (numberOf S cs k a b) CAS) (binary and2 (ref (slot active a b)) (binary equal2 (binary read2 (ref (only heap)) (ref (slot address a b))) (ref (slot mem a 0)))) (ref (only no)) refl refl)
+  base-own swaps e a b ha hb = (tree-both (own swaps a b) (eqb (numberOf S cs k a b) CAS) (binary and2 (ref (slot active a b)) (binary equal2 (binary read2 (ref (only sharedMemory)) (ref (slot address a b))) (ref (slot mem a 0)))) (ref (only bitZero)) refl refl)
   base-own result e a b ha hb = (result-own (numberOf S cs k a b) a b)
   base-own test e a b ha hb = (test-own (numberOf S cs k a b) a b)
-  base-own untest e a b ha hb = (tree-both (own untest a b) (isConditional (numberOf S cs k a b)) (unary not1 (ref (slot test a b))) (ref (only no)) refl refl)
+  base-own notTest e a b ha hb = (tree-both (own notTest a b) (isConditional (numberOf S cs k a b)) (unary not1 (ref (slot test a b))) (ref (only bitZero)) refl refl)
   base-own flushTo e a b ha hb = refl
   base-own writeTo e a b ha hb = clash refl e
   base-own flushValue e a b ha hb = refl
@@ -167,7 +167,7 @@ module _ (S : Set) (cs : List ℕ) (k : ℕ) where
   base-own raised e a b ha hb = refl
   base-own exits e a b ha hb = clash refl e
   base-own codes e a b ha hb = clash refl e
-  base-own heap e a b ha hb = (and-true (at-first a b ha hb) refl)
+  base-own sharedMemory e a b ha hb = (and-true (at-first a b ha hb) refl)
   base-own val e a b ha hb = (at-row a b hb)
   base-own adr e a b ha hb = (at-row a b hb)
   base-own mem e a b ha hb = (at-row a b hb)
@@ -179,10 +179,10 @@ module _ (S : Set) (cs : List ℕ) (k : ℕ) where
   base-own halts e a b ha hb = refl
   base-own ended e a b ha hb = refl
   base-own code e a b ha hb = refl
-  base-own no e a b ha hb = (at-first a b ha hb)
-  base-own yes e a b ha hb = (at-first a b ha hb)
-  base-own nought e a b ha hb = (at-first a b ha hb)
-  base-own unit e a b ha hb = refl
+  base-own bitZero e a b ha hb = (at-first a b ha hb)
+  base-own bitOne e a b ha hb = (at-first a b ha hb)
+  base-own wordZero e a b ha hb = (at-first a b ha hb)
+  base-own wordOne e a b ha hb = refl
   base-own argument e a b ha hb = refl
 
   link-own : (kind : Kind) → scans kind ≡ false → (a b i : ℕ) → linkRefs (own kind a b) (link S cs k kind a b i) ≡ true
@@ -190,42 +190,42 @@ module _ (S : Set) (cs : List ℕ) (k : ℕ) where
   link-own active e a b i = refl
   link-own opening e a b i = link-both (own opening a b) (has S cs k i b) (andWith (slot mark i b)) skip refl refl
   link-own shut e a b i = refl
-  link-own barred e a b i = link-both (own barred a b) (needsEmpty (numberOf S cs k a i)) (ifThen bitSort (slot active a i) (only yes)) skip refl refl
+  link-own barred e a b i = link-both (own barred a b) (needsEmpty (numberOf S cs k a i)) (ifThen bitSort (slot active a i) (only bitOne)) skip refl refl
   link-own held e a b i = refl
   link-own waits e a b i = link-both (own waits a b) (has S cs k a i) (orWith (slot held a i)) skip refl refl
-  link-own may e a b i = refl
+  link-own mayExecute e a b i = refl
   link-own none e a b i = clash refl e
-  link-own fit e a b i = refl
-  link-own one e a b i = refl
+  link-own permittedFirst e a b i = refl
+  link-own onePermitted e a b i = refl
   link-own address e a b i = refl
   link-own loaded e a b i = refl
   link-own swaps e a b i = refl
   link-own result e a b i = refl
   link-own test e a b i = refl
-  link-own untest e a b i = refl
+  link-own notTest e a b i = refl
   link-own flushTo e a b i = refl
   link-own writeTo e a b i = clash refl e
   link-own flushValue e a b i = refl
   link-own writeValue e a b i = clash refl e
-  link-own raised e a b i = link-both (own raised a b) (eqb (numberOf S cs k a i) CHECK && eqb (argumentOf S cs k a i) (checkpoint S cs k b)) (ifThen bitSort (slot active a i) (only yes)) skip refl refl
+  link-own raised e a b i = link-both (own raised a b) (eqb (numberOf S cs k a i) CHECK && eqb (argumentOf S cs k a i) (checkpoint S cs k b)) (ifThen bitSort (slot active a i) (only bitOne)) skip refl refl
   link-own exits e a b i = clash refl e
   link-own codes e a b i = clash refl e
-  link-own heap e a b i = refl
+  link-own sharedMemory e a b i = refl
   link-own val e a b i = link-both (own val a b) (eqb (numberOf S cs k a i) STORE) (ifThen wordSort (slot active a i) (slot accu a 0)) skip refl refl
   link-own adr e a b i = link-both (own adr a b) (eqb (numberOf S cs k a i) STORE) (ifThen wordSort (slot active a i) (slot address a i)) skip refl refl
   link-own mem e a b i = link-both (own mem a b) (eqb (numberOf S cs k a i) MEM) (ifThen wordSort (slot active a i) (slot loaded a i)) skip refl refl
   link-own accu e a b i = link-both (own accu a b) (setsAccu (numberOf S cs k a i)) (ifThen wordSort (slot active a i) (slot result a i)) skip refl refl
-  link-own full e a b i = link-both (own full a b) (eqb (numberOf S cs k a i) STORE) (ifThen bitSort (slot active a i) (only yes)) skip refl refl
-  link-own halted e a b i = link-both (own halted a b) (eqb (numberOf S cs k a i) HALT) (ifThen bitSort (slot active a i) (only yes)) skip refl refl
+  link-own full e a b i = link-both (own full a b) (eqb (numberOf S cs k a i) STORE) (ifThen bitSort (slot active a i) (only bitOne)) skip refl refl
+  link-own halted e a b i = link-both (own halted a b) (eqb (numberOf S cs k a i) HALT) (ifThen bitSort (slot active a i) (only bitOne)) skip refl refl
   link-own flag e a b i = leads-own a b i
   link-own mark e a b i = refl
   link-own halts e a b i = refl
   link-own ended e a b i = refl
   link-own code e a b i = refl
-  link-own no e a b i = refl
-  link-own yes e a b i = refl
-  link-own nought e a b i = refl
-  link-own unit e a b i = refl
+  link-own bitZero e a b i = refl
+  link-own bitOne e a b i = refl
+  link-own wordZero e a b i = refl
+  link-own wordOne e a b i = refl
   link-own argument e a b i = refl
 
   pub names-own : (kind : Kind) → scans kind ≡ false → (a b : ℕ) → a < rows S cs k (shape kind) → b < columns S cs k (shape kind) a → refs (own kind a b) (tree S cs k kind a b) ≡ true
@@ -241,16 +241,16 @@ module _ (S : Set) (cs : List ℕ) (k : ℕ) where
   base-earlier barred e a b ha = clash e refl
   base-earlier held e a b ha = clash e refl
   base-earlier waits e a b ha = clash e refl
-  base-earlier may e a b ha = clash e refl
-  base-earlier none e a b ha = (first-or-not a b ha (λ t. refs (earlier none a b) (cond t (ref (only yes)) (noneTree S cs k b)) ≡ true) refl (λ p. p))
-  base-earlier fit e a b ha = clash e refl
-  base-earlier one e a b ha = clash e refl
+  base-earlier mayExecute e a b ha = clash e refl
+  base-earlier none e a b ha = (first-or-not a b ha (λ t. refs (earlier none a b) (cond t (ref (only bitOne)) (noneTree S cs k b)) ≡ true) refl (λ p. p))
+  base-earlier permittedFirst e a b ha = clash e refl
+  base-earlier onePermitted e a b ha = clash e refl
   base-earlier address e a b ha = clash e refl
   base-earlier loaded e a b ha = clash e refl
   base-earlier swaps e a b ha = clash e refl
   base-earlier result e a b ha = clash e refl
   base-earlier test e a b ha = clash e refl
-  base-earlier untest e a b ha = clash e refl
+  base-earlier notTest e a b ha = clash e refl
   base-earlier flushTo e a b ha = clash e refl
   base-earlier writeTo e a b ha = (first-or-not a b ha (λ t. earlier writeTo a b (cond t (only flushTo) (slot writeTo 0 (b - 1))) ≡ true) refl (λ p. p))
   base-earlier flushValue e a b ha = clash e refl
@@ -258,7 +258,7 @@ module _ (S : Set) (cs : List ℕ) (k : ℕ) where
   base-earlier raised e a b ha = clash e refl
   base-earlier exits e a b ha = (first-or-not a b ha (λ t. earlier exits a b (cond t (only ended) (slot exits 0 (b - 1))) ≡ true) refl (λ p. p))
   base-earlier codes e a b ha = (first-or-not a b ha (λ t. earlier codes a b (cond t (only code) (slot codes 0 (b - 1))) ≡ true) refl (λ p. p))
-  base-earlier heap e a b ha = clash e refl
+  base-earlier sharedMemory e a b ha = clash e refl
   base-earlier val e a b ha = clash e refl
   base-earlier adr e a b ha = clash e refl
   base-earlier mem e a b ha = clash e refl
@@ -270,10 +270,10 @@ module _ (S : Set) (cs : List ℕ) (k : ℕ) where
   base-earlier halts e a b ha = clash e refl
   base-earlier ended e a b ha = clash e refl
   base-earlier code e a b ha = clash e refl
-  base-earlier no e a b ha = clash e refl
-  base-earlier yes e a b ha = clash e refl
-  base-earlier nought e a b ha = clash e refl
-  base-earlier unit e a b ha = clash e refl
+  base-earlier bitZero e a b ha = clash e refl
+  base-earlier bitOne e a b ha = clash e refl
+  base-earlier wordZero e a b ha = clash e refl
+  base-earlier wordOne e a b ha = clash e refl
   base-earlier argument e a b ha = clash e refl
 
   link-earlier : (kind : Kind) → scans kind ≡ true → (a b i : ℕ) → linkRefs (earlier kind a b) (link S cs k kind a b i) ≡ true
@@ -284,24 +284,24 @@ module _ (S : Set) (cs : List ℕ) (k : ℕ) where
   link-earlier barred e a b i = clash e refl
   link-earlier held e a b i = clash e refl
   link-earlier waits e a b i = clash e refl
-  link-earlier may e a b i = clash e refl
+  link-earlier mayExecute e a b i = clash e refl
   link-earlier none e a b i = refl
-  link-earlier fit e a b i = clash e refl
-  link-earlier one e a b i = clash e refl
+  link-earlier permittedFirst e a b i = clash e refl
+  link-earlier onePermitted e a b i = clash e refl
   link-earlier address e a b i = clash e refl
   link-earlier loaded e a b i = clash e refl
   link-earlier swaps e a b i = clash e refl
   link-earlier result e a b i = clash e refl
   link-earlier test e a b i = clash e refl
-  link-earlier untest e a b i = clash e refl
+  link-earlier notTest e a b i = clash e refl
   link-earlier flushTo e a b i = clash e refl
   link-earlier writeTo e a b i = link-both (earlier writeTo a b) (eqb (numberOf S cs k (b - 1) i) CAS) (ifThen wordSort (slot swaps (b - 1) i) (slot address (b - 1) i)) skip refl refl
   link-earlier flushValue e a b i = clash e refl
   link-earlier writeValue e a b i = link-both (earlier writeValue a b) (eqb (numberOf S cs k (b - 1) i) CAS) (ifThen wordSort (slot swaps (b - 1) i) (slot accu (b - 1) 0)) skip refl refl
   link-earlier raised e a b i = clash e refl
-  link-earlier exits e a b i = link-both (earlier exits a b) (eqb (numberOf S cs k (b - 1) i) EXIT) (ifThen bitSort (slot active (b - 1) i) (only yes)) skip refl refl
+  link-earlier exits e a b i = link-both (earlier exits a b) (eqb (numberOf S cs k (b - 1) i) EXIT) (ifThen bitSort (slot active (b - 1) i) (only bitOne)) skip refl refl
   link-earlier codes e a b i = link-both (earlier codes a b) (eqb (numberOf S cs k (b - 1) i) EXIT) (ifThen wordSort (slot active (b - 1) i) (slot argument (b - 1) i)) skip refl refl
-  link-earlier heap e a b i = clash e refl
+  link-earlier sharedMemory e a b i = clash e refl
   link-earlier val e a b i = clash e refl
   link-earlier adr e a b i = clash e refl
   link-earlier mem e a b i = clash e refl
@@ -313,10 +313,10 @@ module _ (S : Set) (cs : List ℕ) (k : ℕ) where
   link-earlier halts e a b i = clash e refl
   link-earlier ended e a b i = clash e refl
   link-earlier code e a b i = clash e refl
-  link-earlier no e a b i = clash e refl
-  link-earlier yes e a b i = clash e refl
-  link-earlier nought e a b i = clash e refl
-  link-earlier unit e a b i = clash e refl
+  link-earlier bitZero e a b i = clash e refl
+  link-earlier bitOne e a b i = clash e refl
+  link-earlier wordZero e a b i = clash e refl
+  link-earlier wordOne e a b i = clash e refl
   link-earlier argument e a b i = clash e refl
 
   pub names-earlier : (kind : Kind) → scans kind ≡ true → (a b : ℕ) → a < rows S cs k (shape kind) → b < columns S cs k (shape kind) a → refs (earlier kind a b) (tree S cs k kind a b) ≡ true

@@ -10,7 +10,7 @@ use Rattle.records.specs.Instructions.{EXIT}
 use Rattle.records.specs.Sets.{Set}
 use Rattle.table.specs.Formulas.{bitSort, wordSort}
 use Rattle.table.specs.Values.{Assignment, Value, bit, asBit}
-use Rattle.encoding.specs.Slots.{Kind, active, exits, codes, flag, halts, ended, code, no, yes, nought, unit, argument, Slot, slot}
+use Rattle.encoding.specs.Slots.{Kind, active, exits, codes, flag, halts, ended, code, bitZero, bitOne, wordZero, wordOne, argument, Slot, slot}
 use Rattle.encoding.specs.Steps.{only, link, numberOf}
 use Rattle.encoding.proofs.Blocks.{linksValue, Quiet, quiet-if, quiet-cond, links-none, links-quiet}
 use Rattle.encoding.proofs.Demands.{chosenAt, nextAt}
@@ -30,10 +30,10 @@ module _ (S : Set) (cs : List ℕ) (g : Assignment) (k : ℕ) (slots : Slot → 
   constants-last constants =
       let c = constants-stay S cs g k slots constants in
       record {
-        noIs = was S cs g k at no 0 0 25 refl ∙ c .noIs;
-        yesIs = was S cs g k at yes 0 0 25 refl ∙ c .yesIs;
-        noughtIs = was S cs g k at nought 0 0 25 refl ∙ c .noughtIs;
-        unitIs = was S cs g k at unit 0 0 25 refl ∙ c .unitIs;
+        noIs = was S cs g k at bitZero 0 0 25 refl ∙ c .noIs;
+        yesIs = was S cs g k at bitOne 0 0 25 refl ∙ c .yesIs;
+        wordZeroIs = was S cs g k at wordZero 0 0 25 refl ∙ c .wordZeroIs;
+        unitIs = was S cs g k at wordOne 0 0 25 refl ∙ c .unitIs;
         argumentIs = λ t i h l. was S cs g k at argument t i 25 refl ∙ c .argumentIs t i h l;
       }
 
@@ -64,7 +64,7 @@ module _ (S : Set) (cs : List ℕ) (g : Assignment) (k : ℕ) (slots : Slot → 
     exits-are =
         handed-on exits 12 (only ended) (λ b h. scanned S cs g k at 11 exits refl 0 b (omega arith) (omega arith) refl refl)
         (λ b i h l. quiet-cond (later 12) (eqb (numberOf S cs k (suc b - 1) i) EXIT) _ _
-        (quiet-if (later 12) bitSort (slot active (suc b - 1) i) (only yes) (ap asBit (was S cs g k at active (suc b - 1) i 12 refl) ∙ inactive b i h l)) (λ v. refl))
+        (quiet-if (later 12) bitSort (slot active (suc b - 1) i) (only bitOne) (ap asBit (was S cs g k at active (suc b - 1) i 12 refl) ∙ inactive b i h l)) (λ v. refl))
         (S .threads) (omega arith)
         ∙ (was S cs g k at ended 0 0 12 refl ∙ ended-stays S cs g k slots)
 

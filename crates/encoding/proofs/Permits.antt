@@ -8,10 +8,10 @@ use lib.Dec.{ltb, eqb·suc-zero}
 use lib.ListN.{length}
 use Rattle.base.proofs.Choice.{passed, cond-both, cond-ap, and-true}
 use Rattle.records.specs.Sets.{Set}
-use Rattle.step.specs.Machine.{State, needsEmpty}
+use Rattle.machine.specs.Machine.{State, needsEmpty}
 use Rattle.table.specs.Programs.{leafValue, choiceBit, treeValue, ref}
 use Rattle.table.specs.Values.{Assignment, Value, bit, asBit}
-use Rattle.encoding.specs.Slots.{Kind, choice, active, opening, shut, barred, held, waits, may, none, fit, one, heap, val, adr, mem, accu, full, halted, flag, mark, ended, code, no, yes, nought, unit, argument, Slot, slot, kinds}
+use Rattle.encoding.specs.Slots.{Kind, choice, active, opening, shut, barred, held, waits, mayExecute, none, permittedFirst, onePermitted, sharedMemory, val, adr, mem, accu, full, halted, flag, mark, ended, code, bitZero, bitOne, wordZero, wordOne, argument, Slot, slot, kinds}
 use Rattle.encoding.specs.Steps.{Link, chain, only, base, link, links, tree, has, permits, numberOf}
 use Rattle.encoding.proofs.Before.{clear, keeps, fixed, fixed-scan}
 use Rattle.encoding.proofs.Blocks.{refs, linkRefs, chain-refs, linksValue, chain-value}
@@ -20,10 +20,10 @@ use Rattle.encoding.proofs.Shown.{Constants, Shows}
 
 -- the bits 0 and 1
 abbrev pub bit0 : Slot
-bit0 = only no
+bit0 = only bitZero
 
 abbrev pub bit1 : Slot
-bit1 = only yes
+bit1 = only bitOne
 
 module _ (S : Set) (cs : List ℕ) (g : Assignment) (k : ℕ) (slots : Slot → Value) where
   abbrev at : Slot → Value
@@ -34,10 +34,10 @@ module _ (S : Set) (cs : List ℕ) (g : Assignment) (k : ℕ) (slots : Slot → 
   pub constants-stay : Constants S slots → Constants S at
   unfolding kinds
   constants-stay c = record {
-    noIs = keeps g S cs k slots 0 no 0 0 11 refl ∙ c .noIs;
-    yesIs = keeps g S cs k slots 0 yes 0 0 11 refl ∙ c .yesIs;
-    noughtIs = keeps g S cs k slots 0 nought 0 0 11 refl ∙ c .noughtIs;
-    unitIs = keeps g S cs k slots 0 unit 0 0 11 refl ∙ c .unitIs;
+    noIs = keeps g S cs k slots 0 bitZero 0 0 11 refl ∙ c .noIs;
+    yesIs = keeps g S cs k slots 0 bitOne 0 0 11 refl ∙ c .yesIs;
+    wordZeroIs = keeps g S cs k slots 0 wordZero 0 0 11 refl ∙ c .wordZeroIs;
+    unitIs = keeps g S cs k slots 0 wordOne 0 0 11 refl ∙ c .unitIs;
     argumentIs = λ t i h l. keeps g S cs k slots 0 argument t i 11 refl ∙ c .argumentIs t i h l;
   }
 
@@ -52,7 +52,7 @@ module _ (S : Set) (cs : List ℕ) (g : Assignment) (k : ℕ) (slots : Slot → 
   pub shows-stay : (s : State) → Shows S cs slots s → Shows S cs at s
   unfolding kinds
   shows-stay s shown = record {
-    heapIs = keeps g S cs k slots 0 heap 0 0 11 refl ∙ shown .heapIs;
+    memoryIs = keeps g S cs k slots 0 sharedMemory 0 0 11 refl ∙ shown .memoryIs;
     endedIs = ended-stays ∙ shown .endedIs;
     codeIs = code-stays ∙ shown .codeIs;
     accuIs = λ t h. keeps g S cs k slots 0 accu t 0 11 refl ∙ shown .accuIs t h;
@@ -120,9 +120,9 @@ module _ (S : Set) (cs : List ℕ) (g : Assignment) (k : ℕ) (slots : Slot → 
       ∙ chain-value at g (link S cs k waits t 0) (length cs) (ref (slot halted t 0))
 
   pub may-is : (t : ℕ) → t < T →
-      at (slot may t 0) ≡ bit (not ((asBit (at (slot full t 0)) && asBit (at (slot barred t 0))) || asBit (at (slot waits t 0))))
+      at (slot mayExecute t 0) ≡ bit (not ((asBit (at (slot full t 0)) && asBit (at (slot barred t 0))) || asBit (at (slot waits t 0))))
   unfolding kinds chain
-  may-is t h = fixed g S cs k slots 0 may 7 3 refl refl t 0 h (omega arith) refl refl refl
+  may-is t h = fixed g S cs k slots 0 mayExecute 7 3 refl refl t 0 h (omega arith) refl refl refl
 
   pub none-first : at (slot none 0 0) ≡ at bit1
   unfolding kinds chain
@@ -138,14 +138,14 @@ module _ (S : Set) (cs : List ℕ) (g : Assignment) (k : ℕ) (slots : Slot → 
       ∙ (ap (treeValue g at) (passed _ _ first)
       ∙ ap (λ i. cond (asBit (at (slot choice 0 i))) (at bit0) (at (slot none 0 i))) back)
 
-  pub fit-is : (j : ℕ) → j < T + T → at (slot fit 0 j) ≡ bit (asBit (at (permits S cs k j)) && asBit (at (slot none 0 j)))
+  pub fit-is : (j : ℕ) → j < T + T → at (slot permittedFirst 0 j) ≡ bit (asBit (at (permits S cs k j)) && asBit (at (slot none 0 j)))
   unfolding kinds chain
   fit-is j h =
-      fixed g S cs k slots 0 fit 9 1 refl refl 0 j (omega arith) h refl refl
+      fixed g S cs k slots 0 permittedFirst 9 1 refl refl 0 j (omega arith) h refl refl
       (and-true (cond-both (λ (x : Slot). clear 9 2 x ≡ true) (ltb j T) refl refl) refl)
 
-  pub one-is : at (only one) ≡ linksValue at (link S cs k one 0 0) (T + T) (at bit0)
+  pub one-is : at (only onePermitted) ≡ linksValue at (link S cs k onePermitted 0 0) (T + T) (at bit0)
   unfolding kinds
   one-is =
-      fixed g S cs k slots 0 one 10 0 refl refl 0 0 (omega arith) (omega arith) refl refl (chain-clear 10 1 one 0 0 refl (λ j. refl))
-      ∙ chain-value at g (link S cs k one 0 0) (T + T) (ref bit0)
+      fixed g S cs k slots 0 onePermitted 10 0 refl refl 0 0 (omega arith) (omega arith) refl refl (chain-clear 10 1 onePermitted 0 0 refl (λ j. refl))
+      ∙ chain-value at g (link S cs k onePermitted 0 0) (T + T) (ref bit0)

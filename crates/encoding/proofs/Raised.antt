@@ -11,14 +11,14 @@ use Rattle.base.proofs.Choice.{and-left, and-right, and-right-false, and-yes}
 use Rattle.records.specs.Instructions.{CHECK}
 use Rattle.records.specs.Sets.{Set}
 use Rattle.records.specs.declared.Statement.{Statement}
-use Rattle.step.specs.Machine.{State, isEmpty, needsEmpty, current, isCheck, contains, markedAt, opened, waiting, permitted, leavesMark, cleared, marksAfter, unmarked}
-use Rattle.step.specs.declared.Choice.{Choice}
-use Rattle.step.specs.declared.Choice.the-variants.{Execute, Flush}
-use Rattle.step.specs.declared.Mark.{Mark}
+use Rattle.machine.specs.Machine.{State, isEmpty, needsEmpty, current, isCheck, contains, markedAt, opened, waiting, permitted, leavesMark, cleared, marksAfter, unmarked}
+use Rattle.machine.specs.declared.Choice.{Choice}
+use Rattle.machine.specs.declared.Choice.the-variants.{Execute, Flush}
+use Rattle.machine.specs.declared.Mark.{Mark}
 use Rattle.table.specs.Formulas.{bitSort}
 use Rattle.table.specs.Values.{Assignment, Value, bit, asBit}
 use Rattle.encoding.specs.Assignments.{named}
-use Rattle.encoding.specs.Slots.{active, shut, raised, mark, yes, Slot, slot}
+use Rattle.encoding.specs.Slots.{active, shut, raised, mark, bitOne, Slot, slot}
 use Rattle.encoding.specs.Steps.{only, link}
 use Rattle.encoding.proofs.Active.{past, active-at, active-links}
 use Rattle.encoding.proofs.Blocks.{links-none}
@@ -129,8 +129,8 @@ module _ (S : Set) (cs : List ℕ) (g : Assignment) (k : ℕ) (slots : Slot → 
         let markIs : at 10 (slot mark t p) ≡ bit marked = was S cs g k slots mark t p 10 refl ∙ given .ready .shows .markIs t p ht hp there in
         settles S cs g k slots 10 raised refl t p ht hp there refl
         ∙ (active-links S cs g k slots s c given t ht (at 10) (active-at S cs g k slots s c given t ht 10 (λ j. was S cs g k slots active t j 10 refl))
-        (isCheck S t point) bitSort (λ j. only yes) (bit true) (at 10 (slot mark t p))
-        (λ l. was S cs g k slots yes 0 0 10 refl ∙ given .ready .constants .yesIs)
+        (isCheck S t point) bitSort (λ j. only bitOne) (bit true) (at 10 (slot mark t p))
+        (λ l. was S cs g k slots bitOne 0 0 10 refl ∙ given .ready .constants .yesIs)
         (λ l. ap (λ (j : Statement). eqb (j .number) CHECK && eqb (j .argument) point) (past S cs g k slots s c given t ht l))
         ∙ ((λ z. cond e (cond checks (bit true) (markIs z)) (markIs z))
         ∙ (ap (λ v. cond e v (bit marked)) (bit-cond checks true marked) ∙ bit-cond e (cond checks true marked) marked)))
@@ -141,4 +141,4 @@ module _ (S : Set) (cs : List ℕ) (g : Assignment) (k : ℕ) (slots : Slot → 
         let raisedIs : at 21 (slot raised t p) ≡ bit (raisedTo S s t point (named c 0 t)) =
         since S cs g k slots raised t p 11 21 refl ∙ (raised-value ∙ ap (λ b. bit (raisedTo S s t point b)) (given .bits 0 t (omega arith) ht)) in
         settles S cs g k slots 21 mark refl t p ht hp there refl ∙ (links-none (at 21) (link S cs k mark t p) _
-        ∙ ((λ z. bit (asBit (shutIs z) && asBit (raisedIs z))) ∙ ap bit (sym (marks-after S s t point c (given .may)))))
+        ∙ ((λ z. bit (asBit (shutIs z) && asBit (raisedIs z))) ∙ ap bit (sym (marks-after S s t point c (given .isPermitted)))))

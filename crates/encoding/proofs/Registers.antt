@@ -10,20 +10,20 @@ use Rattle.base.proofs.Choice.{and-true, and-right-false, clash, passed}
 use Rattle.records.specs.Instructions.{STORE, JMP, MEM, CAS, HALT, instructions}
 use Rattle.records.specs.Sets.{Set}
 use Rattle.records.specs.declared.Statement.{Statement}
-use Rattle.step.specs.Machine.{State, current, executed, flushed, nextPc}
-use Rattle.step.specs.declared.Choice.{Choice}
-use Rattle.step.specs.declared.Thread.{Thread}
+use Rattle.machine.specs.Machine.{State, current, executed, flushed, nextPc}
+use Rattle.machine.specs.declared.Choice.{Choice}
+use Rattle.machine.specs.declared.Thread.{Thread}
 use Rattle.table.specs.Formulas.{bitSort, wordSort}
 use Rattle.table.specs.Programs.{treeValue}
 use Rattle.table.specs.Values.{Assignment, Value, bit, word, asBit}
-use Rattle.encoding.specs.Slots.{choice, active, address, loaded, result, test, untest, val, adr, mem, accu, full, halted, flag, no, yes, Slot, slot}
+use Rattle.encoding.specs.Slots.{choice, active, address, loaded, result, test, notTest, val, adr, mem, accu, full, halted, flag, bitZero, bitOne, Slot, slot}
 use Rattle.encoding.specs.Steps.{skip, ifThen, only, setsAccu, isConditional, isOneWay, isPlain, rests, leads, link, base}
 use Rattle.encoding.proofs.Active.{nextThread, apart, past, number-fits, active-at, active-links, uncounted}
 use Rattle.encoding.proofs.Blocks.{linkValue, linksValue, Quiet, quiet-if, quiet-cond, links-at}
 use Rattle.encoding.proofs.Leads.{leads-value}
 use Rattle.encoding.proofs.Rows.{byNumber, resultOf, target, loadedOf, matchOf, accu-row, mem-row, adr-row, val-row, full-row, halted-row}
 use Rattle.encoding.proofs.Stages.{Given, stage, was, since, settles}
-use Rattle.encoding.proofs.Statements.{word-cond, bit-cond, tests, address-value, loaded-value, result-value, test-value, untest-value}
+use Rattle.encoding.proofs.Statements.{word-cond, bit-cond, tests, address-value, loaded-value, result-value, test-value, not-test-value}
 
 module _ (S : Set) (cs : List ℕ) (g : Assignment) (k : ℕ) (slots : Slot → Value) (s : State) (c : Choice) (given : Given S cs g k slots s c) where
   abbrev at : ℕ → Slot → Value
@@ -91,8 +91,8 @@ module _ (S : Set) (cs : List ℕ) (g : Assignment) (k : ℕ) (slots : Slot → 
     halted-value =
         let haltedIs : at 19 (slot halted t 0) ≡ bit (x .halted) = was S cs g k slots halted t 0 19 refl ∙ given .ready .shows .haltedIs t ht in
         settles S cs g k slots 19 halted refl t 0 ht (omega arith) refl refl
-        ∙ (active-links S cs g k slots s c given t ht (at 19) (active-at S cs g k slots s c given t ht 19 (λ j. was S cs g k slots active t j 19 refl)) (λ j. eqb (S .statement t j .number) HALT) bitSort (λ j. only yes) (bit true) (at 19 (slot halted t 0))
-        (λ l. was S cs g k slots yes 0 0 19 refl ∙ given .ready .constants .yesIs) (uncounted S cs g k slots s c given t ht (λ n. eqb n HALT) refl)
+        ∙ (active-links S cs g k slots s c given t ht (at 19) (active-at S cs g k slots s c given t ht 19 (λ j. was S cs g k slots active t j 19 refl)) (λ j. eqb (S .statement t j .number) HALT) bitSort (λ j. only bitOne) (bit true) (at 19 (slot halted t 0))
+        (λ l. was S cs g k slots bitOne 0 0 19 refl ∙ given .ready .constants .yesIs) (uncounted S cs g k slots s c given t ht (λ n. eqb n HALT) refl)
         ∙ ((λ z. cond e (cond (eqb (i .number) HALT) (bit true) (haltedIs z)) (haltedIs z))
         ∙ (ap (λ v. cond e v (bit (x .halted))) (bit-cond (eqb (i .number) HALT) true (x .halted) ∙ ap bit (halted-row (i .mode) (i .argument) (s .memory) x (i .number) fits)) ∙ go e f)))
       where
@@ -105,10 +105,10 @@ module _ (S : Set) (cs : List ℕ) (g : Assignment) (k : ℕ) (slots : Slot → 
     full-value =
         let fullIs : at 18 (slot full t 0) ≡ bit (x .full) = was S cs g k slots full t 0 18 refl ∙ given .ready .shows .fullIs t ht in
         let flushesIs : at 18 (slot choice 0 (S .threads + t)) ≡ bit f = was S cs g k slots choice 0 (S .threads + t) 18 refl ∙ given .ready .chosen .flushesIs t ht in
-        let noIs : at 18 (only no) ≡ bit false = was S cs g k slots no 0 0 18 refl ∙ given .ready .constants .noIs in
+        let noIs : at 18 (only bitZero) ≡ bit false = was S cs g k slots bitZero 0 0 18 refl ∙ given .ready .constants .noIs in
         settles S cs g k slots 18 full refl t 0 ht (omega arith) refl refl
-        ∙ (active-links S cs g k slots s c given t ht (at 18) (active-at S cs g k slots s c given t ht 18 (λ j. was S cs g k slots active t j 18 refl)) (λ j. eqb (S .statement t j .number) STORE) bitSort (λ j. only yes) (bit true) (treeValue g (at 18) (base S cs k full t 0))
-        (λ l. was S cs g k slots yes 0 0 18 refl ∙ given .ready .constants .yesIs) (uncounted S cs g k slots s c given t ht (λ n. eqb n STORE) refl)
+        ∙ (active-links S cs g k slots s c given t ht (at 18) (active-at S cs g k slots s c given t ht 18 (λ j. was S cs g k slots active t j 18 refl)) (λ j. eqb (S .statement t j .number) STORE) bitSort (λ j. only bitOne) (bit true) (treeValue g (at 18) (base S cs k full t 0))
+        (λ l. was S cs g k slots bitOne 0 0 18 refl ∙ given .ready .constants .yesIs) (uncounted S cs g k slots s c given t ht (λ n. eqb n STORE) refl)
         ∙ ((λ z. let B = cond (asBit (flushesIs z)) (noIs z) (fullIs z) in cond e (cond (eqb (i .number) STORE) (bit true) B) B)
         ∙ go e f (apart S cs g k slots s c given t ht)))
       where
@@ -170,9 +170,9 @@ module _ (S : Set) (cs : List ℕ) (g : Assignment) (k : ℕ) (slots : Slot → 
         let n = S .statement t q .number in
         let to = S .statement t q .argument in
         let on = slot active t q in
-        let always = ifThen bitSort on (only yes) in
-        let taken = ifThen bitSort on (slot (cond (isPlain n) test untest) t q) in
-        let missed = ifThen bitSort on (slot (cond (isPlain n) untest test) t q) in
+        let always = ifThen bitSort on (only bitOne) in
+        let taken = ifThen bitSort on (slot (cond (isPlain n) test notTest) t q) in
+        let missed = ifThen bitSort on (slot (cond (isPlain n) notTest test) t q) in
         let jump = cond (eqb to j) always skip in
         let miss = cond (eqb (suc q) j) missed skip in
         let both = cond (eqb to j) taken miss in
@@ -181,11 +181,11 @@ module _ (S : Set) (cs : List ℕ) (g : Assignment) (k : ℕ) (slots : Slot → 
         let none : Quiet v skip = λ w. refl in
         let fires : (y : Slot) → Quiet v (ifThen bitSort on y) = λ y. quiet-if v bitSort on y h in
         quiet-cond v (rests n) skip (cond (isOneWay n to q) jump rest) none
-        (quiet-cond v (isOneWay n to q) jump rest (quiet-cond v (eqb to j) always skip (fires (only yes)) none)
+        (quiet-cond v (isOneWay n to q) jump rest (quiet-cond v (eqb to j) always skip (fires (only bitOne)) none)
         (quiet-cond v (isConditional n) both next
-        (quiet-cond v (eqb to j) taken miss (fires (slot (cond (isPlain n) test untest) t q))
-        (quiet-cond v (eqb (suc q) j) missed skip (fires (slot (cond (isPlain n) untest test) t q)) none))
-        (quiet-cond v (eqb (suc q) j) always skip (fires (only yes)) none)))
+        (quiet-cond v (eqb to j) taken miss (fires (slot (cond (isPlain n) test notTest) t q))
+        (quiet-cond v (eqb (suc q) j) missed skip (fires (slot (cond (isPlain n) notTest test) t q)) none))
+        (quiet-cond v (eqb (suc q) j) always skip (fires (only bitOne)) none)))
 
     pub flag-value : (j : ℕ) → j < S .count t → at 21 (slot flag t j) ≡ bit (eqb (after .pc) j)
     unfolding executed nextPc
@@ -200,11 +200,11 @@ module _ (S : Set) (cs : List ℕ) (g : Assignment) (k : ℕ) (slots : Slot → 
         executesIs : at 20 (slot choice 0 t) ≡ bit e
         executesIs = was S cs g k slots choice 0 t 20 refl ∙ given .ready .chosen .executesIs t ht
 
-        noIs : at 20 (only no) ≡ bit false
-        noIs = was S cs g k slots no 0 0 20 refl ∙ given .ready .constants .noIs
+        noIs : at 20 (only bitZero) ≡ bit false
+        noIs = was S cs g k slots bitZero 0 0 20 refl ∙ given .ready .constants .noIs
 
-        yesIs : at 20 (only yes) ≡ bit true
-        yesIs = was S cs g k slots yes 0 0 20 refl ∙ given .ready .constants .yesIs
+        yesIs : at 20 (only bitOne) ≡ bit true
+        yesIs = was S cs g k slots bitOne 0 0 20 refl ∙ given .ready .constants .yesIs
 
         baseIs : treeValue g (at 20) (base S cs k flag t j) ≡ bit (B e)
         baseIs = tests g (at 20) (rests (S .statement t j .number)) _ _ _ _ flagIs ((λ z. cond (asBit (executesIs z)) (noIs z) (flagIs z)) ∙ bit-cond e false (eqb (x .pc) j))
@@ -236,7 +236,7 @@ module _ (S : Set) (cs : List ℕ) (g : Assignment) (k : ℕ) (slots : Slot → 
             ∙ leads-value (at 20) t (x .pc) j (i .argument) (x .accu) (activeIs (x .pc) inner ∙ ap bit (and-true (eq-eqb (x .pc) (x .pc) refl) h)) yesIs (i .number) fits
             (lt-ltb (i .number) instructions (given .wellFormed .numbers t (x .pc) inner))
             (since S cs g k slots test t (x .pc) 5 20 refl ∙ test-value S cs g k slots s c given t ht (x .pc) inner)
-            (since S cs g k slots untest t (x .pc) 6 20 refl ∙ untest-value S cs g k slots s c given t ht (x .pc) inner)
+            (since S cs g k slots notTest t (x .pc) 6 20 refl ∙ not-test-value S cs g k slots s c given t ht (x .pc) inner)
         inside false l h =
             let outer = ltb-false (x .pc) (S .count t) l in
             let off : eqb (x .pc) j ≡ false = ne-eqb (x .pc) j (λ (p : x .pc ≡ j). omega arith) in

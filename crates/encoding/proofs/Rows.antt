@@ -7,8 +7,8 @@ use lib.Dec.{eqb}
 use Rattle.base.specs.Words.{plus, minus, times, topBit}
 use Rattle.records.specs.Instructions.{STORE, ADD, ADDI, SUB, SUBI, MUL, MULI, JZ, JNZ, JS, JNS, JNZNS, MEM, CAS, HALT}
 use Rattle.records.specs.declared.Statement.{Statement}
-use Rattle.step.specs.Machine.{load, address, wordTaken, row, nextPc, executed, casMatches}
-use Rattle.step.specs.declared.Thread.{Thread}
+use Rattle.machine.specs.Machine.{load, address, wordTaken, row, nextPc, executed, casMatches}
+use Rattle.machine.specs.declared.Thread.{Thread}
 use Rattle.encoding.specs.Steps.{loads, setsAccu, isConditional}
 
 -- by cases on the instruction number; 20 is none
@@ -58,8 +58,8 @@ testOf n accu =
     (cond (eqb n JNZNS) (topBit accu || eqb accu 0)
     false))
 
-abbrev pub untestOf : (n accu : ℕ) → Bool
-untestOf n accu = cond (isConditional n) (not (testOf n accu)) false
+abbrev pub notTestOf : (n accu : ℕ) → Bool
+notTestOf n accu = cond (isConditional n) (not (testOf n accu)) false
 
 -- a statement's mode and argument, a thread and memory
 module _ (mode argument : ℕ) (memory : ℕ → ℕ) (x : Thread) where

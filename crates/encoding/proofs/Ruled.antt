@@ -12,13 +12,13 @@ use Rattle.base.specs.Below.{every, some}
 use Rattle.base.proofs.Choice.{chosen, passed, and-yes}
 use Rattle.records.specs.Sets.{Set}
 use Rattle.records.specs.declared.Statement.{Statement}
-use Rattle.step.specs.Machine.{State, contains, markedAt, opened, waiting, current, needsEmpty, isEmpty, permitted}
-use Rattle.step.specs.declared.Choice.{Choice}
-use Rattle.step.specs.declared.Choice.the-variants.{Execute, Flush}
-use Rattle.step.proofs.Runs.{permitted-actor}
+use Rattle.machine.specs.Machine.{State, contains, markedAt, opened, waiting, current, needsEmpty, isEmpty, permitted}
+use Rattle.machine.specs.declared.Choice.{Choice}
+use Rattle.machine.specs.declared.Choice.the-variants.{Execute, Flush}
+use Rattle.machine.proofs.Runs.{permitted-actor}
 use Rattle.table.specs.Formulas.{bitSort}
 use Rattle.table.specs.Values.{Assignment, Value, bit, asBit}
-use Rattle.encoding.specs.Slots.{choice, active, opening, shut, barred, held, waits, may, none, fit, one, full, mark, ended, Slot, slot}
+use Rattle.encoding.specs.Slots.{choice, active, opening, shut, barred, held, waits, mayExecute, none, permittedFirst, onePermitted, full, mark, ended, Slot, slot}
 use Rattle.encoding.specs.Steps.{skip, ifThen, andWith, orWith, only, link, has, permits, idle, acting}
 use Rattle.encoding.proofs.Blocks.{linkValue, linksValue, Quiet, quiet-if, quiet-cond, links-at}
 use Rattle.encoding.proofs.Demands.{chosenAt, rule}
@@ -193,7 +193,7 @@ module _ (S : Set) (cs : List ℕ) (g : Assignment) (k : ℕ) (slots : Slot → 
               ∙ ap₂ (λ (a b : Bool). cond (a && b) (bit true) (bit false)) (eq-eqb pc pc refl) e
           inside l false = refl
 
-      may-are : (t : ℕ) → t < T → g .choice k 0 t ≡ true → asBit (at (slot may t 0)) ≡ permitted S s (Execute t)
+      may-are : (t : ℕ) → t < T → g .choice k 0 t ≡ true → asBit (at (slot mayExecute t 0)) ≡ permitted S s (Execute t)
       unfolding permitted
       may-are t h e =
           ap asBit (may-is S cs g k slots t h)
@@ -224,13 +224,13 @@ module _ (S : Set) (cs : List ℕ) (g : Assignment) (k : ℕ) (slots : Slot → 
       allowed j = asBit (at (permits S cs k j))
 
       allowed-execute : (t : ℕ) → t < T → g .choice k 0 t ≡ true → allowed t ≡ permitted S s (Execute t)
-      allowed-execute t h e = ap (λ (b : Bool). asBit (at (cond b (slot may t 0) (slot full (t - T) 0)))) (lt-ltb t T h) ∙ may-are t h e
+      allowed-execute t h e = ap (λ (b : Bool). asBit (at (cond b (slot mayExecute t 0) (slot full (t - T) 0)))) (lt-ltb t T h) ∙ may-are t h e
 
       allowed-flush : (t : ℕ) → t < T → allowed (T + t) ≡ permitted S s (Flush t)
       unfolding permitted
       allowed-flush t h =
           let back : T + t - T ≡ t = omega arith in
-          ap (λ (b : Bool). asBit (at (cond b (slot may (T + t) 0) (slot full (T + t - T) 0)))) (le-ltb (T + t) T (omega arith))
+          ap (λ (b : Bool). asBit (at (cond b (slot mayExecute (T + t) 0) (slot full (T + t - T) 0)))) (le-ltb (T + t) T (omega arith))
           ∙ (ap (λ i. asBit (at (slot full i 0))) back
           ∙ (ap asBit (there .fullIs t h)
           ∙ (twice (s .threads t .full) ∙ ap (λ (b : Bool). b && not (isEmpty (s .threads t))) (sym (lt-ltb t T h)))))
@@ -241,18 +241,18 @@ module _ (S : Set) (cs : List ℕ) (g : Assignment) (k : ℕ) (slots : Slot → 
 
       -- ---- exactly one choice
 
-      one-upto : (n : ℕ) → n ≤ T + T → asBit (linksValue at (link S cs k one 0 0) n (at bit0)) ≡ single bits allowed n
+      one-upto : (n : ℕ) → n ≤ T + T → asBit (linksValue at (link S cs k onePermitted 0 0) n (at bit0)) ≡ single bits allowed n
       unfolding linksValue single
       one-upto zero h = ap asBit (here .noIs)
       one-upto (suc j) h = go (bits j) (choice-is S cs g k slots j h) (one-upto j (omega arith))
         where
-          fits : asBit (at (slot fit 0 j)) ≡ (allowed j && noneBelow bits j)
+          fits : asBit (at (slot permittedFirst 0 j)) ≡ (allowed j && noneBelow bits j)
           fits = ap asBit (fit-is S cs g k slots j h) ∙ ap (λ (x : Value). allowed j && asBit x) (none-upto constants j (omega arith))
 
-          go : (b : Bool) → at (slot choice 0 j) ≡ bit b → asBit (linksValue at (link S cs k one 0 0) j (at bit0)) ≡ single bits allowed j →
-              asBit (cond (asBit (at (slot choice 0 j))) (at (slot fit 0 j)) (linksValue at (link S cs k one 0 0) j (at bit0))) ≡ cond b (allowed j && noneBelow bits j) (single bits allowed j)
-          go true e before = ap (λ (x : Value). asBit (cond (asBit x) (at (slot fit 0 j)) (linksValue at (link S cs k one 0 0) j (at bit0)))) e ∙ fits
-          go false e before = ap (λ (x : Value). asBit (cond (asBit x) (at (slot fit 0 j)) (linksValue at (link S cs k one 0 0) j (at bit0)))) e ∙ before
+          go : (b : Bool) → at (slot choice 0 j) ≡ bit b → asBit (linksValue at (link S cs k onePermitted 0 0) j (at bit0)) ≡ single bits allowed j →
+              asBit (cond (asBit (at (slot choice 0 j))) (at (slot permittedFirst 0 j)) (linksValue at (link S cs k onePermitted 0 0) j (at bit0))) ≡ cond b (allowed j && noneBelow bits j) (single bits allowed j)
+          go true e before = ap (λ (x : Value). asBit (cond (asBit x) (at (slot permittedFirst 0 j)) (linksValue at (link S cs k onePermitted 0 0) j (at bit0)))) e ∙ fits
+          go false e before = ap (λ (x : Value). asBit (cond (asBit x) (at (slot permittedFirst 0 j)) (linksValue at (link S cs k onePermitted 0 0) j (at bit0)))) e ∙ before
 
       module _ (going : s .ended ≡ false) where
         live-rule : rule S cs g k slots ≡ single bits allowed (T + T)

@@ -7,7 +7,7 @@ use lib.ListN.{length, getD}
 use Rattle.base.specs.Below.{some}
 use Rattle.records.specs.Sets.{Set, nothing}
 use Rattle.records.specs.declared.Statement.{Statement}
-use Rattle.step.specs.Machine.{contains}
+use Rattle.machine.specs.Machine.{contains}
 use Rattle.table.specs.declared.Formula.{Formula}
 use Rattle.table.specs.Programs.{compiled, records, next, root, upto}
 use Rattle.table.specs.Values.{Assignment, satisfies, met, valuesFrom, valueOf}

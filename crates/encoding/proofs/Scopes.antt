@@ -10,10 +10,10 @@ use lib.ListN.{length}
 use Rattle.base.proofs.Choice.{cond-both, and-true}
 use Rattle.records.specs.Instructions.{STORE, ADD, ADDI, SUB, SUBI, MUL, MULI, JZ, JNZ, JS, JNS, JNZNS, MEM, CAS, HALT, EXIT, CHECK}
 use Rattle.records.specs.Sets.{Set}
-use Rattle.step.specs.Machine.{needsEmpty}
+use Rattle.machine.specs.Machine.{needsEmpty}
 use Rattle.table.specs.Formulas.{bitSort, wordSort}
 use Rattle.table.specs.Programs.{ref, unary, binary, ternary, not1, top1, and2, or2, equal2, plus2, minus2, times2, read2, if3}
-use Rattle.encoding.specs.Slots.{Kind, choice, active, opening, shut, barred, held, waits, may, none, fit, one, address, loaded, swaps, result, test, untest, flushTo, writeTo, flushValue, writeValue, raised, exits, codes, heap, val, adr, mem, accu, full, halted, flag, mark, halts, ended, code, no as bit0, yes as bit1, nought, unit, argument, Slot, slot, Term, kindNumber}
+use Rattle.encoding.specs.Slots.{Kind, choice, active, opening, shut, barred, held, waits, mayExecute, none, permittedFirst, onePermitted, address, loaded, swaps, result, test, notTest, flushTo, writeTo, flushValue, writeValue, raised, exits, codes, sharedMemory, val, adr, mem, accu, full, halted, flag, mark, halts, ended, code, bitZero as bit0, bitOne as bit1, wordZero, wordOne, argument, Slot, slot, Term, kindNumber}
 use Rattle.encoding.specs.Steps.{Link, skip, ifThen, andWith, orWith, only, word0, loads, setsAccu, isConditional, isOneWay, isPlain, rests, numberOf, argumentOf, checkpoint, has, loadTree, indirectTree, resultTree, testTree, noneTree, leavingTree, base, leads, links, link, ruled, step}
 use Rattle.encoding.proofs.Blocks.{refs, linkRefs, chain-refs}
 use Rattle.encoding.proofs.Sources.{steady}
@@ -28,13 +28,13 @@ module _ (S : Set) (cs : List ℕ) (done : Slot → Bool) where
   either : (b : Bool) (t u : Term) → refs done t ≡ true → refs done u ≡ true → refs done (cond b t u) ≡ true
   either b t u = cond-both (λ (t : Term). refs done t ≡ true) b {x = t} {y = u}
 
-  result-known : (n t i : ℕ) → done (slot accu t 0) ≡ true → done (slot loaded t i) ≡ true → done (slot argument t i) ≡ true → (refs done (ternary (if3 wordSort) (ref (slot swaps t i)) (ref (only unit)) (ref word0))) ≡ true →
+  result-known : (n t i : ℕ) → done (slot accu t 0) ≡ true → done (slot loaded t i) ≡ true → done (slot argument t i) ≡ true → (refs done (ternary (if3 wordSort) (ref (slot swaps t i)) (ref (only wordOne)) (ref word0))) ≡ true →
       refs done (resultTree S cs 0 n t i) ≡ true
   result-known n t i x w v s =
       let X = ref (slot accu t 0) in
       let W = ref (slot loaded t i) in
       let N = ref (slot argument t i) in
-      let r6 = cond (eqb n CAS) (ternary (if3 wordSort) (ref (slot swaps t i)) (ref (only unit)) (ref word0)) W in
+      let r6 = cond (eqb n CAS) (ternary (if3 wordSort) (ref (slot swaps t i)) (ref (only wordOne)) (ref word0)) W in
       let r5 = cond (eqb n MULI) (binary times2 X N) r6 in
       let r4 = cond (eqb n MUL) (binary times2 X W) r5 in
       let r3 = cond (eqb n SUBI) (binary minus2 X N) r4 in
@@ -46,7 +46,7 @@ module _ (S : Set) (cs : List ℕ) (done : Slot → Bool) where
       (either (eqb n SUBI) (binary minus2 X N) r4 (and-true x v)
       (either (eqb n MUL) (binary times2 X W) r5 (and-true x w)
       (either (eqb n MULI) (binary times2 X N) r6 (and-true x v)
-      (either (eqb n CAS) (ternary (if3 wordSort) (ref (slot swaps t i)) (ref (only unit)) (ref word0)) W s w))))))
+      (either (eqb n CAS) (ternary (if3 wordSort) (ref (slot swaps t i)) (ref (only wordOne)) (ref word0)) W s w))))))
 
   test-known : (n t : ℕ) → done (slot accu t 0) ≡ true → done word0 ≡ true → done (only bit0) ≡ true → refs done (testTree S cs 0 n t) ≡ true
   test-known n t x z o =
@@ -57,14 +57,14 @@ module _ (S : Set) (cs : List ℕ) (done : Slot → Bool) where
       (either (eqb n JS || eqb n JNS) (unary top1 X) r2 x
       (either (eqb n JNZNS) (binary or2 (unary top1 X) (binary equal2 X (ref word0))) (ref (only bit0)) (and-true x (and-true x z)) o))
 
-  leads-known : (t j i : ℕ) → done (slot active t i) ≡ true → done (slot test t i) ≡ true → done (slot untest t i) ≡ true → done (only bit1) ≡ true → linkRefs done (leads S cs 0 t j i) ≡ true
+  leads-known : (t j i : ℕ) → done (slot active t i) ≡ true → done (slot test t i) ≡ true → done (slot notTest t i) ≡ true → done (only bit1) ≡ true → linkRefs done (leads S cs 0 t j i) ≡ true
   leads-known t j i x p q y =
       let n = numberOf S cs 0 t i in
       let target = argumentOf S cs 0 t i in
       let on = slot active t i in
       let always = ifThen bitSort on (only bit1) in
-      let taken = ifThen bitSort on (slot (cond (isPlain n) test untest) t i) in
-      let missed = ifThen bitSort on (slot (cond (isPlain n) untest test) t i) in
+      let taken = ifThen bitSort on (slot (cond (isPlain n) test notTest) t i) in
+      let missed = ifThen bitSort on (slot (cond (isPlain n) notTest test) t i) in
       let jump = cond (eqb target j) always skip in
       let miss = cond (eqb (suc i) j) missed skip in
       let both = cond (eqb target j) taken miss in
@@ -72,7 +72,7 @@ module _ (S : Set) (cs : List ℕ) (done : Slot → Bool) where
       pick (rests n) skip (cond (isOneWay n target i) jump (cond (isConditional n) both next)) refl
       (pick (isOneWay n target i) jump (cond (isConditional n) both next) (link-if (eqb target j) always (λ e. and-true x y))
       (pick (isConditional n) both next
-      (pick (eqb target j) taken miss (and-true x (named (isPlain n) test untest p q)) (link-if (eqb (suc i) j) missed (λ e. and-true x (named (isPlain n) untest test q p))))
+      (pick (eqb target j) taken miss (and-true x (named (isPlain n) test notTest p q)) (link-if (eqb (suc i) j) missed (λ e. and-true x (named (isPlain n) notTest test q p))))
       (link-if (eqb (suc i) j) always (λ e. and-true x y))))
     where
       pick : (b : Bool) (l m : Link) → linkRefs done l ≡ true → linkRefs done m ≡ true → linkRefs done (cond b l m) ≡ true
@@ -99,7 +99,7 @@ module _ (S : Set) (cs : List ℕ) (done : Slot → Bool) where
         go false f = let far = eqb-false b 0 f in let z : 0 ≡ a = omega arith in ap (λ (c : ℕ). done (slot l c (b - 1))) z ∙ left (b - 1) (omega arith)
 
     load-known : (t : ℕ) (x : Slot) → done x ≡ true → refs done (loadTree S cs 0 t x) ≡ true
-    load-known t x e = and-true (and-true (still (slot full t 0) refl) (and-true (still (slot adr t 0) refl) e)) (and-true (still (slot val t 0) refl) (and-true (still (only heap) refl) e))
+    load-known t x e = and-true (and-true (still (slot full t 0) refl) (and-true (still (slot adr t 0) refl) e)) (and-true (still (slot val t 0) refl) (and-true (still (only sharedMemory) refl) e))
 
     -- the choice bits: thread a executes, or flushes
     pub choice-known : (j : ℕ) → 0 < kindNumber kind → j < S .threads + S .threads → done (slot choice 0 j) ≡ true
@@ -129,12 +129,12 @@ module _ (S : Set) (cs : List ℕ) (done : Slot → Bool) where
           let z : 0 ≡ a = omega arith in
           and-true (choice-known none a b h g (b - 1) (omega arith) (omega arith)) (and-true (still none a b h g (only bit0) refl) (ap (λ (c : ℕ). done (slot none c (b - 1))) z ∙ g .rowBefore (b - 1) (omega arith) refl))
 
-  fit-known : (a b : ℕ) (h : There S cs fit a b) (g : SetBefore S cs steady done fit a b) → refs done (base S cs 0 fit a b) ≡ true
-  fit-known a b h g = and-true (go (ltb b (S .threads)) refl) (let c = h .column in early fit a b h g none 0 b (omega arith) (record { row = omega arith; column = omega arith; is = refl }))
+  fit-known : (a b : ℕ) (h : There S cs permittedFirst a b) (g : SetBefore S cs steady done permittedFirst a b) → refs done (base S cs 0 permittedFirst a b) ≡ true
+  fit-known a b h g = and-true (go (ltb b (S .threads)) refl) (let c = h .column in early permittedFirst a b h g none 0 b (omega arith) (record { row = omega arith; column = omega arith; is = refl }))
     where
-      go : (t : Bool) → ltb b (S .threads) ≡ t → done (cond t (slot may b 0) (slot full (b - S .threads) 0)) ≡ true
-      go true e = early fit a b h g may b 0 (omega arith) (record { row = ltb-true b (S .threads) e; column = omega arith; is = refl })
-      go false e = still fit a b h g (slot full (b - S .threads) 0) refl
+      go : (t : Bool) → ltb b (S .threads) ≡ t → done (cond t (slot mayExecute b 0) (slot full (b - S .threads) 0)) ≡ true
+      go true e = early permittedFirst a b h g mayExecute b 0 (omega arith) (record { row = ltb-true b (S .threads) e; column = omega arith; is = refl })
+      go false e = still permittedFirst a b h g (slot full (b - S .threads) 0) refl
 
   base-known : (kind : Kind) → kindNumber kind < 36 → (a b : ℕ) → There S cs kind a b → SetBefore S cs steady done kind a b → refs done (base S cs 0 kind a b) ≡ true
   base-known choice n a b h g = refl
@@ -144,24 +144,24 @@ module _ (S : Set) (cs : List ℕ) (done : Slot → Bool) where
   base-known barred n a b h g = still barred a b h g (only bit0) refl
   base-known held n a b h g = and-true (still held a b h g (slot mark a b) refl) (early held a b h g shut 0 b (omega arith) (record { row = omega arith; column = h .column; is = refl }))
   base-known waits n a b h g = still waits a b h g (slot halted a 0) refl
-  base-known may n a b h g = and-true (and-true (still may a b h g (slot full a 0) refl) (early may a b h g barred a 0 (omega arith) (record { row = h .row; column = omega arith; is = refl }))) (early may a b h g waits a 0 (omega arith) (record { row = h .row; column = omega arith; is = refl }))
+  base-known mayExecute n a b h g = and-true (and-true (still mayExecute a b h g (slot full a 0) refl) (early mayExecute a b h g barred a 0 (omega arith) (record { row = h .row; column = omega arith; is = refl }))) (early mayExecute a b h g waits a 0 (omega arith) (record { row = h .row; column = omega arith; is = refl }))
   base-known none n a b h g = none-known a b h g
-  base-known fit n a b h g = fit-known a b h g
-  base-known one n a b h g = still one a b h g (only bit0) refl
+  base-known permittedFirst n a b h g = fit-known a b h g
+  base-known onePermitted n a b h g = still onePermitted a b h g (only bit0) refl
   base-known address n a b h g = either (eqb (S .statement a b .mode) 1) (indirectTree S cs 0 a b) (ref (slot argument a b)) (load-known address a b h g a (slot argument a b) (still address a b h g (slot argument a b) refl)) (still address a b h g (slot argument a b) refl)
   base-known loaded n a b h g = either (loads (numberOf S cs 0 a b)) (loadTree S cs 0 a (slot address a b)) (ref word0) (load-known loaded a b h g a (slot address a b) (early loaded a b h g address a b (omega arith) (record { row = h .row; column = h .column; is = refl }))) (still loaded a b h g (word0) refl)
-  base-known swaps n a b h g = either (eqb (numberOf S cs 0 a b) CAS) (binary and2 (ref (slot active a b)) (binary equal2 (binary read2 (ref (only heap)) (ref (slot address a b))) (ref (slot mem a 0)))) (ref (only bit0)) (and-true (early swaps a b h g active a b (omega arith) (record { row = h .row; column = h .column; is = refl })) (and-true (and-true (still swaps a b h g (only heap) refl) (early swaps a b h g address a b (omega arith) (record { row = h .row; column = h .column; is = refl }))) (still swaps a b h g (slot mem a 0) refl))) (still swaps a b h g (only bit0) refl)
-  base-known result n a b h g = result-known (numberOf S cs 0 a b) a b (still result a b h g (slot accu a 0) refl) (early result a b h g loaded a b (omega arith) (record { row = h .row; column = h .column; is = refl })) (still result a b h g (slot argument a b) refl) (and-true (early result a b h g swaps a b (omega arith) (record { row = h .row; column = h .column; is = refl })) (and-true (still result a b h g (only unit) refl) (still result a b h g (word0) refl)))
+  base-known swaps n a b h g = either (eqb (numberOf S cs 0 a b) CAS) (binary and2 (ref (slot active a b)) (binary equal2 (binary read2 (ref (only sharedMemory)) (ref (slot address a b))) (ref (slot mem a 0)))) (ref (only bit0)) (and-true (early swaps a b h g active a b (omega arith) (record { row = h .row; column = h .column; is = refl })) (and-true (and-true (still swaps a b h g (only sharedMemory) refl) (early swaps a b h g address a b (omega arith) (record { row = h .row; column = h .column; is = refl }))) (still swaps a b h g (slot mem a 0) refl))) (still swaps a b h g (only bit0) refl)
+  base-known result n a b h g = result-known (numberOf S cs 0 a b) a b (still result a b h g (slot accu a 0) refl) (early result a b h g loaded a b (omega arith) (record { row = h .row; column = h .column; is = refl })) (still result a b h g (slot argument a b) refl) (and-true (early result a b h g swaps a b (omega arith) (record { row = h .row; column = h .column; is = refl })) (and-true (still result a b h g (only wordOne) refl) (still result a b h g (word0) refl)))
   base-known test n a b h g = test-known (numberOf S cs 0 a b) a (still test a b h g (slot accu a 0) refl) (still test a b h g (word0) refl) (still test a b h g (only bit0) refl)
-  base-known untest n a b h g = either (isConditional (numberOf S cs 0 a b)) (unary not1 (ref (slot test a b))) (ref (only bit0)) (early untest a b h g test a b (omega arith) (record { row = h .row; column = h .column; is = refl })) (still untest a b h g (only bit0) refl)
+  base-known notTest n a b h g = either (isConditional (numberOf S cs 0 a b)) (unary not1 (ref (slot test a b))) (ref (only bit0)) (early notTest a b h g test a b (omega arith) (record { row = h .row; column = h .column; is = refl })) (still notTest a b h g (only bit0) refl)
   base-known flushTo n a b h g = still flushTo a b h g (word0) refl
   base-known writeTo n a b h g = scan writeTo a b h g writeTo (only flushTo) (h .row) (early writeTo a b h g flushTo 0 0 (omega arith) (record { row = omega arith; column = omega arith; is = refl })) (λ d l. g .rowBefore d l refl)
-  base-known flushValue n a b h g = and-true (still flushValue a b h g (only heap) refl) (early flushValue a b h g writeTo 0 (S .threads) (omega arith) (record { row = omega arith; column = omega arith; is = refl }))
+  base-known flushValue n a b h g = and-true (still flushValue a b h g (only sharedMemory) refl) (early flushValue a b h g writeTo 0 (S .threads) (omega arith) (record { row = omega arith; column = omega arith; is = refl }))
   base-known writeValue n a b h g = scan writeValue a b h g writeValue (only flushValue) (h .row) (early writeValue a b h g flushValue 0 0 (omega arith) (record { row = omega arith; column = omega arith; is = refl })) (λ d l. g .rowBefore d l refl)
   base-known raised n a b h g = still raised a b h g (slot mark a b) refl
   base-known exits n a b h g = scan exits a b h g exits (only ended) (h .row) (still exits a b h g (only ended) refl) (λ d l. g .rowBefore d l refl)
   base-known codes n a b h g = scan codes a b h g codes (only code) (h .row) (still codes a b h g (only code) refl) (λ d l. g .rowBefore d l refl)
-  base-known heap n a b h g = and-true (still heap a b h g (only heap) refl) (and-true (early heap a b h g writeTo 0 (S .threads) (omega arith) (record { row = omega arith; column = omega arith; is = refl })) (early heap a b h g writeValue 0 (S .threads) (omega arith) (record { row = omega arith; column = omega arith; is = refl })))
+  base-known sharedMemory n a b h g = and-true (still sharedMemory a b h g (only sharedMemory) refl) (and-true (early sharedMemory a b h g writeTo 0 (S .threads) (omega arith) (record { row = omega arith; column = omega arith; is = refl })) (early sharedMemory a b h g writeValue 0 (S .threads) (omega arith) (record { row = omega arith; column = omega arith; is = refl })))
   base-known val n a b h g = still val a b h g (slot val a 0) refl
   base-known adr n a b h g = still adr a b h g (slot adr a 0) refl
   base-known mem n a b h g = still mem a b h g (slot mem a 0) refl
@@ -175,8 +175,8 @@ module _ (S : Set) (cs : List ℕ) (done : Slot → Bool) where
   base-known code n a b h g = early code a b h g codes 0 (S .threads) (omega arith) (record { row = omega arith; column = omega arith; is = refl })
   base-known bit0 n a b h g = absurd (omega arith)
   base-known bit1 n a b h g = absurd (omega arith)
-  base-known nought n a b h g = absurd (omega arith)
-  base-known unit n a b h g = absurd (omega arith)
+  base-known wordZero n a b h g = absurd (omega arith)
+  base-known wordOne n a b h g = absurd (omega arith)
   base-known argument n a b h g = absurd (omega arith)
 
   link-known : (kind : Kind) → kindNumber kind < 36 → (a b : ℕ) → There S cs kind a b → SetBefore S cs steady done kind a b → (i : ℕ) → i < links S cs 0 kind a b → linkRefs done (link S cs 0 kind a b i) ≡ true
@@ -187,16 +187,16 @@ module _ (S : Set) (cs : List ℕ) (done : Slot → Bool) where
   link-known barred n a b h g i l = link-if (needsEmpty (numberOf S cs 0 a i)) (ifThen bitSort (slot active a i) (only bit1)) (λ e. and-true (early barred a b h g active a i (omega arith) (record { row = h .row; column = l; is = refl })) (still barred a b h g (only bit1) refl))
   link-known held n a b h g i l = refl
   link-known waits n a b h g i l = link-if (has S cs 0 a i) (orWith (slot held a i)) (λ e. early waits a b h g held a i (omega arith) (record { row = h .row; column = l; is = e }))
-  link-known may n a b h g i l = refl
+  link-known mayExecute n a b h g i l = refl
   link-known none n a b h g i l = refl
-  link-known fit n a b h g i l = refl
-  link-known one n a b h g i l = and-true (choice-known one a b h g i (omega arith) l) (early one a b h g fit 0 i (omega arith) (record { row = omega arith; column = l; is = refl }))
+  link-known permittedFirst n a b h g i l = refl
+  link-known onePermitted n a b h g i l = and-true (choice-known onePermitted a b h g i (omega arith) l) (early onePermitted a b h g permittedFirst 0 i (omega arith) (record { row = omega arith; column = l; is = refl }))
   link-known address n a b h g i l = refl
   link-known loaded n a b h g i l = refl
   link-known swaps n a b h g i l = refl
   link-known result n a b h g i l = refl
   link-known test n a b h g i l = refl
-  link-known untest n a b h g i l = refl
+  link-known notTest n a b h g i l = refl
   link-known flushTo n a b h g i l = and-true (choice-known flushTo a b h g (S .threads + i) (omega arith) (omega arith)) (still flushTo a b h g (slot adr i 0) refl)
   link-known writeTo n a b h g i l = link-if (eqb (numberOf S cs 0 (b - 1) i) CAS) (ifThen wordSort (slot swaps (b - 1) i) (slot address (b - 1) i)) (λ e. let p = prior writeTo a b h g i l (h .column) in and-true (early writeTo a b h g swaps (b - 1) i (omega arith) (record { row = p .row; column = p .column; is = refl })) (early writeTo a b h g address (b - 1) i (omega arith) (record { row = p .row; column = p .column; is = refl })))
   link-known flushValue n a b h g i l = and-true (choice-known flushValue a b h g (S .threads + i) (omega arith) (omega arith)) (still flushValue a b h g (slot val i 0) refl)
@@ -204,28 +204,28 @@ module _ (S : Set) (cs : List ℕ) (done : Slot → Bool) where
   link-known raised n a b h g i l = link-if (eqb (numberOf S cs 0 a i) CHECK && eqb (argumentOf S cs 0 a i) (checkpoint S cs 0 b)) (ifThen bitSort (slot active a i) (only bit1)) (λ e. and-true (early raised a b h g active a i (omega arith) (record { row = h .row; column = l; is = refl })) (still raised a b h g (only bit1) refl))
   link-known exits n a b h g i l = link-if (eqb (numberOf S cs 0 (b - 1) i) EXIT) (ifThen bitSort (slot active (b - 1) i) (only bit1)) (λ e. let p = prior exits a b h g i l (h .column) in and-true (early exits a b h g active (b - 1) i (omega arith) (p)) (still exits a b h g (only bit1) refl))
   link-known codes n a b h g i l = link-if (eqb (numberOf S cs 0 (b - 1) i) EXIT) (ifThen wordSort (slot active (b - 1) i) (slot argument (b - 1) i)) (λ e. let p = prior codes a b h g i l (h .column) in and-true (early codes a b h g active (b - 1) i (omega arith) (p)) (still codes a b h g (slot argument (b - 1) i) refl))
-  link-known heap n a b h g i l = refl
+  link-known sharedMemory n a b h g i l = refl
   link-known val n a b h g i l = link-if (eqb (numberOf S cs 0 a i) STORE) (ifThen wordSort (slot active a i) (slot accu a 0)) (λ e. and-true (early val a b h g active a i (omega arith) (record { row = h .row; column = l; is = refl })) (still val a b h g (slot accu a 0) refl))
   link-known adr n a b h g i l = link-if (eqb (numberOf S cs 0 a i) STORE) (ifThen wordSort (slot active a i) (slot address a i)) (λ e. and-true (early adr a b h g active a i (omega arith) (record { row = h .row; column = l; is = refl })) (early adr a b h g address a i (omega arith) (record { row = h .row; column = l; is = refl })))
   link-known mem n a b h g i l = link-if (eqb (numberOf S cs 0 a i) MEM) (ifThen wordSort (slot active a i) (slot loaded a i)) (λ e. and-true (early mem a b h g active a i (omega arith) (record { row = h .row; column = l; is = refl })) (early mem a b h g loaded a i (omega arith) (record { row = h .row; column = l; is = refl })))
   link-known accu n a b h g i l = link-if (setsAccu (numberOf S cs 0 a i)) (ifThen wordSort (slot active a i) (slot result a i)) (λ e. and-true (early accu a b h g active a i (omega arith) (record { row = h .row; column = l; is = refl })) (early accu a b h g result a i (omega arith) (record { row = h .row; column = l; is = refl })))
   link-known full n a b h g i l = link-if (eqb (numberOf S cs 0 a i) STORE) (ifThen bitSort (slot active a i) (only bit1)) (λ e. and-true (early full a b h g active a i (omega arith) (record { row = h .row; column = l; is = refl })) (still full a b h g (only bit1) refl))
   link-known halted n a b h g i l = link-if (eqb (numberOf S cs 0 a i) HALT) (ifThen bitSort (slot active a i) (only bit1)) (λ e. and-true (early halted a b h g active a i (omega arith) (record { row = h .row; column = l; is = refl })) (still halted a b h g (only bit1) refl))
-  link-known flag n a b h g i l = leads-known a b i (early flag a b h g active a i (omega arith) (record { row = h .row; column = l; is = refl })) (early flag a b h g test a i (omega arith) (record { row = h .row; column = l; is = refl })) (early flag a b h g untest a i (omega arith) (record { row = h .row; column = l; is = refl })) (still flag a b h g (only bit1) refl)
+  link-known flag n a b h g i l = leads-known a b i (early flag a b h g active a i (omega arith) (record { row = h .row; column = l; is = refl })) (early flag a b h g test a i (omega arith) (record { row = h .row; column = l; is = refl })) (early flag a b h g notTest a i (omega arith) (record { row = h .row; column = l; is = refl })) (still flag a b h g (only bit1) refl)
   link-known mark n a b h g i l = refl
   link-known halts n a b h g i l = still halts a b h g (slot halted i 0) refl
   link-known ended n a b h g i l = refl
   link-known code n a b h g i l = refl
   link-known bit0 n a b h g i l = absurd (omega arith)
   link-known bit1 n a b h g i l = absurd (omega arith)
-  link-known nought n a b h g i l = absurd (omega arith)
-  link-known unit n a b h g i l = absurd (omega arith)
+  link-known wordZero n a b h g i l = absurd (omega arith)
+  link-known wordOne n a b h g i l = absurd (omega arith)
   link-known argument n a b h g i l = absurd (omega arith)
 
   -- what a step's constraint names
   ruled-known : ((x : Slot) → steady x ≡ true → done x ≡ true) → Below S cs 11 done → refs done (ruled S cs 0) ≡ true
   ruled-known f low =
-      and-true (f (only ended) refl) (and-true (low none 0 (S .threads + S .threads) (omega arith) (record { row = omega arith; column = omega arith; is = refl })) (low one 0 0 (omega arith) (record { row = omega arith; column = omega arith; is = refl })))
+      and-true (f (only ended) refl) (and-true (low none 0 (S .threads + S .threads) (omega arith) (record { row = omega arith; column = omega arith; is = refl })) (low onePermitted 0 0 (omega arith) (record { row = omega arith; column = omega arith; is = refl })))
 
 -- each tree of a step names what stays or was set before it
 pub step-known : (S : Set) (cs : List ℕ) → Along S cs (λ done s t. refs done t ≡ true) (λ done t. refs done t ≡ true) steady (step S cs 0)

@@ -6,11 +6,11 @@ use mathlib.Core.List.{List}
 use lib.Dec.{eqb}
 use lib.ListN.{getD, length}
 use Rattle.records.specs.Sets.{Set}
-use Rattle.step.specs.Machine.{State, contains, markedAt, opened}
-use Rattle.step.specs.declared.Choice.{Choice}
+use Rattle.machine.specs.Machine.{State, contains, markedAt, opened}
+use Rattle.machine.specs.declared.Choice.{Choice}
 use Rattle.table.specs.Values.{Assignment, Value, bit, word, memory}
 use Rattle.encoding.specs.Assignments.{named}
-use Rattle.encoding.specs.Slots.{choice, active, shut, heap, val, adr, mem, accu, full, halted, flag, mark, ended, code, no, yes, nought, unit, argument, Slot, slot}
+use Rattle.encoding.specs.Slots.{choice, active, shut, sharedMemory, val, adr, mem, accu, full, halted, flag, mark, ended, code, bitZero, bitOne, wordZero, wordOne, argument, Slot, slot}
 use Rattle.encoding.specs.Steps.{only}
 
 -- every checkpoint that a thread contains is among cs
@@ -29,14 +29,14 @@ abbrev pub NoBits : Set → Assignment → ℕ → Type 0
 NoBits S g k = (kind t : ℕ) → kind < 2 → t < S .threads → g .choice k kind t ≡ false
 
 pub record Constants (S : Set) (slots : Slot → Value) : Type 0 where
-  pub noIs : slots (only no) ≡ bit false
-  pub yesIs : slots (only yes) ≡ bit true
-  pub noughtIs : slots (only nought) ≡ word 0
-  pub unitIs : slots (only unit) ≡ word 1
+  pub noIs : slots (only bitZero) ≡ bit false
+  pub yesIs : slots (only bitOne) ≡ bit true
+  pub wordZeroIs : slots (only wordZero) ≡ word 0
+  pub unitIs : slots (only wordOne) ≡ word 1
   pub argumentIs : (t i : ℕ) → t < S .threads → i < S .count t → slots (slot argument t i) ≡ word (S .statement t i .argument)
 
 pub record Shows (S : Set) (cs : List ℕ) (slots : Slot → Value) (s : State) : Type 0 where
-  pub heapIs : slots (only heap) ≡ memory (s .memory)
+  pub memoryIs : slots (only sharedMemory) ≡ memory (s .memory)
   pub endedIs : slots (only ended) ≡ bit (s .ended)
   pub codeIs : slots (only code) ≡ word (s .code)
   pub accuIs : (t : ℕ) → t < S .threads → slots (slot accu t 0) ≡ word (s .threads t .accu)

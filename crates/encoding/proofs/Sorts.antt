@@ -12,12 +12,12 @@ use Rattle.base.proofs.Below.{every-at}
 use Rattle.base.proofs.Choice.{cond-both, and-left}
 use Rattle.records.specs.Instructions.{STORE, ADD, ADDI, SUB, SUBI, MUL, MULI, JMP, JZ, JNZ, JS, JNS, JNZNS, MEM, CAS, HALT, EXIT, CHECK}
 use Rattle.records.specs.Sets.{Set}
-use Rattle.step.specs.Machine.{contains, needsEmpty}
+use Rattle.machine.specs.Machine.{contains, needsEmpty}
 use Rattle.table.specs.Formulas.{noSort, bitSort, wordSort, memorySort}
 use Rattle.table.specs.Values.{changed}
 use Rattle.table.specs.Programs.{choiceBit, sets}
 use Rattle.table.proofs.Sorted.{LeafFits, Fits, ProgramFits, fits-upto}
-use Rattle.encoding.specs.Slots.{Kind, choice, active, opening, shut, barred, held, waits, may, none, fit, one, address, loaded, swaps, result, test, untest, flushTo, writeTo, flushValue, writeValue, raised, exits, codes, heap, val, adr, mem, accu, full, halted, flag, mark, halts, ended, code, no, yes, nought, unit, argument, Slot, slot, same, Term, kinds, kindAt, kindNumber, kindSort, startPlace}
+use Rattle.encoding.specs.Slots.{Kind, choice, active, opening, shut, barred, held, waits, mayExecute, none, permittedFirst, onePermitted, address, loaded, swaps, result, test, notTest, flushTo, writeTo, flushValue, writeValue, raised, exits, codes, sharedMemory, val, adr, mem, accu, full, halted, flag, mark, halts, ended, code, bitZero, bitOne, wordZero, wordOne, argument, Slot, slot, same, Term, kinds, kindAt, kindNumber, kindSort, startPlace}
 use Rattle.encoding.specs.Steps.{Link, skip, ifThen, andWith, orWith, linked, chain, only, loads, setsAccu, isConditional, isOneWay, isPlain, rests, shape, base, loadTree, resultTree, testTree, leads, link, links, tree, ifActive, kept, entry, line, block, rows, columns, ruled}
 
 -- ---- kinds by number
@@ -35,16 +35,16 @@ kind-known shut = refl
 kind-known barred = refl
 kind-known held = refl
 kind-known waits = refl
-kind-known may = refl
+kind-known mayExecute = refl
 kind-known none = refl
-kind-known fit = refl
-kind-known one = refl
+kind-known permittedFirst = refl
+kind-known onePermitted = refl
 kind-known address = refl
 kind-known loaded = refl
 kind-known swaps = refl
 kind-known result = refl
 kind-known test = refl
-kind-known untest = refl
+kind-known notTest = refl
 kind-known flushTo = refl
 kind-known writeTo = refl
 kind-known flushValue = refl
@@ -52,7 +52,7 @@ kind-known writeValue = refl
 kind-known raised = refl
 kind-known exits = refl
 kind-known codes = refl
-kind-known heap = refl
+kind-known sharedMemory = refl
 kind-known val = refl
 kind-known adr = refl
 kind-known mem = refl
@@ -64,10 +64,10 @@ kind-known mark = refl
 kind-known halts = refl
 kind-known ended = refl
 kind-known code = refl
-kind-known no = refl
-kind-known yes = refl
-kind-known nought = refl
-kind-known unit = refl
+kind-known bitZero = refl
+kind-known bitOne = refl
+kind-known wordZero = refl
+kind-known wordOne = refl
 kind-known argument = refl
 
 pub kind-number : (n : ℕ) → n < 41 → kindNumber (kindAt n) ≡ n
@@ -97,16 +97,16 @@ start-lies (slot shut a b) = (omega arith, refl)
 start-lies (slot barred a b) = (omega arith, refl)
 start-lies (slot held a b) = (omega arith, refl)
 start-lies (slot waits a b) = (omega arith, refl)
-start-lies (slot may a b) = (omega arith, refl)
+start-lies (slot mayExecute a b) = (omega arith, refl)
 start-lies (slot none a b) = (omega arith, refl)
-start-lies (slot fit a b) = (omega arith, refl)
-start-lies (slot one a b) = (omega arith, refl)
+start-lies (slot permittedFirst a b) = (omega arith, refl)
+start-lies (slot onePermitted a b) = (omega arith, refl)
 start-lies (slot address a b) = (omega arith, refl)
 start-lies (slot loaded a b) = (omega arith, refl)
 start-lies (slot swaps a b) = (omega arith, refl)
 start-lies (slot result a b) = (omega arith, refl)
 start-lies (slot test a b) = (omega arith, refl)
-start-lies (slot untest a b) = (omega arith, refl)
+start-lies (slot notTest a b) = (omega arith, refl)
 start-lies (slot flushTo a b) = (omega arith, refl)
 start-lies (slot writeTo a b) = (omega arith, refl)
 start-lies (slot flushValue a b) = (omega arith, refl)
@@ -114,7 +114,7 @@ start-lies (slot writeValue a b) = (omega arith, refl)
 start-lies (slot raised a b) = (omega arith, refl)
 start-lies (slot exits a b) = (omega arith, refl)
 start-lies (slot codes a b) = (omega arith, refl)
-start-lies (slot heap a b) = (omega arith, refl)
+start-lies (slot sharedMemory a b) = (omega arith, refl)
 start-lies (slot val a b) = (omega arith, refl)
 start-lies (slot adr a b) = (omega arith, refl)
 start-lies (slot mem a b) = (omega arith, refl)
@@ -126,10 +126,10 @@ start-lies (slot mark a b) = (omega arith, refl)
 start-lies (slot halts a b) = (omega arith, refl)
 start-lies (slot ended a b) = (omega arith, refl)
 start-lies (slot code a b) = (omega arith, refl)
-start-lies (slot no a b) = (omega arith, refl)
-start-lies (slot yes a b) = (omega arith, refl)
-start-lies (slot nought a b) = (omega arith, refl)
-start-lies (slot unit a b) = (omega arith, refl)
+start-lies (slot bitZero a b) = (omega arith, refl)
+start-lies (slot bitOne a b) = (omega arith, refl)
+start-lies (slot wordZero a b) = (omega arith, refl)
+start-lies (slot wordOne a b) = (omega arith, refl)
 start-lies (slot argument a b) = (omega arith, refl)
 
 -- ---- links
@@ -174,11 +174,11 @@ module _ (S : Set) (cs : List ℕ) (k : ℕ) where
     where
       go : (a b c d e f : Bool) → LinkFits
           (cond a skip
-          (cond b (cond d (ifThen bitSort (slot active t i) (only yes)) skip)
+          (cond b (cond d (ifThen bitSort (slot active t i) (only bitOne)) skip)
           (cond c
-          (cond d (ifThen bitSort (slot active t i) (slot (cond f test untest) t i))
-          (cond e (ifThen bitSort (slot active t i) (slot (cond f untest test) t i)) skip))
-          (cond e (ifThen bitSort (slot active t i) (only yes)) skip)))) bitSort
+          (cond d (ifThen bitSort (slot active t i) (slot (cond f test notTest) t i))
+          (cond e (ifThen bitSort (slot active t i) (slot (cond f notTest test) t i)) skip))
+          (cond e (ifThen bitSort (slot active t i) (only bitOne)) skip)))) bitSort
       go true b c d e f = tt
       go false true c true e f = (refl, (refl, (refl, refl)))
       go false true c false e f = tt
@@ -195,42 +195,42 @@ module _ (S : Set) (cs : List ℕ) (k : ℕ) where
   link-fits active a b i = tt
   link-fits opening a p t = cond-both (λ (l : Link). LinkFits l bitSort) (contains S t (getD cs p 0)) (refl, refl) tt
   link-fits shut a b i = tt
-  link-fits barred t b i = active-fits (needsEmpty (S .statement t i .number)) bitSort t i (only yes) refl refl
+  link-fits barred t b i = active-fits (needsEmpty (S .statement t i .number)) bitSort t i (only bitOne) refl refl
   link-fits held a b i = tt
   link-fits waits t b p = cond-both (λ (l : Link). LinkFits l bitSort) (contains S t (getD cs p 0)) (refl, refl) tt
-  link-fits may a b i = tt
+  link-fits mayExecute a b i = tt
   link-fits none a b i = tt
-  link-fits fit a b i = tt
-  link-fits one a b j = (refl, (refl, (refl, refl)))
+  link-fits permittedFirst a b i = tt
+  link-fits onePermitted a b j = (refl, (refl, (refl, refl)))
   link-fits address a b i = tt
   link-fits loaded a b i = tt
   link-fits swaps a b i = tt
   link-fits result a b i = tt
   link-fits test a b i = tt
-  link-fits untest a b i = tt
+  link-fits notTest a b i = tt
   link-fits flushTo a b t = (refl, (refl, (refl, refl)))
   link-fits writeTo a t i = cond-both (λ (l : Link). LinkFits l wordSort) (eqb (S .statement (t - 1) i .number) CAS) (refl, (refl, (refl, refl))) tt
   link-fits flushValue a b t = (refl, (refl, (refl, refl)))
   link-fits writeValue a t i = cond-both (λ (l : Link). LinkFits l wordSort) (eqb (S .statement (t - 1) i .number) CAS) (refl, (refl, (refl, refl))) tt
-  link-fits raised t p i = active-fits (eqb (S .statement t i .number) CHECK && eqb (S .statement t i .argument) (getD cs p 0)) bitSort t i (only yes) refl refl
-  link-fits exits a t i = active-fits (eqb (S .statement (t - 1) i .number) EXIT) bitSort (t - 1) i (only yes) refl refl
+  link-fits raised t p i = active-fits (eqb (S .statement t i .number) CHECK && eqb (S .statement t i .argument) (getD cs p 0)) bitSort t i (only bitOne) refl refl
+  link-fits exits a t i = active-fits (eqb (S .statement (t - 1) i .number) EXIT) bitSort (t - 1) i (only bitOne) refl refl
   link-fits codes a t i = active-fits (eqb (S .statement (t - 1) i .number) EXIT) wordSort (t - 1) i (slot argument (t - 1) i) refl refl
-  link-fits heap a b i = tt
+  link-fits sharedMemory a b i = tt
   link-fits val t b i = active-fits (eqb (S .statement t i .number) STORE) wordSort t i (slot accu t 0) refl refl
   link-fits adr t b i = active-fits (eqb (S .statement t i .number) STORE) wordSort t i (slot address t i) refl refl
   link-fits mem t b i = active-fits (eqb (S .statement t i .number) MEM) wordSort t i (slot loaded t i) refl refl
   link-fits accu t b i = active-fits (setsAccu (S .statement t i .number)) wordSort t i (slot result t i) refl refl
-  link-fits full t b i = active-fits (eqb (S .statement t i .number) STORE) bitSort t i (only yes) refl refl
-  link-fits halted t b i = active-fits (eqb (S .statement t i .number) HALT) bitSort t i (only yes) refl refl
+  link-fits full t b i = active-fits (eqb (S .statement t i .number) STORE) bitSort t i (only bitOne) refl refl
+  link-fits halted t b i = active-fits (eqb (S .statement t i .number) HALT) bitSort t i (only bitOne) refl refl
   link-fits flag t j i = leads-fits t j i
   link-fits mark a b i = tt
   link-fits halts a b t = (refl, refl)
   link-fits ended a b i = tt
   link-fits code a b i = tt
-  link-fits no a b i = tt
-  link-fits yes a b i = tt
-  link-fits nought a b i = tt
-  link-fits unit a b i = tt
+  link-fits bitZero a b i = tt
+  link-fits bitOne a b i = tt
+  link-fits wordZero a b i = tt
+  link-fits wordOne a b i = tt
   link-fits argument a b i = tt
 
   module _ (bits : Bool) (words : Words S) where
@@ -270,16 +270,16 @@ module _ (S : Set) (cs : List ℕ) (k : ℕ) where
     base-fits barred a b h = refl
     base-fits held t p h = (refl, (refl, refl))
     base-fits waits a b h = refl
-    base-fits may t b h = (refl, (refl, ((refl, (refl, refl)), refl)))
+    base-fits mayExecute t b h = (refl, (refl, ((refl, (refl, refl)), refl)))
     base-fits none a j h = cond-both (λ (x : Term). Fits slotSort bits x bitSort) (eqb j 0) refl (refl, (refl, (refl, (refl, refl))))
-    base-fits fit a j h = (refl, (cond-both (λ (s : Slot). bitSort ≡ slotSort s) (ltb j (S .threads)) refl refl, refl))
-    base-fits one a b h = refl
+    base-fits permittedFirst a j h = (refl, (cond-both (λ (s : Slot). bitSort ≡ slotSort s) (ltb j (S .threads)) refl refl, refl))
+    base-fits onePermitted a b h = refl
     base-fits address t i h = cond-both (λ (x : Term). Fits slotSort bits x wordSort) (eqb (S .statement t i .mode) 1) (load-fits t (slot argument t i) refl) refl
     base-fits loaded t i h = cond-both (λ (x : Term). Fits slotSort bits x wordSort) (loads (S .statement t i .number)) (load-fits t (slot address t i) refl) refl
     base-fits swaps t i h = cond-both (λ (x : Term). Fits slotSort bits x bitSort) (eqb (S .statement t i .number) CAS) (refl, (refl, (refl, ((refl, (refl, refl)), refl)))) refl
     base-fits result t i h = result-fits (S .statement t i .number) t i
     base-fits test t i h = test-fits (S .statement t i .number) t
-    base-fits untest t i h = cond-both (λ (x : Term). Fits slotSort bits x bitSort) (isConditional (S .statement t i .number)) (refl, refl) refl
+    base-fits notTest t i h = cond-both (λ (x : Term). Fits slotSort bits x bitSort) (isConditional (S .statement t i .number)) (refl, refl) refl
     base-fits flushTo a b h = refl
     base-fits writeTo a t h = cond-both (λ (s : Slot). wordSort ≡ slotSort s) (eqb t 0) refl refl
     base-fits flushValue a b h = (refl, (refl, refl))
@@ -287,7 +287,7 @@ module _ (S : Set) (cs : List ℕ) (k : ℕ) where
     base-fits raised a b h = refl
     base-fits exits a t h = cond-both (λ (s : Slot). bitSort ≡ slotSort s) (eqb t 0) refl refl
     base-fits codes a t h = cond-both (λ (s : Slot). wordSort ≡ slotSort s) (eqb t 0) refl refl
-    base-fits heap a b h = (refl, (tt, (refl, (refl, refl))))
+    base-fits sharedMemory a b h = (refl, (tt, (refl, (refl, refl))))
     base-fits val a b h = refl
     base-fits adr a b h = refl
     base-fits mem a b h = refl
@@ -299,10 +299,10 @@ module _ (S : Set) (cs : List ℕ) (k : ℕ) where
     base-fits halts a b h = refl
     base-fits ended a b h = (refl, (refl, refl))
     base-fits code a b h = refl
-    base-fits no a b h = refl
-    base-fits yes a b h = refl
-    base-fits nought a b h = refl
-    base-fits unit a b h = (omega arith, refl)
+    base-fits bitZero a b h = refl
+    base-fits bitOne a b h = refl
+    base-fits wordZero a b h = refl
+    base-fits wordOne a b h = (omega arith, refl)
     base-fits argument t i h = (words t i, refl)
 
     pub tree-fits : (kind : Kind) (a b : ℕ) → (kindNumber kind ≡ 0 → bits ≡ true) → Fits slotSort bits (tree S cs k kind a b) (kindSort kind)

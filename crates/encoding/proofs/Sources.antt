@@ -11,7 +11,7 @@ use Rattle.base.proofs.Choice.{cond-both, or-right-true}
 use Rattle.records.specs.Sets.{Set}
 use Rattle.table.specs.Programs.{ref, leaf, unary, binary, ternary, next, root, Command, sets, needs, aims, put, placesAfter}
 use Rattle.table.proofs.Sequences.{next-shift}
-use Rattle.encoding.specs.Slots.{Kind, choice, active, opening, shut, barred, held, waits, may, none, fit, one, address, loaded, swaps, result, test, untest, flushTo, writeTo, flushValue, writeValue, raised, exits, codes, heap, val, adr, mem, accu, full, halted, flag, mark, halts, ended, code, no as bit0, yes as bit1, nought, unit, argument, Slot, slot, same, Term, kindNumber}
+use Rattle.encoding.specs.Slots.{Kind, choice, active, opening, shut, barred, held, waits, mayExecute, none, permittedFirst, onePermitted, address, loaded, swaps, result, test, notTest, flushTo, writeTo, flushValue, writeValue, raised, exits, codes, sharedMemory, val, adr, mem, accu, full, halted, flag, mark, halts, ended, code, bitZero as bit0, bitOne as bit1, wordZero, wordOne, argument, Slot, slot, same, Term, kindNumber}
 use Rattle.encoding.specs.Steps.{Link, skip, ifThen, andWith, orWith, linked, chain, only, rests, numberOf, leavingTree, base, link, links, ruled, step}
 use Rattle.encoding.proofs.Walks.{same-slot, with, After, There, SetBefore, Along, along-step}
 
@@ -29,16 +29,16 @@ way shut = passes
 way barred = passes
 way held = passes
 way waits = passes
-way may = passes
+way mayExecute = passes
 way none = passes
-way fit = passes
-way one = passes
+way permittedFirst = passes
+way onePermitted = passes
 way address = passes
 way loaded = passes
 way swaps = passes
 way result = passes
 way test = passes
-way untest = passes
+way notTest = passes
 way flushTo = passes
 way writeTo = passes
 way flushValue = passes
@@ -46,7 +46,7 @@ way writeValue = passes
 way raised = passes
 way exits = passes
 way codes = ofCode
-way heap = stays
+way sharedMemory = stays
 way val = stays
 way adr = stays
 way mem = stays
@@ -60,8 +60,8 @@ way ended = stays
 way code = stays
 way bit0 = stays
 way bit1 = stays
-way nought = stays
-way unit = stays
+way wordZero = stays
+way wordOne = stays
 way argument = stays
 
 abbrev keeps : Way → Bool
@@ -227,16 +227,16 @@ module _ (P Q : Slot → ℕ) (n m : ℕ) where
       based barred c h g = any-root (slot barred a b) (λ u v. tt) (base S cs 0 barred a b)
       based held c h g = any-root (slot held a b) (λ u v. tt) (base S cs 0 held a b)
       based waits c h g = any-root (slot waits a b) (λ u v. tt) (base S cs 0 waits a b)
-      based may c h g = any-root (slot may a b) (λ u v. tt) (base S cs 0 may a b)
+      based mayExecute c h g = any-root (slot mayExecute a b) (λ u v. tt) (base S cs 0 mayExecute a b)
       based none c h g = any-root (slot none a b) (λ u v. tt) (base S cs 0 none a b)
-      based fit c h g = any-root (slot fit a b) (λ u v. tt) (base S cs 0 fit a b)
-      based one c h g = any-root (slot one a b) (λ u v. tt) (base S cs 0 one a b)
+      based permittedFirst c h g = any-root (slot permittedFirst a b) (λ u v. tt) (base S cs 0 permittedFirst a b)
+      based onePermitted c h g = any-root (slot onePermitted a b) (λ u v. tt) (base S cs 0 onePermitted a b)
       based address c h g = any-root (slot address a b) (λ u v. tt) (base S cs 0 address a b)
       based loaded c h g = any-root (slot loaded a b) (λ u v. tt) (base S cs 0 loaded a b)
       based swaps c h g = any-root (slot swaps a b) (λ u v. tt) (base S cs 0 swaps a b)
       based result c h g = any-root (slot result a b) (λ u v. tt) (base S cs 0 result a b)
       based test c h g = any-root (slot test a b) (λ u v. tt) (base S cs 0 test a b)
-      based untest c h g = any-root (slot untest a b) (λ u v. tt) (base S cs 0 untest a b)
+      based notTest c h g = any-root (slot notTest a b) (λ u v. tt) (base S cs 0 notTest a b)
       based flushTo c h g = any-root (slot flushTo a b) (λ u v. tt) (base S cs 0 flushTo a b)
       based writeTo c h g = any-root (slot writeTo a b) (λ u v. tt) (base S cs 0 writeTo a b)
       based flushValue c h g = any-root (slot flushValue a b) (λ u v. tt) (base S cs 0 flushValue a b)
@@ -244,7 +244,7 @@ module _ (P Q : Slot → ℕ) (n m : ℕ) where
       based raised c h g = any-root (slot raised a b) (λ u v. tt) (base S cs 0 raised a b)
       based exits c h g = any-root (slot exits a b) (λ u v. tt) (base S cs 0 exits a b)
       based codes c h g = codes-may (h .row) (λ d l. g .rowBefore d l refl)
-      based heap c h g = tt
+      based sharedMemory c h g = tt
       based val c h g = staying val (h .column) (λ u v h. h, inr (refl, refl))
       based adr c h g = staying adr (h .column) (λ u v h. h, inr (refl, refl))
       based mem c h g = staying mem (h .column) (λ u v h. h, inr (refl, refl))
@@ -258,8 +258,8 @@ module _ (P Q : Slot → ℕ) (n m : ℕ) where
       based code c h g = code-may (h .row) (h .column) (g .kindsBefore codes 0 (S .threads) (omega arith) (record { row = omega arith; column = omega arith; is = refl }))
       based bit0 c h g = absurd (omega arith)
       based bit1 c h g = absurd (omega arith)
-      based nought c h g = absurd (omega arith)
-      based unit c h g = absurd (omega arith)
+      based wordZero c h g = absurd (omega arith)
+      based wordOne c h g = absurd (omega arith)
       based argument c h g = absurd (omega arith)
 
     step-fine : Fine (λ x. false) (step S cs 0)

@@ -9,12 +9,12 @@ use lib.Dec.{eqb, ltb, leb}
 use Rattle.base.proofs.Below.{every-at}
 use Rattle.base.proofs.Choice.{and-left, and-right}
 use Rattle.base.specs.Below.{every}
-use Rattle.records.specs.Sets.{Set, WellFormed, nothing}
-use Rattle.step.specs.Machine.{State, permitted}
-use Rattle.step.specs.declared.Choice.{Choice}
+use Rattle.records.specs.Sets.{Set, WellFormedSet, nothing}
+use Rattle.machine.specs.Machine.{State, permitted}
+use Rattle.machine.specs.declared.Choice.{Choice}
 use Rattle.table.specs.Programs.{treeValue, valuesAfter}
 use Rattle.table.specs.Values.{Assignment, Value}
-use Rattle.encoding.specs.Slots.{Kind, choice, active, opening, shut, barred, held, waits, may, none, fit, one, address, loaded, swaps, result, test, untest, flushTo, writeTo, flushValue, writeValue, raised, exits, codes, heap, val, adr, mem, accu, full, halted, flag, mark, halts, ended, code, no, yes, nought, unit, argument, Slot, slot, same, kindNumber, kindAt, kinds}
+use Rattle.encoding.specs.Slots.{Kind, choice, active, opening, shut, barred, held, waits, mayExecute, none, permittedFirst, onePermitted, address, loaded, swaps, result, test, notTest, flushTo, writeTo, flushValue, writeValue, raised, exits, codes, sharedMemory, val, adr, mem, accu, full, halted, flag, mark, halts, ended, code, bitZero, bitOne, wordZero, wordOne, argument, Slot, slot, same, kindNumber, kindAt, kinds}
 use Rattle.encoding.specs.Steps.{shape, tree, base, links, link, rows, columns, kept, block}
 use Rattle.encoding.proofs.Blocks.{linksValue, chain-value, others, through, through-none, through-next}
 use Rattle.encoding.proofs.Named.{scans, settledAt, scannedAt}
@@ -22,10 +22,10 @@ use Rattle.encoding.proofs.Shown.{Bits, Ready}
 
 -- what the next values of step k are computed from: the state s, where choice c is permitted and the choice bits are those of c
 pub record Given (S : Set) (cs : List ℕ) (g : Assignment) (k : ℕ) (slots : Slot → Value) (s : State) (c : Choice) : Type 0 where
-  pub wellFormed : WellFormed S
+  pub wellFormed : WellFormedSet S
   pub beyond : (t p : ℕ) → S .count t ≤ p → S .statement t p ≡ nothing
   pub ready : Ready S cs g k slots s
-  pub may : permitted S s c ≡ true
+  pub isPermitted : permitted S s c ≡ true
   pub bits : Bits S g k c
 
 -- ---- kinds by number
@@ -39,16 +39,16 @@ kind-at shut = refl
 kind-at barred = refl
 kind-at held = refl
 kind-at waits = refl
-kind-at may = refl
+kind-at mayExecute = refl
 kind-at none = refl
-kind-at fit = refl
-kind-at one = refl
+kind-at permittedFirst = refl
+kind-at onePermitted = refl
 kind-at address = refl
 kind-at loaded = refl
 kind-at swaps = refl
 kind-at result = refl
 kind-at test = refl
-kind-at untest = refl
+kind-at notTest = refl
 kind-at flushTo = refl
 kind-at writeTo = refl
 kind-at flushValue = refl
@@ -56,7 +56,7 @@ kind-at writeValue = refl
 kind-at raised = refl
 kind-at exits = refl
 kind-at codes = refl
-kind-at heap = refl
+kind-at sharedMemory = refl
 kind-at val = refl
 kind-at adr = refl
 kind-at mem = refl
@@ -68,10 +68,10 @@ kind-at mark = refl
 kind-at halts = refl
 kind-at ended = refl
 kind-at code = refl
-kind-at no = refl
-kind-at yes = refl
-kind-at nought = refl
-kind-at unit = refl
+kind-at bitZero = refl
+kind-at bitOne = refl
+kind-at wordZero = refl
+kind-at wordOne = refl
 kind-at argument = refl
 
 numbered : every 41 (λ m. eqb (kindNumber (kindAt m)) m) ≡ true
@@ -92,9 +92,9 @@ module _ (S : Set) (cs : List ℕ) (g : Assignment) (k : ℕ) (slots : Slot → 
   stays : (l : Kind) (a b n d : ℕ) → n + d ≤ 25 → ((i : ℕ) → n ≤ i → i < n + d → kindNumber l ≡ 11 + i → ⊥) → stage (n + d) (slot l a b) ≡ stage n (slot l a b)
   stays l a b n zero h f = let sum : n + 0 ≡ n = omega arith in ap (λ m. stage m (slot l a b)) sum
   stays l a b n (suc d) h f =
-      let one : n + suc d ≡ suc (n + d) = omega arith in
+      let onePermitted : n + suc d ≡ suc (n + d) = omega arith in
       let number = number-at (11 + (n + d)) (omega arith) in
-      ap (λ m. stage m (slot l a b)) one
+      ap (λ m. stage m (slot l a b)) onePermitted
       ∙ (ap (λ v. v (slot l a b)) (through-next g S cs k slots 11 (n + d))
       ∙ (others g S cs k (kindAt (11 + (n + d))) (stage (n + d)) l a b (ne-eqb (kindNumber l) (kindNumber (kindAt (11 + (n + d)))) (λ (e : kindNumber l ≡ kindNumber (kindAt (11 + (n + d)))). f (n + d) (omega arith) (omega arith) (e ∙ number)))
       ∙ stays l a b n d (omega arith) (λ i p q. f i p (omega arith))))

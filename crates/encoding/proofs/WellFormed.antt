@@ -12,14 +12,14 @@ use Rattle.records.specs.Sets.{Set, setOf}
 use Rattle.table.specs.declared.Formula.{Formula}
 use Rattle.table.specs.Formulas.{noSort, CHOICE, FIRST, CONSTRAINT, GOAL}
 use Rattle.table.specs.Programs.{choiceBit, leafFormula, binaryFormula, unaryFormula, equal2, not1, goal, Command, sets, needs, aims, next, root, records, upto, nextAfter, placesAfter, compiled}
-use Rattle.table.specs.Tables.{allFormed, formed, countOf, row, steps, InOrder, WellFormed}
+use Rattle.table.specs.Tables.{allFormed, formed, occurrences, choiceBits, steps, InOrder, WellFormedTable}
 use Rattle.table.proofs.Counted.{count-++, Apart, choice-apart, first-apart, constraint-apart, goal-apart, demands, demands-++, demands-none, demands-each, program-count}
 use Rattle.table.proofs.Ordered.{bits-upto, steps-ended}
 use Rattle.table.proofs.Sequences.{upto-first, upto-more, upto-ext, compiled-++, compiled-upto}
 use Rattle.table.proofs.Sorted.{ProgramFits, fits-++, fits-upto, program-formed}
 use Rattle.encoding.specs.Checkpoints.{checkpoints}
 use Rattle.encoding.specs.Encodings.{mapDemand, goalTree, starting, program, firsts, encoded, tableOf}
-use Rattle.encoding.specs.Slots.{Kind, choice, unit, argument, code, nought, Slot, slot, same, kindAt, kindNumber, kinds, startPlace}
+use Rattle.encoding.specs.Slots.{Kind, choice, wordOne, argument, code, wordZero, Slot, slot, same, kindAt, kindNumber, kinds, startPlace}
 use Rattle.encoding.specs.Steps.{shape, chain, kept, tree, entry, line, block, blocks, rows, columns, ruled, step}
 use Rattle.encoding.proofs.Bytes.{Bytes, word-below, set-words}
 use Rattle.encoding.proofs.Sorts.{slotSort, kind-number, sort-alike, start-lies, startSorts, Words, block-fits, ruled-fits}
@@ -38,8 +38,8 @@ module _ (S : Set) (cs : List ℕ) where
       ∙ append-assoc (block S cs k choice) (upto (λ i. block S cs k (kindAt (0 + suc i))) 10) (needs (ruled S cs k) ∷ blocks S cs k 11 25)
 
   -- its choice bits are a row
-  choice-row : (places : Slot → ℕ) (n k : ℕ) → compiled same places n (block S cs k choice) ≡ row (S .threads) k
-  unfolding upto compiled records chain row
+  choice-row : (places : Slot → ℕ) (n k : ℕ) → compiled same places n (block S cs k choice) ≡ choiceBits (S .threads) k
+  unfolding upto compiled records chain choiceBits
   choice-row places n k =
       let T = S .threads in
       let f : ℕ → List Formula = λ j. leafFormula (cond (ltb j T) (choiceBit k 0 j) (choiceBit k 1 (j - T))) ∷ [] in
@@ -57,7 +57,7 @@ module _ (S : Set) (cs : List ℕ) where
 
   step-row : (places : Slot → ℕ) (n k : ℕ) →
       compiled same places n (step S cs k)
-      ≡ row (S .threads) k ++ compiled same (placesAfter same places n (block S cs k choice)) (nextAfter same n (block S cs k choice)) (rest k)
+      ≡ choiceBits (S .threads) k ++ compiled same (placesAfter same places n (block S cs k choice)) (nextAfter same n (block S cs k choice)) (rest k)
   step-row places n k =
       ap (compiled same places n) (step-split k) ∙ (compiled-++ same places n (block S cs k choice) (rest k)
       ∙ ap (λ x. x ++ compiled same (placesAfter same places n (block S cs k choice)) (nextAfter same n (block S cs k choice)) (rest k)) (choice-row places n k))
@@ -77,8 +77,8 @@ module _ (S : Set) (cs : List ℕ) where
 
   starting-none : (operation : ℕ) → demands operation (starting S cs) ≡ 0
   starting-none operation =
-      let p = demands-++ operation (block S cs 0 unit) (block S cs 0 argument) in
-      let q = block-none operation 0 unit in
+      let p = demands-++ operation (block S cs 0 wordOne) (block S cs 0 argument) in
+      let q = block-none operation 0 wordOne in
       let r = block-none operation 0 argument in
       omega arith
 
@@ -112,8 +112,8 @@ module _ (S : Set) (cs : List ℕ) where
 
     starting-fits : (bits : Bool) → ProgramFits slotSort bits (starting S cs)
     starting-fits bits =
-        fits-++ slotSort bits (block S cs 0 unit) (block S cs 0 argument)
-        (block-fits S cs 0 bits words unit (λ (e : 39 ≡ 0). absurd (omega arith)))
+        fits-++ slotSort bits (block S cs 0 wordOne) (block S cs 0 argument)
+        (block-fits S cs 0 bits words wordOne (λ (e : 39 ≡ 0). absurd (omega arith)))
         (block-fits S cs 0 bits words argument (λ (e : 40 ≡ 0). absurd (omega arith)))
 
 -- ---- map constraints and the goal
@@ -136,7 +136,7 @@ maps-none operation map e = demands-none operation (mapDemand map) (cells map) (
 
 -- the records of the goal's tree
 abbrev aimed : (Slot → ℕ) → ℕ → List Formula
-aimed places n = binaryFormula equal2 (places (slot code 0 0)) (places (slot nought 0 0)) ∷ unaryFormula not1 n ∷ []
+aimed places n = binaryFormula equal2 (places (slot code 0 0)) (places (slot wordZero 0 0)) ∷ unaryFormula not1 n ∷ []
 
 -- ---- the whole table
 
@@ -174,11 +174,11 @@ module _ (S : Set) (cs map : List ℕ) (words : Words S) (mapWords : MapWords ma
           let r = rest-one S cs FIRST k in
           ap (demands FIRST) (step-split S cs k) ∙ omega arith
 
-  one-memory : (bound : ℕ) → countOf FIRST (encoded S cs map bound) ≤ 1
-  unfolding encoded countOf
+  one-memory : (bound : ℕ) → occurrences FIRST (encoded S cs map bound) ≤ 1
+  unfolding encoded occurrences
   one-memory bound =
       let table = compiled same startPlace 4 (program S cs map bound) in
-      let p : countOf FIRST table ≡ demands FIRST (program S cs map bound) =
+      let p : occurrences FIRST table ≡ demands FIRST (program S cs map bound) =
       program-count slotSort true FIRST (first-apart true) same (program S cs map bound) startPlace 4 (program-fits bound) in
       let q = program-none bound in
       omega arith
@@ -208,7 +208,7 @@ module _ (S : Set) (cs map : List ℕ) (words : Words S) (mapWords : MapWords ma
   innerStep k =
       compiled same (placesAfter same (stepPlaces k) (stepIndex k) (block S cs k choice)) (nextAfter same (stepIndex k) (block S cs k choice)) (rest S cs k)
 
-  inner-count : (operation : ℕ) → Apart false operation → (k : ℕ) → countOf operation (innerStep k) ≡ cond (eqb CONSTRAINT operation) 1 0
+  inner-count : (operation : ℕ) → Apart false operation → (k : ℕ) → occurrences operation (innerStep k) ≡ cond (eqb CONSTRAINT operation) 1 0
   inner-count operation apart k =
       program-count slotSort false operation apart same (rest S cs k) _ _ (rest-fits S cs words false k) ∙ rest-one S cs operation k
 
@@ -220,27 +220,27 @@ module _ (S : Set) (cs map : List ℕ) (words : Words S) (mapWords : MapWords ma
     abbrev inner : ℕ → List Formula
     inner k = innerStep k ++ cond (eqb k n) following []
 
-    following-none : (operation k : ℕ) → countOf operation following ≡ 0 → countOf operation (cond (eqb k n) following []) ≡ 0
-    unfolding countOf
-    following-none operation k e = cond-both (λ table. countOf operation table ≡ 0) (eqb k n) {x = following} {y = []} e refl
+    following-none : (operation k : ℕ) → occurrences operation following ≡ 0 → occurrences operation (cond (eqb k n) following []) ≡ 0
+    unfolding occurrences
+    following-none operation k e = cond-both (λ table. occurrences operation table ≡ 0) (eqb k n) {x = following} {y = []} e refl
 
-    no-choice : (k : ℕ) → countOf CHOICE (inner k) ≡ 0
-    unfolding countOf
+    no-choice : (k : ℕ) → occurrences CHOICE (inner k) ≡ 0
+    unfolding occurrences
     no-choice k =
         let p = count-++ CHOICE (innerStep k) (cond (eqb k n) following []) in
         let q = inner-count CHOICE choice-apart k in
         let r = following-none CHOICE k refl in
         omega arith
 
-    no-goal : (k : ℕ) → countOf GOAL (inner k) ≡ 0
-    unfolding countOf
+    no-goal : (k : ℕ) → occurrences GOAL (inner k) ≡ 0
+    unfolding occurrences
     no-goal k =
         let p = count-++ GOAL (innerStep k) (cond (eqb k n) following []) in
         let q = inner-count GOAL (goal-apart false) k in
         let r = following-none GOAL k refl in
         omega arith
 
-    some-constraint : (k : ℕ) → 1 ≤ countOf CONSTRAINT (inner k)
+    some-constraint : (k : ℕ) → 1 ≤ occurrences CONSTRAINT (inner k)
     some-constraint k =
         let p = count-++ CONSTRAINT (innerStep k) (cond (eqb k n) following []) in
         let q = inner-count CONSTRAINT (constraint-apart false) k in
@@ -250,7 +250,7 @@ module _ (S : Set) (cs map : List ℕ) (words : Words S) (mapWords : MapWords ma
     steps-compiled =
         ap (λ x. x ++ following)
         (compiled-upto same stepsPlaces stepsIndex (step S cs) (suc n)
-        ∙ upto-ext _ (λ k. row (S .threads) k ++ innerStep k) (suc n) (λ k h. step-row S cs (stepPlaces k) (stepIndex k) k))
+        ∙ upto-ext _ (λ k. choiceBits (S .threads) k ++ innerStep k) (suc n) (λ k h. step-row S cs (stepPlaces k) (stepIndex k) k))
         ∙ steps-ended (S .threads) innerStep following n
 
     abbrev startPart : List Formula
@@ -277,20 +277,20 @@ module _ (S : Set) (cs map : List ℕ) (words : Words S) (mapWords : MapWords ma
         ∙ (sym (append-assoc (compiled same stepsPlaces stepsIndex all) following (goalRecord ∷ []))
         ∙ ap (λ x. x ++ (goalRecord ∷ [])) steps-compiled))))
 
-    start-count : (operation : ℕ) → Apart false operation → countOf operation firsts ≡ 0 → countOf operation startPart ≡ 0
+    start-count : (operation : ℕ) → Apart false operation → occurrences operation firsts ≡ 0 → occurrences operation startPart ≡ 0
     start-count operation apart e =
         let p = count-++ operation firsts (compiled same startPlace 4 (starting S cs)) in
-        let q : countOf operation (compiled same startPlace 4 (starting S cs)) ≡ demands operation (starting S cs) =
+        let q : occurrences operation (compiled same startPlace 4 (starting S cs)) ≡ demands operation (starting S cs) =
         program-count slotSort false operation apart same (starting S cs) startPlace 4 (starting-fits S cs words false) in
         let r = starting-none S cs operation in
         omega arith
 
-    map-count : (operation : ℕ) → Apart false operation → countOf operation mapPart ≡ demands operation (upto (mapDemand map) (cells map))
+    map-count : (operation : ℕ) → Apart false operation → occurrences operation mapPart ≡ demands operation (upto (mapDemand map) (cells map))
     map-count operation apart =
         program-count slotSort false operation apart same (upto (mapDemand map) (cells map)) mapsPlaces mapsIndex (maps-fit false map mapWords)
 
     ordered : InOrder (S .threads) (suc n) (cells map) (encoded S cs map (suc n))
-    unfolding countOf
+    unfolding occurrences
     ordered = record {
       starts = startPart;
       maps = mapPart;
@@ -309,13 +309,13 @@ module _ (S : Set) (cs map : List ℕ) (words : Words S) (mapWords : MapWords ma
       goal = refl;
     }
 
-  pub encoded-well-formed : (bound : ℕ) → 1 ≤ bound → WellFormed (S .threads) bound (cells map) (encoded S cs map bound)
+  pub encoded-well-formed : (bound : ℕ) → 1 ≤ bound → WellFormedTable (S .threads) bound (cells map) (encoded S cs map bound)
   encoded-well-formed zero h = absurd (omega arith)
   encoded-well-formed (suc n) h = record { records = all-formed (suc n); oneMemory = one-memory (suc n); order = ordered n }
 
 -- every table of bytes and a bound from 1 on is well formed
 pub well-formed : (set map : List ℕ) (bound : ℕ) → Bytes set → Bytes map → 1 ≤ bound →
-    WellFormed (setOf set .threads) bound (cells map) (tableOf set map bound)
+    WellFormedTable (setOf set .threads) bound (cells map) (tableOf set map bound)
 unfolding tableOf
 well-formed set map bound h k l =
     encoded-well-formed (setOf set) (checkpoints (setOf set)) map (set-words set h) (λ j. (word-below map k (4 * j), word-below map k (4 * j + 2))) bound l

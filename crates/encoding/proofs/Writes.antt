@@ -10,13 +10,13 @@ use Rattle.base.proofs.Choice.{chosen, passed, and-true, and-left, and-false, a
 use Rattle.records.specs.Instructions.{CAS}
 use Rattle.records.specs.Sets.{Set}
 use Rattle.records.specs.declared.Statement.{Statement}
-use Rattle.step.specs.Machine.{State, current, address as addressOf, casMatches, actor, written, memoryAfter, wrote, noWrite}
-use Rattle.step.specs.declared.Choice.{Choice}
-use Rattle.step.specs.declared.Choice.the-variants.{Execute, Flush}
-use Rattle.step.specs.declared.Thread.{Thread}
+use Rattle.machine.specs.Machine.{State, current, address as addressOf, casMatches, actor, written, memoryAfter, wrote, noWrite}
+use Rattle.machine.specs.declared.Choice.{Choice}
+use Rattle.machine.specs.declared.Choice.the-variants.{Execute, Flush}
+use Rattle.machine.specs.declared.Thread.{Thread}
 use Rattle.table.specs.Formulas.{wordSort}
 use Rattle.table.specs.Values.{Assignment, Value, bit, word, memory, asBit, asWord, asMemory}
-use Rattle.encoding.specs.Slots.{choice, address, swaps, flushTo, writeTo, flushValue, writeValue, heap, val, adr, accu, nought, Slot, slot}
+use Rattle.encoding.specs.Slots.{choice, address, swaps, flushTo, writeTo, flushValue, writeValue, sharedMemory, val, adr, accu, wordZero, Slot, slot}
 use Rattle.encoding.specs.Steps.{skip, ifThen, only, link}
 use Rattle.encoding.proofs.Active.{eqb-swap, executing, flushing, scan-one, actor-below, executes-is, flushes-is, past, number-fits}
 use Rattle.encoding.proofs.Blocks.{linkValue, linksValue, links-none, links-at, quiet-if, quiet-cond}
@@ -173,7 +173,7 @@ module _ (S : Set) (cs : List ℕ) (g : Assignment) (k : ℕ) (slots : Slot → 
   flushTo-value =
       let below = actor-below S cs g k slots s c given in
       settles S cs g k slots 6 flushTo refl 0 0 (omega arith) (omega arith) refl refl
-      ∙ (ap (linksValue (at 6) (link S cs k flushTo 0 0) (S .threads)) (was S cs g k slots nought 0 0 6 refl ∙ given .ready .constants .noughtIs)
+      ∙ (ap (linksValue (at 6) (link S cs k flushTo 0 0) (S .threads)) (was S cs g k slots wordZero 0 0 6 refl ∙ given .ready .constants .wordZeroIs)
       ∙ flush-links (at 6) (flush-bits 6 (λ u. was S cs g k slots choice 0 (S .threads + u) 6 refl)) (λ u. slot adr u 0) (word (acting .adr)) (word 0)
       (was S cs g k slots adr (actor c) 0 6 refl ∙ given .ready .shows .adrIs (actor c) below))
 
@@ -203,9 +203,9 @@ module _ (S : Set) (cs : List ℕ) (g : Assignment) (k : ℕ) (slots : Slot → 
   flushValue-value : at 9 (only flushValue) ≡ cond (flushing c) (word (acting .val)) (word (cells (asWord place)))
   flushValue-value =
       let below = actor-below S cs g k slots s c given in
-      let heapIs : at 8 (only heap) ≡ memory cells = was S cs g k slots heap 0 0 8 refl ∙ given .ready .shows .heapIs in
+      let memoryIs : at 8 (only sharedMemory) ≡ memory cells = was S cs g k slots sharedMemory 0 0 8 refl ∙ given .ready .shows .memoryIs in
       settles S cs g k slots 8 flushValue refl 0 0 (omega arith) (omega arith) refl refl
-      ∙ ((λ z. linksValue (at 8) (link S cs k flushValue 0 0) (S .threads) (word (asMemory (heapIs z) (asWord (writeTo-value z)))))
+      ∙ ((λ z. linksValue (at 8) (link S cs k flushValue 0 0) (S .threads) (word (asMemory (memoryIs z) (asWord (writeTo-value z)))))
       ∙ flush-links (at 8) (flush-bits 8 (λ u. was S cs g k slots choice 0 (S .threads + u) 8 refl)) (λ u. slot val u 0) (word (acting .val)) (word (cells (asWord place)))
       (was S cs g k slots val (actor c) 0 8 refl ∙ given .ready .shows .valIs (actor c) below))
 
@@ -228,10 +228,10 @@ module _ (S : Set) (cs : List ℕ) (g : Assignment) (k : ℕ) (slots : Slot → 
 
   -- ---- memory
 
-  pub heap-value : at 14 (only heap) ≡ memory (memoryAfter (written S s c) cells)
-  heap-value =
-      let heapIs : at 13 (only heap) ≡ memory cells = was S cs g k slots heap 0 0 13 refl ∙ given .ready .shows .heapIs in
+  pub memory-value : at 14 (only sharedMemory) ≡ memory (memoryAfter (written S s c) cells)
+  memory-value =
+      let memoryIs : at 13 (only sharedMemory) ≡ memory cells = was S cs g k slots sharedMemory 0 0 13 refl ∙ given .ready .shows .memoryIs in
       let placeIs : at 13 (slot writeTo 0 (S .threads)) ≡ place = since S cs g k slots writeTo 0 (S .threads) 8 13 refl ∙ writeTo-value in
       let contentIs : at 13 (slot writeValue 0 (S .threads)) ≡ content = since S cs g k slots writeValue 0 (S .threads) 10 13 refl ∙ writeValue-value in
-      settles S cs g k slots 13 heap refl 0 0 (omega arith) (omega arith) refl refl ∙ (links-none (at 13) (link S cs k heap 0 0) _
-      ∙ ((λ z. memory (λ b. cond (eqb b (asWord (placeIs z))) (asWord (contentIs z)) (asMemory (heapIs z) b))) ∙ ap memory (cells-after S s c (number-fits S cs g k slots s c given (actor c) (actor-below S cs g k slots s c given)))))
+      settles S cs g k slots 13 sharedMemory refl 0 0 (omega arith) (omega arith) refl refl ∙ (links-none (at 13) (link S cs k sharedMemory 0 0) _
+      ∙ ((λ z. memory (λ b. cond (eqb b (asWord (placeIs z))) (asWord (contentIs z)) (asMemory (memoryIs z) b))) ∙ ap memory (cells-after S s c (number-fits S cs g k slots s c given (actor c) (actor-below S cs g k slots s c given)))))

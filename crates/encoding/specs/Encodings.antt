@@ -8,12 +8,12 @@ use Rattle.records.specs.Sets.{Set, setOf}
 use Rattle.table.specs.declared.Formula.{Formula}
 use Rattle.table.specs.Programs.{ref, leaf, unary, binary, constantBit, constantWord, firstMemory, not1, equal2, read2, leafFormula, Command, needs, aims, upto, compiled}
 use Rattle.encoding.specs.Checkpoints.{checkpoints}
-use Rattle.encoding.specs.Slots.{Slot, same, startPlace, Term, heap, code, unit, argument}
+use Rattle.encoding.specs.Slots.{Slot, same, startPlace, Term, sharedMemory, code, wordOne, argument}
 use Rattle.encoding.specs.Steps.{only, word0, block, step}
 
 -- the first cell at a map cell's address has its value
 abbrev pub mapTree : List ℕ → ℕ → Term
-mapTree map j = binary equal2 (binary read2 (ref (only heap)) (leaf (constantWord (addressAt map j)))) (leaf (constantWord (valueAt map j)))
+mapTree map j = binary equal2 (binary read2 (ref (only sharedMemory)) (leaf (constantWord (addressAt map j)))) (leaf (constantWord (valueAt map j)))
 
 abbrev pub mapDemand : List ℕ → ℕ → List (Command Slot)
 mapDemand map j = needs (mapTree map j) ∷ []
@@ -24,7 +24,7 @@ goalTree = unary not1 (binary equal2 (ref (only code)) (ref word0))
 
 -- the start values that follow the first four: the word 1, and the arguments
 abbrev pub starting : Set → List ℕ → List (Command Slot)
-starting S cs = block S cs 0 unit ++ block S cs 0 argument
+starting S cs = block S cs 0 wordOne ++ block S cs 0 argument
 
 -- the order of the parts: start values, map constraints, the steps, one goal
 unfoldable pub program : Set → (cs map : List ℕ) (bound : ℕ) → List (Command Slot)

@@ -13,30 +13,30 @@ pub data Kind : Type 0 where
   -- the choice bits; statement i of thread t executes; checkpoint p is open, is not
   choice active opening shut : Kind
   -- thread t executes what needs an empty buffer; is marked at a checkpoint that is not open; has halted or waits; may execute
-  barred held waits may : Kind
+  barred held waits mayExecute : Kind
   -- no choice before choice j is taken; choice j is permitted and none before it is taken; exactly one choice, and it permitted
-  none fit one : Kind
+  none permittedFirst onePermitted : Kind
   -- of a statement: its address, the word loaded, a CAS that executes and matches, what accu becomes, a jump's test, not its test
-  address loaded swaps result test untest : Kind
+  address loaded swaps result test notTest : Kind
   -- the cell written: its address after the flushes, after the CASs of the threads before t; its value likewise
   flushTo writeTo flushValue writeValue : Kind
   -- thread t's mark at checkpoint p before open ones are cleared; ended, and the code, after the EXITs of the threads before t
   raised exits codes : Kind
   -- the state: memory, thread t's registers, one flag for each statement, its marks
-  heap val adr mem accu full halted flag mark : Kind
+  sharedMemory val adr mem accu full halted flag mark : Kind
   -- all threads have halted; the machine has ended, and its code
   halts ended code : Kind
   -- constants: bits 0 and 1, words 0 and 1, a statement's argument
-  no yes nought unit argument : Kind
+  bitZero bitOne wordZero wordOne argument : Kind
 
 -- the kinds by number: first those that a step sets
 unfoldable pub kinds : List Kind
 kinds =
-    choice ∷ active ∷ opening ∷ shut ∷ barred ∷ held ∷ waits ∷ may ∷ none ∷ fit ∷ one
-    ∷ address ∷ loaded ∷ swaps ∷ result ∷ test ∷ untest
+    choice ∷ active ∷ opening ∷ shut ∷ barred ∷ held ∷ waits ∷ mayExecute ∷ none ∷ permittedFirst ∷ onePermitted
+    ∷ address ∷ loaded ∷ swaps ∷ result ∷ test ∷ notTest
     ∷ flushTo ∷ writeTo ∷ flushValue ∷ writeValue ∷ raised ∷ exits ∷ codes
-    ∷ heap ∷ val ∷ adr ∷ mem ∷ accu ∷ full ∷ halted ∷ flag ∷ mark ∷ halts ∷ ended ∷ code
-    ∷ no ∷ yes ∷ nought ∷ unit ∷ argument ∷ []
+    ∷ sharedMemory ∷ val ∷ adr ∷ mem ∷ accu ∷ full ∷ halted ∷ flag ∷ mark ∷ halts ∷ ended ∷ code
+    ∷ bitZero ∷ bitOne ∷ wordZero ∷ wordOne ∷ argument ∷ []
 
 abbrev pub kindAt : ℕ → Kind
 kindAt n = getD kinds n choice
@@ -49,16 +49,16 @@ kindNumber shut = 3
 kindNumber barred = 4
 kindNumber held = 5
 kindNumber waits = 6
-kindNumber may = 7
+kindNumber mayExecute = 7
 kindNumber none = 8
-kindNumber fit = 9
-kindNumber one = 10
+kindNumber permittedFirst = 9
+kindNumber onePermitted = 10
 kindNumber address = 11
 kindNumber loaded = 12
 kindNumber swaps = 13
 kindNumber result = 14
 kindNumber test = 15
-kindNumber untest = 16
+kindNumber notTest = 16
 kindNumber flushTo = 17
 kindNumber writeTo = 18
 kindNumber flushValue = 19
@@ -66,7 +66,7 @@ kindNumber writeValue = 20
 kindNumber raised = 21
 kindNumber exits = 22
 kindNumber codes = 23
-kindNumber heap = 24
+kindNumber sharedMemory = 24
 kindNumber val = 25
 kindNumber adr = 26
 kindNumber mem = 27
@@ -78,10 +78,10 @@ kindNumber mark = 32
 kindNumber halts = 33
 kindNumber ended = 34
 kindNumber code = 35
-kindNumber no = 36
-kindNumber yes = 37
-kindNumber nought = 38
-kindNumber unit = 39
+kindNumber bitZero = 36
+kindNumber bitOne = 37
+kindNumber wordZero = 38
+kindNumber wordOne = 39
 kindNumber argument = 40
 
 abbrev pub kindSort : Kind → ℕ
@@ -92,16 +92,16 @@ kindSort shut = bitSort
 kindSort barred = bitSort
 kindSort held = bitSort
 kindSort waits = bitSort
-kindSort may = bitSort
+kindSort mayExecute = bitSort
 kindSort none = bitSort
-kindSort fit = bitSort
-kindSort one = bitSort
+kindSort permittedFirst = bitSort
+kindSort onePermitted = bitSort
 kindSort address = wordSort
 kindSort loaded = wordSort
 kindSort swaps = bitSort
 kindSort result = wordSort
 kindSort test = bitSort
-kindSort untest = bitSort
+kindSort notTest = bitSort
 kindSort flushTo = wordSort
 kindSort writeTo = wordSort
 kindSort flushValue = wordSort
@@ -109,7 +109,7 @@ kindSort writeValue = wordSort
 kindSort raised = bitSort
 kindSort exits = bitSort
 kindSort codes = wordSort
-kindSort heap = memorySort
+kindSort sharedMemory = memorySort
 kindSort val = wordSort
 kindSort adr = wordSort
 kindSort mem = wordSort
@@ -121,10 +121,10 @@ kindSort mark = bitSort
 kindSort halts = bitSort
 kindSort ended = bitSort
 kindSort code = wordSort
-kindSort no = bitSort
-kindSort yes = bitSort
-kindSort nought = wordSort
-kindSort unit = wordSort
+kindSort bitZero = bitSort
+kindSort bitOne = bitSort
+kindSort wordZero = wordSort
+kindSort wordOne = wordSort
 kindSort argument = wordSort
 
 -- ---- slots
@@ -146,4 +146,4 @@ sortPlace sort = cond (eqb sort memorySort) 3 (cond (eqb sort wordSort) 2 0)
 -- Statement 0 of each thread is the next one.
 abbrev pub startPlace : Slot → ℕ
 startPlace (slot k a b) =
-    cond (eqb (kindNumber k) (kindNumber yes) || eqb (kindNumber k) (kindNumber flag) && eqb b 0) 1 (sortPlace (kindSort k))
+    cond (eqb (kindNumber k) (kindNumber bitOne) || eqb (kindNumber k) (kindNumber flag) && eqb b 0) 1 (sortPlace (kindSort k))

@@ -6,10 +6,10 @@ use lib.Dec.{eqb, ltb}
 use lib.ListN.{getD, length}
 use Rattle.records.specs.Instructions.{LOAD, STORE, ADD, ADDI, SUB, SUBI, MUL, MULI, JMP, JZ, JNZ, JS, JNS, JNZNS, MEM, CAS, HALT, EXIT, CHECK, isJump}
 use Rattle.records.specs.Sets.{Set}
-use Rattle.step.specs.Machine.{contains, needsEmpty}
+use Rattle.machine.specs.Machine.{contains, needsEmpty}
 use Rattle.table.specs.Formulas.{bitSort, wordSort}
 use Rattle.table.specs.Programs.{Tree, ref, leaf, unary, binary, ternary, choiceBit, constantWord, not1, top1, and2, or2, equal2, plus2, minus2, times2, read2, if3, write3, Command, sets, needs, upto}
-use Rattle.encoding.specs.Slots.{Kind, choice, active, opening, shut, barred, held, waits, may, none, fit, one, address, loaded, swaps, result, test, untest, flushTo, writeTo, flushValue, writeValue, raised, exits, codes, heap, val, adr, mem, accu, full, halted, flag, mark, halts, ended, code, no, yes, nought, unit, argument, Slot, slot, Term, kindAt}
+use Rattle.encoding.specs.Slots.{Kind, choice, active, opening, shut, barred, held, waits, mayExecute, none, permittedFirst, onePermitted, address, loaded, swaps, result, test, notTest, flushTo, writeTo, flushValue, writeValue, raised, exits, codes, sharedMemory, val, adr, mem, accu, full, halted, flag, mark, halts, ended, code, bitZero, bitOne, wordZero, wordOne, argument, Slot, slot, Term, kindAt}
 
 -- ---- chains
 
@@ -36,7 +36,7 @@ abbrev pub only : Kind → Slot
 only k = slot k 0 0
 
 abbrev pub word0 : Slot
-word0 = only nought
+word0 = only wordZero
 
 -- ---- the statements' classes
 
@@ -78,16 +78,16 @@ shape shut = perCheckpoint
 shape barred = perThread
 shape held = perMark
 shape waits = perThread
-shape may = perThread
+shape mayExecute = perThread
 shape none = beforeChoice
-shape fit = perChoice
-shape one = single
+shape permittedFirst = perChoice
+shape onePermitted = single
 shape address = perStatement
 shape loaded = perStatement
 shape swaps = perStatement
 shape result = perStatement
 shape test = perStatement
-shape untest = perStatement
+shape notTest = perStatement
 shape flushTo = single
 shape writeTo = beforeThread
 shape flushValue = single
@@ -95,7 +95,7 @@ shape writeValue = beforeThread
 shape raised = perMark
 shape exits = beforeThread
 shape codes = beforeThread
-shape heap = single
+shape sharedMemory = single
 shape val = perThread
 shape adr = perThread
 shape mem = perThread
@@ -107,10 +107,10 @@ shape mark = perMark
 shape halts = single
 shape ended = single
 shape code = single
-shape no = single
-shape yes = single
-shape nought = single
-shape unit = single
+shape bitZero = single
+shape bitOne = single
+shape wordZero = single
+shape wordOne = single
 shape argument = perStatement
 
 -- ---- the trees
@@ -142,13 +142,13 @@ module _ (S : Set) (cs : List ℕ) (k : ℕ) where
 
   -- what permits choice j: executes by thread, then flushes by thread
   abbrev pub permits : ℕ → Slot
-  permits j = cond (ltb j T) (slot may j 0) (slot full (j - T) 0)
+  permits j = cond (ltb j T) (slot mayExecute j 0) (slot full (j - T) 0)
 
   -- if full and adr = a then val else read memory at a
   abbrev pub loadTree : ℕ → Slot → Term
   loadTree t a =
       ternary (if3 wordSort) (binary and2 (ref (slot full t 0)) (binary equal2 (ref (slot adr t 0)) (ref a)))
-      (ref (slot val t 0)) (binary read2 (ref (only heap)) (ref a))
+      (ref (slot val t 0)) (binary read2 (ref (only sharedMemory)) (ref a))
 
   -- the address of an indirect word: the load of its argument, forwarding included
   abbrev pub indirectTree : (t i : ℕ) → Term
@@ -163,7 +163,7 @@ module _ (S : Set) (cs : List ℕ) (k : ℕ) where
       (cond (eqb n SUBI) (binary minus2 (ref (slot accu t 0)) (ref (slot argument t i)))
       (cond (eqb n MUL) (binary times2 (ref (slot accu t 0)) (ref (slot loaded t i)))
       (cond (eqb n MULI) (binary times2 (ref (slot accu t 0)) (ref (slot argument t i)))
-      (cond (eqb n CAS) (ternary (if3 wordSort) (ref (slot swaps t i)) (ref (only unit)) (ref word0))
+      (cond (eqb n CAS) (ternary (if3 wordSort) (ref (slot swaps t i)) (ref (only wordOne)) (ref word0))
       (ref (slot loaded t i))))))))
 
   -- a conditional jump's test: accu is 0; its top bit; one of both
@@ -172,64 +172,64 @@ module _ (S : Set) (cs : List ℕ) (k : ℕ) where
       cond (eqb n JZ || eqb n JNZ) (binary equal2 (ref (slot accu t 0)) (ref word0))
       (cond (eqb n JS || eqb n JNS) (unary top1 (ref (slot accu t 0)))
       (cond (eqb n JNZNS) (binary or2 (unary top1 (ref (slot accu t 0))) (binary equal2 (ref (slot accu t 0)) (ref word0)))
-      (ref (only no))))
+      (ref (only bitZero))))
 
   -- no choice before choice j is taken, j not 0
   abbrev pub noneTree : ℕ → Term
-  noneTree j = ternary (if3 bitSort) (ref (slot choice 0 (j - 1))) (ref (only no)) (ref (slot none 0 (j - 1)))
+  noneTree j = ternary (if3 bitSort) (ref (slot choice 0 (j - 1))) (ref (only bitZero)) (ref (slot none 0 (j - 1)))
 
   -- a thread that executes leaves its statement
   abbrev pub leavingTree : (t j : ℕ) → Term
-  leavingTree t j = ternary (if3 bitSort) (ref (executes t)) (ref (only no)) (ref (slot flag t j))
+  leavingTree t j = ternary (if3 bitSort) (ref (executes t)) (ref (only bitZero)) (ref (slot flag t j))
 
   -- ---- bases
 
   abbrev pub base : Kind → (a b : ℕ) → Term
   base choice a j = leaf (cond (ltb j T) (choiceBit k 0 j) (choiceBit k 1 (j - T)))
   base active t i = binary and2 (ref (slot flag t i)) (ref (executes t))
-  base opening a p = ref (only yes)
+  base opening a p = ref (only bitOne)
   base shut a p = unary not1 (ref (slot opening 0 p))
-  base barred t b = ref (only no)
+  base barred t b = ref (only bitZero)
   base held t p = binary and2 (ref (slot mark t p)) (ref (slot shut 0 p))
   base waits t b = ref (slot halted t 0)
-  base may t b = unary not1 (binary or2 (binary and2 (ref (slot full t 0)) (ref (slot barred t 0))) (ref (slot waits t 0)))
-  base none a j = cond (eqb j 0) (ref (only yes)) (noneTree j)
-  base fit a j = binary and2 (ref (permits j)) (ref (slot none 0 j))
-  base one a b = ref (only no)
+  base mayExecute t b = unary not1 (binary or2 (binary and2 (ref (slot full t 0)) (ref (slot barred t 0))) (ref (slot waits t 0)))
+  base none a j = cond (eqb j 0) (ref (only bitOne)) (noneTree j)
+  base permittedFirst a j = binary and2 (ref (permits j)) (ref (slot none 0 j))
+  base onePermitted a b = ref (only bitZero)
   base address t i = cond (eqb (S .statement t i .mode) 1) (indirectTree t i) (ref (slot argument t i))
   base loaded t i = cond (loads (numberOf t i)) (loadTree t (slot address t i)) (ref word0)
   base swaps t i =
       cond (eqb (numberOf t i) CAS)
-      (binary and2 (ref (slot active t i)) (binary equal2 (binary read2 (ref (only heap)) (ref (slot address t i))) (ref (slot mem t 0))))
-      (ref (only no))
+      (binary and2 (ref (slot active t i)) (binary equal2 (binary read2 (ref (only sharedMemory)) (ref (slot address t i))) (ref (slot mem t 0))))
+      (ref (only bitZero))
   base result t i = resultTree (numberOf t i) t i
   base test t i = testTree (numberOf t i) t
-  base untest t i = cond (isConditional (numberOf t i)) (unary not1 (ref (slot test t i))) (ref (only no))
+  base notTest t i = cond (isConditional (numberOf t i)) (unary not1 (ref (slot test t i))) (ref (only bitZero))
   base flushTo a b = ref word0
   base writeTo a t = ref (cond (eqb t 0) (only flushTo) (slot writeTo 0 (t - 1)))
-  base flushValue a b = binary read2 (ref (only heap)) (ref (slot writeTo 0 T))
+  base flushValue a b = binary read2 (ref (only sharedMemory)) (ref (slot writeTo 0 T))
   base writeValue a t = ref (cond (eqb t 0) (only flushValue) (slot writeValue 0 (t - 1)))
   base raised t p = ref (slot mark t p)
   base exits a t = ref (cond (eqb t 0) (only ended) (slot exits 0 (t - 1)))
   base codes a t = ref (cond (eqb t 0) (only code) (slot codes 0 (t - 1)))
-  base heap a b = ternary write3 (ref (only heap)) (ref (slot writeTo 0 T)) (ref (slot writeValue 0 T))
+  base sharedMemory a b = ternary write3 (ref (only sharedMemory)) (ref (slot writeTo 0 T)) (ref (slot writeValue 0 T))
   base val t b = ref (slot val t 0)
   base adr t b = ref (slot adr t 0)
   base mem t b = ref (slot mem t 0)
   base accu t b = ref (slot accu t 0)
-  base full t b = ternary (if3 bitSort) (ref (flushes t)) (ref (only no)) (ref (slot full t 0))
+  base full t b = ternary (if3 bitSort) (ref (flushes t)) (ref (only bitZero)) (ref (slot full t 0))
   base halted t b = ref (slot halted t 0)
   -- the pc of HALT and EXIT stays
   base flag t j = cond (rests (numberOf t j)) (ref (slot flag t j)) (leavingTree t j)
   -- the next step clears the marks of an open checkpoint
   base mark t p = binary and2 (ref (slot shut 0 p)) (ref (slot raised t p))
-  base halts a b = ref (only yes)
+  base halts a b = ref (only bitOne)
   base ended a b = binary or2 (ref (only halts)) (ref (slot exits 0 T))
   base code a b = ref (slot codes 0 T)
-  base no a b = ref (only no)
-  base yes a b = ref (only yes)
-  base nought a b = ref word0
-  base unit a b = leaf (constantWord 1)
+  base bitZero a b = ref (only bitZero)
+  base bitOne a b = ref (only bitOne)
+  base wordZero a b = ref word0
+  base wordOne a b = leaf (constantWord 1)
   base argument t i = leaf (constantWord (argumentOf t i))
 
   -- ---- links
@@ -243,14 +243,14 @@ module _ (S : Set) (cs : List ℕ) (k : ℕ) where
   leads t j i =
       let n = numberOf t i in
       let target = argumentOf t i in
-      let taken = slot (cond (isPlain n) test untest) t i in
-      let missed = slot (cond (isPlain n) untest test) t i in
+      let taken = slot (cond (isPlain n) test notTest) t i in
+      let missed = slot (cond (isPlain n) notTest test) t i in
       cond (rests n) skip
-      (cond (isOneWay n target i) (cond (eqb target j) (ifThen bitSort (slot active t i) (only yes)) skip)
+      (cond (isOneWay n target i) (cond (eqb target j) (ifThen bitSort (slot active t i) (only bitOne)) skip)
       (cond (isConditional n)
       (cond (eqb target j) (ifThen bitSort (slot active t i) taken)
       (cond (eqb (suc i) j) (ifThen bitSort (slot active t i) missed) skip))
-      (cond (eqb (suc i) j) (ifThen bitSort (slot active t i) (only yes)) skip)))
+      (cond (eqb (suc i) j) (ifThen bitSort (slot active t i) (only bitOne)) skip)))
 
   -- how many links
   abbrev pub links : Kind → (a b : ℕ) → ℕ
@@ -261,16 +261,16 @@ module _ (S : Set) (cs : List ℕ) (k : ℕ) where
   links barred t b = S .count t
   links held t p = 0
   links waits t b = length cs
-  links may t b = 0
+  links mayExecute t b = 0
   links none a j = 0
-  links fit a j = 0
-  links one a b = T + T
+  links permittedFirst a j = 0
+  links onePermitted a b = T + T
   links address t i = 0
   links loaded t i = 0
   links swaps t i = 0
   links result t i = 0
   links test t i = 0
-  links untest t i = 0
+  links notTest t i = 0
   links flushTo a b = T
   links writeTo a t = cond (eqb t 0) 0 (S .count (t - 1))
   links flushValue a b = T
@@ -278,7 +278,7 @@ module _ (S : Set) (cs : List ℕ) (k : ℕ) where
   links raised t p = S .count t
   links exits a t = cond (eqb t 0) 0 (S .count (t - 1))
   links codes a t = cond (eqb t 0) 0 (S .count (t - 1))
-  links heap a b = 0
+  links sharedMemory a b = 0
   links val t b = S .count t
   links adr t b = S .count t
   links mem t b = S .count t
@@ -290,10 +290,10 @@ module _ (S : Set) (cs : List ℕ) (k : ℕ) where
   links halts a b = T
   links ended a b = 0
   links code a b = 0
-  links no a b = 0
-  links yes a b = 0
-  links nought a b = 0
-  links unit a b = 0
+  links bitZero a b = 0
+  links bitOne a b = 0
+  links wordZero a b = 0
+  links wordOne a b = 0
   links argument t i = 0
 
   -- link i
@@ -302,42 +302,42 @@ module _ (S : Set) (cs : List ℕ) (k : ℕ) where
   link active a b i = skip
   link opening a p t = cond (has t p) (andWith (slot mark t p)) skip
   link shut a b i = skip
-  link barred t b i = ifActive (needsEmpty (numberOf t i)) bitSort t i (only yes)
+  link barred t b i = ifActive (needsEmpty (numberOf t i)) bitSort t i (only bitOne)
   link held a b i = skip
   link waits t b p = cond (has t p) (orWith (slot held t p)) skip
-  link may a b i = skip
+  link mayExecute a b i = skip
   link none a b i = skip
-  link fit a b i = skip
-  link one a b j = ifThen bitSort (slot choice 0 j) (slot fit 0 j)
+  link permittedFirst a b i = skip
+  link onePermitted a b j = ifThen bitSort (slot choice 0 j) (slot permittedFirst 0 j)
   link address a b i = skip
   link loaded a b i = skip
   link swaps a b i = skip
   link result a b i = skip
   link test a b i = skip
-  link untest a b i = skip
+  link notTest a b i = skip
   link flushTo a b t = ifThen wordSort (flushes t) (slot adr t 0)
   link writeTo a t i = cond (eqb (numberOf (t - 1) i) CAS) (ifThen wordSort (slot swaps (t - 1) i) (slot address (t - 1) i)) skip
   link flushValue a b t = ifThen wordSort (flushes t) (slot val t 0)
   link writeValue a t i = cond (eqb (numberOf (t - 1) i) CAS) (ifThen wordSort (slot swaps (t - 1) i) (slot accu (t - 1) 0)) skip
-  link raised t p i = ifActive (eqb (numberOf t i) CHECK && eqb (argumentOf t i) (checkpoint p)) bitSort t i (only yes)
-  link exits a t i = ifActive (eqb (numberOf (t - 1) i) EXIT) bitSort (t - 1) i (only yes)
+  link raised t p i = ifActive (eqb (numberOf t i) CHECK && eqb (argumentOf t i) (checkpoint p)) bitSort t i (only bitOne)
+  link exits a t i = ifActive (eqb (numberOf (t - 1) i) EXIT) bitSort (t - 1) i (only bitOne)
   link codes a t i = ifActive (eqb (numberOf (t - 1) i) EXIT) wordSort (t - 1) i (slot argument (t - 1) i)
-  link heap a b i = skip
+  link sharedMemory a b i = skip
   link val t b i = ifActive (eqb (numberOf t i) STORE) wordSort t i (slot accu t 0)
   link adr t b i = ifActive (eqb (numberOf t i) STORE) wordSort t i (slot address t i)
   link mem t b i = ifActive (eqb (numberOf t i) MEM) wordSort t i (slot loaded t i)
   link accu t b i = ifActive (setsAccu (numberOf t i)) wordSort t i (slot result t i)
-  link full t b i = ifActive (eqb (numberOf t i) STORE) bitSort t i (only yes)
-  link halted t b i = ifActive (eqb (numberOf t i) HALT) bitSort t i (only yes)
+  link full t b i = ifActive (eqb (numberOf t i) STORE) bitSort t i (only bitOne)
+  link halted t b i = ifActive (eqb (numberOf t i) HALT) bitSort t i (only bitOne)
   link flag t j i = leads t j i
   link mark a b i = skip
   link halts a b t = andWith (slot halted t 0)
   link ended a b i = skip
   link code a b i = skip
-  link no a b i = skip
-  link yes a b i = skip
-  link nought a b i = skip
-  link unit a b i = skip
+  link bitZero a b i = skip
+  link bitOne a b i = skip
+  link wordZero a b i = skip
+  link wordOne a b i = skip
   link argument a b i = skip
 
   abbrev pub tree : Kind → (a b : ℕ) → Term
@@ -390,7 +390,7 @@ module _ (S : Set) (cs : List ℕ) (k : ℕ) where
   idle = slot none 0 (T + T)
 
   abbrev pub acting : Slot
-  acting = only one
+  acting = only onePermitted
 
   -- Before the end exactly one choice, and it permitted; none after.
   abbrev pub ruled : Term

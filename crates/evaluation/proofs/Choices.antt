@@ -6,7 +6,7 @@ use native.Mathlib.Omega.{arith}
 use borrow.Author.Tests.{eq-eqb}
 use Rattle.base.proofs.Choice.{chosen}
 use Rattle.table.specs.Formulas.{CHOICE, GOAL}
-use Rattle.table.specs.Tables.{countOf, bits, row, steps, Inner, InOrder, WellFormed}
+use Rattle.table.specs.Tables.{occurrences, bits, choiceBits, steps, Inner, InOrder, WellFormedTable}
 use Rattle.table.specs.declared.Formula.{Formula}
 use Rattle.evaluation.proofs.Tables.{SmallChoices}
 use Rattle.evaluation.proofs.Views.{SmallChoice}
@@ -25,8 +25,8 @@ all-++ [] second p q = q
 all-++ (f ∷ first) second p q = (p .0, all-++ first second (p .1) q)
 
 -- a part without choice bits
-all-none : (part : List Formula) → countOf CHOICE part ≡ 0 → All part
-unfolding countOf
+all-none : (part : List Formula) → occurrences CHOICE part ≡ 0 → All part
+unfolding occurrences
 all-none [] e = tt
 all-none (f ∷ part) e = (λ (h : f .operation ≡ CHOICE). absurd (omega (arith, chosen {A = ℕ} 1 0 (eq-eqb (f .operation) CHOICE h), e)), all-none part (omega arith))
 
@@ -37,7 +37,7 @@ all-bits k kind t (suc n) h l = (λ e. (h, omega arith), all-bits k kind (suc t)
 
 module _ (threads bound : ℕ) (few : threads ≤ 4294967296) (short : bound ≤ 4294967296) where
   all-steps : (inner : ℕ → List Formula) → ((k : ℕ) → k < bound → Inner (inner k)) → (n k : ℕ) → k + n ≤ bound → All (steps threads inner k n)
-  unfolding steps row
+  unfolding steps choiceBits
   all-steps inner h zero k l = tt
   all-steps inner h (suc n) k l =
       let p : k < 4294967296 = omega arith in
@@ -45,7 +45,7 @@ module _ (threads bound : ℕ) (few : threads ≤ 4294967296) (short : bound ≤
       (all-++ (bits k 0 0 threads) (bits k 1 0 threads) (all-bits k 0 0 threads p (omega arith)) (all-bits k 1 0 threads p (omega arith)))
       (all-++ (inner k) (steps threads inner (suc k) n) (all-none (inner k) (h k (omega arith) .noChoice)) (all-steps inner h n (suc k) (omega arith)))
 
-  pub small-choices : (cells : ℕ) (table : List Formula) → WellFormed threads bound cells table → SmallChoices table
+  pub small-choices : (cells : ℕ) (table : List Formula) → WellFormedTable threads bound cells table → SmallChoices table
   small-choices cells table formed = all-at table (go (formed .order))
     where
       go : InOrder threads bound cells table → All table

@@ -8,7 +8,7 @@ use lib.Dec.{eqb, leb}
 use Rattle.base.proofs.Choice.{chosen, passed, cond-ap, cond-both}
 use Rattle.base.specs.Words.{plus, minus, times, topBit}
 use Rattle.table.specs.Formulas.{bitSort, memorySort, CHOICE, FIRST, CONSTANT, NOT, AND, OR, EQUAL, IF, PLUS, MINUS, TIMES, READ, WRITE, TOP, CONSTRAINT, GOAL}
-use Rattle.table.specs.Values.{Assignment, Value, nil, bit, word, memory, asBit, asWord, asMemory, written, valueOf, isDemand}
+use Rattle.table.specs.Values.{Assignment, Value, nil, bit, word, memory, asBit, asWord, asMemory, memoryWith, valueOf, isDemand}
 use Rattle.table.specs.declared.Formula.{Formula}
 use Rattle.evaluation.specs.Evaluations.{isFalse, wordOf}
 use Rattle.evaluation.proofs.Views.{Operand, View, isChoice, isFirst, isBit, isWord, isNot, isAnd, isOr, isEqual, isIf, isPlus, isMinus, isTimes, isRead, isWrite, isTop, isConstraint, isGoal}
@@ -73,7 +73,7 @@ module _ (g : Assignment) (values : ℕ → Value) (f : Formula) where
   read-value e = at 12 e
 
   pub write-value : f .operation ≡ WRITE →
-      valueOf g values f ≡ memory (written (asMemory (values (f .a))) (asWord (values (f .b))) (asWord (values (f .c))))
+      valueOf g values f ≡ memory (memoryWith (asMemory (values (f .a))) (asWord (values (f .b))) (asWord (values (f .c))))
   unfolding valueOf
   write-value e = at 13 e
 
@@ -119,7 +119,7 @@ module _ (g : Assignment) (sorts : ℕ → ℕ) (n : ℕ) (f : Formula) (values 
       read-value g values f e ∙ (ap₂ (λ (v w : Value). word (asMemory v (asWord w))) (same (f .a) (a .0)) (same (f .b) b) ∙ sym (read-value g others f e))
   local (isWrite e s a b c) =
       write-value g values f e
-      ∙ ((λ z. memory (written (asMemory (same (f .a) (a .0) z)) (asWord (same (f .b) b z)) (asWord (same (f .c) c z)))) ∙ sym (write-value g others f e))
+      ∙ ((λ z. memory (memoryWith (asMemory (same (f .a) (a .0) z)) (asWord (same (f .b) b z)) (asWord (same (f .c) c z)))) ∙ sym (write-value g others f e))
   local (isTop e s a) = top-value g values f e ∙ (ap (λ (v : Value). bit (topBit (asWord v))) (same (f .a) a) ∙ sym (top-value g others f e))
   local (isConstraint e s a) = constraint-value g values f e ∙ sym (constraint-value g others f e)
   local (isGoal e s a) = goal-value g values f e ∙ sym (goal-value g others f e)

@@ -6,16 +6,16 @@ use Rattle.base.specs.Bytes.{same, over}
 use Rattle.records.specs.Instructions.{words, wordOf}
 use Rattle.records.specs.Maps.{ascendsAt, mapAccepted}
 use Rattle.records.specs.Sets.{threadsOf, countOf, startOf, follows, argumentFits, recordFits, opensAt, setAccepted}
-use Rattle.step.specs.Machine.{address, wordTaken, cellsRead, row, jumps, nextPc, executed, casMatches, contains, opened, waiting, permitted, acted, leavesMark, cleared, written, step, reads}
-use Rattle.step.specs.Maps.{begin, outcome, advanced}
-use Rattle.step.specs.Runs.{somePermitted, endOf}
-use Rattle.step.specs.Traces.{shown}
-use Rattle.lines.specs.Bytes.{run, valueAfter}
-use Rattle.lines.specs.Lines.{lines, isDot, padded, isLabel, stated, numbered, bracketed, targeted, argued, afterWord, worded, labelled, statement, statementLine, valued, addressed, mapLine, cell as cellLine}
+use Rattle.machine.specs.Machine.{address, wordTaken, cellsRead, row, jumps, nextPc, executed, casMatches, contains, opened, waiting, permitted, acted, leavesMark, cleared, written, step, reads}
+use Rattle.machine.specs.Maps.{begin, outcome, advanced}
+use Rattle.machine.specs.Runs.{somePermitted, endOf}
+use Rattle.machine.specs.Traces.{shown}
+use Rattle.text_lines.specs.Characters.{run, valueAfter}
+use Rattle.text_lines.specs.Lines.{lines, isDot, padded, isLabel, stated, numbered, bracketed, targeted, argued, afterWord, worded, labelled, statement, statementLine, valued, addressed, mapLine, cell as cellLine}
 use Rattle.text.specs.Answers.{refusalIn, inLines, statementsFit, doubledAt, targetFits, threadFits, labelsFit, checkpointsFit, addressDoubled, mapFits, whole, answer}
 use Rattle.text.specs.Records.{joined, pcOf, argumentOf, statementBytes, threadBytes, setBytes, statementsBefore, cellBytes, mapBytes}
 use Rattle.text.specs.Sections.{dots, added, gained, closed, lineAdded, threadsFrom, inserted, cellAdded, cellsFrom}
-use Rattle.listings.specs.Listings.{text, places, decimal, name, argument, cell, lineOf, line, lastLine, refusedLine, lowest, listingFrom, listing}
+use Rattle.listing_output.specs.Listings.{text, places, decimal, name, argument, cell, lineOf, line, lastLine, refusedLine, lowest, listingFrom, listing}
 use Rattle.listing.specs.Texts.{listingOf}
 
 example :

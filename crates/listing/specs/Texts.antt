@@ -1,16 +1,16 @@
 -- What the listing program prints for a set text (document 01, "Sample runs"). Assumes nothing.
 use Prim.Native.Nat.{ℕ}
 use mathlib.Core.List.{List}
-use Rattle.lines.specs.Lines.{lines}
+use Rattle.text_lines.specs.Lines.{lines}
 use Rattle.text.specs.Answers.{answer}
 use Rattle.text.specs.Records.{setBytes, mapBytes}
 use Rattle.text.specs.Sections.{threads, cells}
-use Rattle.text.specs.declared.Answer.{Answer}
-use Rattle.text.specs.declared.Answer.the-variants.{Read, Refused}
-use Rattle.listings.specs.Listings.{listing, refusedLine}
+use Rattle.text.specs.declared.ReadAnswer.{ReadAnswer}
+use Rattle.text.specs.declared.ReadAnswer.the-variants.{Read, Refused}
+use Rattle.listing_output.specs.Listings.{listing, refusedLine}
 
 -- the listing of a text's records, or the line of its refusal
-abbrev pub listingBy : Answer → List ℕ → List ℕ
+abbrev pub listingBy : ReadAnswer → List ℕ → List ℕ
 listingBy (Read n m) text = listing (setBytes (threads (lines text))) (mapBytes (cells (lines text)))
 listingBy (Refused number place) text = refusedLine number
 

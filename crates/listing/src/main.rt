@@ -1,11 +1,11 @@
 // The listing program: reads a set text from standard input and prints its run, in which the lowest thread that can execute does so,
 // else the lowest that can flush. What it prints is decided by `list_text`; the rest is input and output.
 ghost use mathlib.Core.Path.{_≡_};
-ghost use Rattle.listings.specs.Outputs.{count, printed};
+ghost use Rattle.listing_output.specs.Outputs.{count, printed};
 ghost use Rattle.listing.specs.Texts.{listingOf};
 use libc::STDIN_FILENO;
 use libc::STDOUT_FILENO;
-use text::Answer;
+use text::ReadAnswer;
 
 // Prints the listing of a set text from the start of an output on, and gives how many bytes it printed.
 fn list_text(text: &[u8], out: &mut [u8]) -> usize
@@ -16,12 +16,12 @@ fn list_text(text: &[u8], out: &mut [u8]) -> usize
     let mut map = [0u8; 512];
     let answer = text::read(text, &mut set, &mut map);
     match answer {
-        Answer::Read { statements, cells } => {
+        ReadAnswer::Read { statements, cells } => {
             let size = 8 * (statements as usize);
             let length = 4 * (cells as usize);
-            listings::list(&set[..size], &map[..length], out)
+            listing_output::list(&set[..size], &map[..length], out)
         }
-        Answer::Refused { number, place } => listings::refused(number, out),
+        ReadAnswer::Refused { number, place } => listing_output::refused(number, out),
     }
 }
 

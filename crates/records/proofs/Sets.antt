@@ -15,7 +15,7 @@ use Rattle.base.proofs.Below.{every-at, number-none, number-below, number-up}
 use Rattle.records.specs.Instructions.{instructions, isMemory, isJump, isBare, isLast}
 use Rattle.records.specs.declared.Statement.{Statement}
 use Rattle.records.specs.declared.Layout.{Layout}
-use Rattle.records.specs.Sets.{WellFormed, records, threadAt, numberAt, modeAt, spareAt, argumentAt, pcAt, statementAt, nothing, threadsOf, countOf, countsOf, startOf, setOf, follows, argumentFits, recordFits, opensAt, setAccepted, layoutOf, setBy}
+use Rattle.records.specs.Sets.{WellFormedSet, records, threadAt, numberAt, modeAt, spareAt, argumentAt, pcAt, statementAt, nothing, threadsOf, countOf, countsOf, startOf, setOf, follows, argumentFits, recordFits, opensAt, setAccepted, layoutOf, setBy}
 use Rattle.records.proofs.Places.{Rows, count, start, rises, found, reached, goes-on, few, most}
 
 -- ---- the tests as facts
@@ -224,7 +224,7 @@ module _ (bytes : List ℕ) (ok : setAccepted bytes ≡ true) where
       let e = ap (countOf bytes) (found-at t p h .1) in
       omega (arith, e, jump-target bytes (startOf bytes t + p) (found-fits t p h .argument) j (omega (arith, e)))
 
-  pub well-formed : WellFormed (setOf bytes)
+  pub well-formed : WellFormedSet (setOf bytes)
   well-formed = record {
     someThread = some-thread;
     fourThreads = four-threads;

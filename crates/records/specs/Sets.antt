@@ -117,7 +117,7 @@ setAccepted bytes =
 
 -- what acceptance says of the set itself: 1 to 4 threads of 1 to 32 statements, each one of the twenty, no jump beyond its thread,
 -- and EXIT, JMP or HALT at each thread's end
-pub record WellFormed (S : Set) : Type 0 where
+pub record WellFormedSet (S : Set) : Type 0 where
   pub someThread : 1 ≤ S .threads
   pub fourThreads : S .threads ≤ 4
   pub someStatement : (t : ℕ) → t < S .threads → 1 ≤ S .count t

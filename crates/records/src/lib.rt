@@ -1,12 +1,13 @@
 // Statement records and map records: which are accepted (refusal 9), and what they hold.
 pub mod instructions;
 pub mod map;
+pub mod refusals;
 pub mod set;
 
 pub use instructions::is_memory;
 ghost use mathlib.Core.Path.{_≡_};
 ghost use Prim.Native.Nat.{_+_, _<_};
-ghost use lib.ListN.{length};
+ghost use lib.ListN.{length, getD};
 ghost use Rattle.base.specs.Bytes.{wordAt};
 ghost use Rattle.records.specs.Sets.{statementAt, setBy};
 
@@ -36,6 +37,8 @@ impl Layout {
     pub const STATEMENTS: u16 = 32;
     // The most statements of a set.
     pub const RECORDS: usize = 128;
+    // The most cells of a set's map.
+    pub const MAP_CELLS: usize = 128;
     // The most different checkpoints of a set.
     pub const CHECKPOINTS: u8 = 8;
 }
@@ -75,19 +78,41 @@ fn wide(x: u16) -> u32
     x as u32
 }
 
+// How many statements thread t has, 0 where there is no such thread.
+pub fn count(layout: Layout, t: u8) -> u16
+    ensures { λ r. ⌜ r ≡ getD (layout .counts) t 0 ⌝ }
+{
+    let thread = t as usize;
+    if thread < Layout::THREADS {
+        return layout.counts[thread];
+    }
+    0
+}
+
+// The record of thread t's first statement, 0 where there is no such thread.
+pub fn first(layout: Layout, t: u8) -> u32
+    ensures { λ r. ⌜ (r ≡ getD (layout .starts) t 0) × (r < 65536) ⌝ }
+{
+    let thread = t as usize;
+    if thread < Layout::THREADS {
+        return wide(layout.starts[thread]);
+    }
+    0
+}
+
 // Thread t's statement p, or no instruction where there is none.
 pub fn fetch(set: &[u8], layout: Layout, t: u8, p: u16) -> Statement
     ensures { λ r. ⌜ r ≡ setBy (now (set .entry)) layout .statement t p ⌝ }
 {
     let thread = t as usize;
-    if thread < 4 {
+    if thread < Layout::THREADS {
         if p < layout.counts[thread] {
             let k = wide(layout.starts[thread]) + (p as u32);
             return statement_at(set, k);
         }
     }
     Statement {
-        number: 20,
+        number: Statement::INSTRUCTIONS,
         mode: 0,
         argument: 0,
     }

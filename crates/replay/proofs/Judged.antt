@@ -8,20 +8,20 @@ use lib.ListN.{take, drop}
 use lib.Seq.{drop-drop}
 use Rattle.base.specs.Bytes.{same}
 use Rattle.records.specs.Sets.{Set}
-use Rattle.step.specs.Machine.{written, reads}
-use Rattle.step.specs.Maps.{Held, knowsAll, outcome, advanced, onOutcome}
-use Rattle.step.specs.Runs.{takes}
-use Rattle.step.specs.Traces.{traceStep, stepChoice}
-use Rattle.step.specs.declared.Answer.{Answer}
-use Rattle.step.specs.declared.Answer.the-variants.{Refused}
-use Rattle.step.specs.declared.Outcome.the-variants.{Taken, NotPermitted, Lacking}
-use Rattle.step.specs.declared.Written.{Written}
-use Rattle.runs.specs.Walks.{refusalOf, onRefusal, walked}
+use Rattle.machine.specs.Machine.{written, reads}
+use Rattle.machine.specs.Maps.{Held, knowsAll, outcome, advanced, onOutcome}
+use Rattle.machine.specs.Runs.{takes}
+use Rattle.machine.specs.Traces.{traceStep, stepChoice}
+use Rattle.machine.specs.declared.RunAnswer.{RunAnswer}
+use Rattle.machine.specs.declared.RunAnswer.the-variants.{Refused}
+use Rattle.machine.specs.declared.Outcome.the-variants.{Taken, NotPermitted, Lacking}
+use Rattle.machine.specs.declared.Written.{Written}
+use Rattle.step.specs.Walks.{stepRefusal, onRefusal, walked}
 use Rattle.replay.specs.Replay.{retrace}
 
 -- 12 before 13 before 14
-judged : (takes knows agreed : Bool) (i : ℕ) (rest : Answer) →
-    onRefusal (refusalOf (cond takes (cond knows Taken Lacking) NotPermitted) agreed) i rest
+judged : (takes knows agreed : Bool) (i : ℕ) (rest : RunAnswer) →
+    onRefusal (stepRefusal (cond takes (cond knows Taken Lacking) NotPermitted) agreed) i rest
     ≡ cond takes (cond agreed (onOutcome (cond takes (cond knows Taken Lacking) NotPermitted) i rest) (Refused 13 i)) (Refused 12 i)
 judged true true true i rest = refl
 judged true true false i rest = refl
@@ -36,6 +36,6 @@ walked-retrace S trace h w i (suc n) =
     let c = stepChoice (drop (24 * i) trace) in
     let equal = same (take 24 (drop (24 * i) trace)) (traceStep S (h .state) w c) in
     let p : 24 * i + 24 ≡ 24 * suc i = omega arith in
-    ap (onRefusal (refusalOf (outcome S h c) equal) i) (walked-retrace S trace (advanced S h c) (written S (h .state) c) (suc i) n
+    ap (onRefusal (stepRefusal (outcome S h c) equal) i) (walked-retrace S trace (advanced S h c) (written S (h .state) c) (suc i) n
     ∙ ap (retrace S (advanced S h c) (written S (h .state) c) (suc i) n) (sym (drop-drop 24 (24 * i) trace ∙ ap (λ (k : ℕ). drop k trace) p)))
     ∙ judged (takes S (h .state) c) (knowsAll (h .known) (reads S (h .state) c)) equal i (retrace S (advanced S h c) (written S (h .state) c) (suc i) n (drop 24 (drop (24 * i) trace)))

@@ -8,12 +8,12 @@ use Rattle.base.specs.Below.{every, some, number, least}
 use Rattle.records.specs.Sets.{setOf, threadsOf, countOf, startOf, follows, argumentFits, recordFits, opensAt, setAccepted}
 use Rattle.records.specs.Instructions.{ADDI, MULI, JNZNS}
 use Rattle.records.specs.Maps.{ascendsAt, mapAccepted, mapValue}
-use Rattle.step.specs.Machine.{State, start, fresh, noWrite, withAccu, address, wordTaken, cellsRead, row, jumps, nextPc, executed, casMatches, contains, opened, waiting, permitted, acted, leavesMark, cleared, written, step, reads}
-use Rattle.step.specs.Runs.{choiceOf, choices, somePermitted, endOf, after}
-use Rattle.step.specs.Traces.{stepBytes, traceStep, shown, trace}
-use Rattle.step.specs.Maps.{begin, outcome, advanced, follow}
-use Rattle.step.specs.declared.Answer.the-variants.{Ran, Refused}
-use Rattle.step.specs.declared.End.the-variants.{Code, Open}
+use Rattle.machine.specs.Machine.{State, start, fresh, noWrite, withAccu, address, wordTaken, cellsRead, row, jumps, nextPc, executed, casMatches, contains, opened, waiting, permitted, acted, leavesMark, cleared, written, step, reads}
+use Rattle.machine.specs.Runs.{choiceOf, choices, somePermitted, endOf, after}
+use Rattle.machine.specs.Traces.{stepBytes, traceStep, shown, trace}
+use Rattle.machine.specs.Maps.{begin, outcome, advanced, follow}
+use Rattle.machine.specs.declared.RunAnswer.the-variants.{Ran, Refused}
+use Rattle.machine.specs.declared.End.the-variants.{Code, Open}
 use Rattle.simulation.specs.Simulation.{simulated, limited}
 
 -- a record of thread t's statement p: number n and argument a below 256, direct

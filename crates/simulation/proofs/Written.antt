@@ -6,18 +6,18 @@ use native.Mathlib.Omega.{arith}
 use lib.ListN.{length, take}
 use Rattle.base.specs.Bytes.{placed}
 use Rattle.base.proofs.Bytes.{placed-over, over-none}
-use Rattle.runs.specs.Walks.{Begins}
+use Rattle.step.specs.Walks.{Begins}
 use Rattle.simulation.specs.Simulation.{bytesOut, outputOver}
-use Rattle.step.specs.declared.Answer.{Answer}
-use Rattle.step.specs.declared.Answer.the-variants.{Ran, Refused}
+use Rattle.machine.specs.declared.RunAnswer.{RunAnswer}
+use Rattle.machine.specs.declared.RunAnswer.the-variants.{Ran, Refused}
 
 -- more than there is is never written
-pub out-most : (a : Answer) (n : ℕ) → bytesOut a n ≤ n
+pub out-most : (a : RunAnswer) (n : ℕ) → bytesOut a n ≤ n
 out-most (Ran steps end) n = omega arith
 out-most (Refused number place) n = omega arith
 
 -- a trace is written where the run is accepted, and nothing where it is refused
-pub put-out : (a : Answer) (bytes trace out : List ℕ) (n : ℕ) → length trace ≡ n → n ≤ length out → Begins a trace bytes →
+pub put-out : (a : RunAnswer) (bytes trace out : List ℕ) (n : ℕ) → length trace ≡ n → n ≤ length out → Begins a trace bytes →
     placed out 0 (take (bytesOut a n) bytes) ≡ outputOver a trace out
 put-out (Ran steps end) bytes trace out n e l begins = ap (λ (k : ℕ). placed out 0 (take k bytes)) (sym e) ∙ ap (placed out 0) begins ∙ placed-over out trace (omega arith)
 put-out (Refused number place) bytes trace out n e l begins = placed-over out [] (omega arith) ∙ sym (over-none out)

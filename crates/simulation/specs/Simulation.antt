@@ -7,22 +7,22 @@ use lib.ListN.{length}
 use Rattle.base.specs.Bytes.{over}
 use Rattle.records.specs.Maps.{mapAccepted, mapValue}
 use Rattle.records.specs.Sets.{Set, setOf, setAccepted}
-use Rattle.step.specs.Machine.{start, noWrite}
-use Rattle.step.specs.Maps.{begin, follow}
-use Rattle.step.specs.Runs.{choices}
-use Rattle.step.specs.Traces.{trace}
-use Rattle.step.specs.declared.Answer.{Answer}
-use Rattle.step.specs.declared.Answer.the-variants.{Ran, Refused}
+use Rattle.machine.specs.Machine.{start, noWrite}
+use Rattle.machine.specs.Maps.{begin, follow}
+use Rattle.machine.specs.Runs.{choices}
+use Rattle.machine.specs.Traces.{trace}
+use Rattle.machine.specs.declared.RunAnswer.{RunAnswer}
+use Rattle.machine.specs.declared.RunAnswer.the-variants.{Ran, Refused}
 
 -- 17, a schedule above 64 steps; 11, an output below 24 bytes a step; then the steps: 12 and 14 in each.
-unfoldable pub limited : Set → (map schedule : List ℕ) (room : ℕ) → Answer
+unfoldable pub limited : Set → (map schedule : List ℕ) (room : ℕ) → RunAnswer
 limited S map schedule room =
     cond (ltb 64 (length schedule)) (Refused 17 0)
     (cond (ltb room (24 * length schedule)) (Refused 11 0)
     (follow S (begin map) 0 (choices schedule)))
 
 -- 9 comes first.
-unfoldable pub simulated : (set map schedule : List ℕ) (room : ℕ) → Answer
+unfoldable pub simulated : (set map schedule : List ℕ) (room : ℕ) → RunAnswer
 simulated set map schedule room =
     cond (setAccepted set && mapAccepted 256 map) (limited (setOf set) map schedule room) (Refused 9 0)
 
@@ -31,14 +31,14 @@ unfoldable pub scheduleTrace : (set map schedule : List ℕ) → List ℕ
 scheduleTrace set map schedule = trace (setOf set) (start (mapValue map)) noWrite (choices schedule)
 
 -- an output after an answer: a trace over its start, and as it was where the call is refused
-abbrev pub outputOver : Answer → (trace out : List ℕ) → List ℕ
+abbrev pub outputOver : RunAnswer → (trace out : List ℕ) → List ℕ
 outputOver (Ran steps end) trace out = over trace out
 outputOver (Refused number place) trace out = out
 
-abbrev pub traceOutput : Answer → (set map schedule out : List ℕ) → List ℕ
+abbrev pub traceOutput : RunAnswer → (set map schedule out : List ℕ) → List ℕ
 traceOutput answer set map schedule out = outputOver answer (scheduleTrace set map schedule) out
 
 -- how many of a run's bytes are written
-abbrev pub bytesOut : Answer → ℕ → ℕ
+abbrev pub bytesOut : RunAnswer → ℕ → ℕ
 bytesOut (Ran steps end) bytes = bytes
 bytesOut (Refused number place) bytes = 0

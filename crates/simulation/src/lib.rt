@@ -4,21 +4,21 @@ ghost use Prim.Native.Nat.{_≤_};
 ghost use lib.ListN.{length};
 ghost use Rattle.records.specs.Maps.{cells, mapValue};
 ghost use Rattle.records.specs.Sets.{setBy};
-ghost use Rattle.step.specs.Machine.{start, noWrite};
-ghost use Rattle.step.specs.Runs.{choices};
-ghost use Rattle.step.specs.Traces.{trace as traceOf};
+ghost use Rattle.machine.specs.Machine.{start, noWrite};
+ghost use Rattle.machine.specs.Runs.{choices};
+ghost use Rattle.machine.specs.Traces.{trace as traceOf};
 ghost use Rattle.simulation.specs.Simulation.{limited, outputOver, simulated, traceOutput, bytesOut};
+use machine::Machine;
+use machine::RunAnswer;
 use records::Layout;
-use step::Answer;
-use step::Machine;
 
 // How many of a run's bytes are written to the output: none where it is refused.
-fn bytes_out(answer: Answer, bytes: usize) -> usize
+fn bytes_out(answer: RunAnswer, bytes: usize) -> usize
     ensures { λ r. ⌜ r ≡ bytesOut answer bytes ⌝ }
 {
     match answer {
-        Answer::Ran { steps: _, end: _ } => bytes,
-        Answer::Refused {
+        RunAnswer::Ran { steps: _, end: _ } => bytes,
+        RunAnswer::Refused {
             number: _,
             place: _,
         } => 0,
@@ -26,40 +26,40 @@ fn bytes_out(answer: Answer, bytes: usize) -> usize
 }
 
 // The call once set and map are accepted.
-fn accepted(set: &[u8], layout: Layout, map: &[u8], schedule: &[u8], trace: &mut [u8]) -> Answer
+fn accepted(set: &[u8], layout: Layout, map: &[u8], schedule: &[u8], trace: &mut [u8]) -> RunAnswer
     requires { ⌜ (layout .threads ≤ 4) × (cells (now map) ≤ 256) ⌝ }
     ensures { λ r. ⌜ (r ≡ limited (setBy (now (set .entry)) layout) (now (map .entry)) (now (schedule .entry)) (length (now (trace .entry))))
         × (now (trace .exit) ≡ outputOver r (traceOf (setBy (now (set .entry)) layout) (start (mapValue (now (map .entry)))) noWrite (choices (now (schedule .entry)))) (now (trace .entry))) ⌝ }
 {
     let n = schedule.len();
     if Machine::STEPS < n {
-        return Answer::Refused {
+        return RunAnswer::Refused {
             number: 17,
             place: 0,
         };
     }
     if trace.len() < 24 * n {
-        return Answer::Refused {
+        return RunAnswer::Refused {
             number: 11,
             place: 0,
         };
     }
     // The run is judged before a byte goes to the output.
     let mut bytes = [0u8; 1536];
-    let answer = runs::walk(set, layout, map, false, schedule, &mut bytes);
+    let answer = step::walk(set, layout, map, false, schedule, &mut bytes);
     let size = bytes_out(answer, 24 * n);
     base::place(trace, 0, &bytes[..size]);
     answer
 }
 
 // Simulates a schedule over a set and a map, and writes its trace.
-pub fn simulate(set: &[u8], map: &[u8], schedule: &[u8], trace: &mut [u8]) -> Answer
+pub fn simulate(set: &[u8], map: &[u8], schedule: &[u8], trace: &mut [u8]) -> RunAnswer
     ensures { λ r. ⌜ (r ≡ simulated (now (set .entry)) (now (map .entry)) (now (schedule .entry)) (length (now (trace .entry))))
         × (now (trace .exit) ≡ traceOutput r (now (set .entry)) (now (map .entry)) (now (schedule .entry)) (now (trace .entry))) ⌝ }
 {
     let layout = records::set::layout(set);
     if layout.threads == 0 {
-        return Answer::Refused {
+        return RunAnswer::Refused {
             number: 9,
             place: 0,
         };
@@ -67,7 +67,7 @@ pub fn simulate(set: &[u8], map: &[u8], schedule: &[u8], trace: &mut [u8]) -> An
     if records::map::map_accepted(map, 256) {
         return accepted(set, layout, map, schedule, trace);
     }
-    Answer::Refused {
+    RunAnswer::Refused {
         number: 9,
         place: 0,
     }

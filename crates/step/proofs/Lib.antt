@@ -1,7 +1,6 @@
--- Laws of the machine's definitions, which the proofs of this crate and of those above cite.
-pub mod Four
-pub mod Groups
-pub mod Loads
-pub mod Runs
-pub mod Permitted
-pub mod Settled
+-- Laws of the sparse memory and of lent registers, of one step, and of the loop over the steps.
+pub mod Cells
+pub mod Local
+pub mod MapCells
+pub mod Steps
+pub mod Tests

@@ -1,6 +1,3 @@
--- The machine of document 01: its state and one step, runs and their ends, runs over a map, and traces.
-pub mod Held
-pub mod Machine
-pub mod Maps
-pub mod Runs
-pub mod Traces
+-- What simulation and replay share, as the code has it: the end of a run on any layout, and one loop for both.
+pub mod Ends
+pub mod Walks

@@ -9,14 +9,14 @@ use lib.Dec.{eqb}
 use Rattle.base.proofs.Choice.{passed}
 use Rattle.table.specs.declared.Formula.{Formula}
 use Rattle.table.specs.Formulas.{bitSort, CHOICE, FIRST, CONSTANT, CONSTRAINT, GOAL}
-use Rattle.table.specs.Tables.{countOf}
+use Rattle.table.specs.Tables.{occurrences}
 use Rattle.table.specs.Programs.{Leaf, choiceBit, firstMemory, constantBit, constantWord, Unary, not1, top1, Binary, and2, or2, equal2, plus2, minus2, times2, read2, Ternary, if3, write3, leafFormula, unaryNumber, unaryFormula, binaryNumber, binaryFormula, ternaryNumber, ternaryFormula, Tree, ref, leaf, unary, binary, ternary, next, root, records, upto, Command, sets, needs, aims, put, compiled}
 use Rattle.table.proofs.Sorted.{LeafFits, Fits, ProgramFits}
 
 -- ---- counts
 
-pub count-++ : (operation : ℕ) (table more : List Formula) → countOf operation (table ++ more) ≡ countOf operation table + countOf operation more
-unfolding countOf
+pub count-++ : (operation : ℕ) (table more : List Formula) → occurrences operation (table ++ more) ≡ occurrences operation table + occurrences operation more
+unfolding occurrences
 count-++ operation [] more = omega arith
 count-++ operation (f ∷ table) more = let p = count-++ operation table more in omega arith
 
@@ -105,13 +105,13 @@ module _ {Slot : Type 0} where
       omega arith
 
   module _ (sortOf : Slot → ℕ) (bits : Bool) (operation : ℕ) (apart : Apart bits operation) where
-    zero-count : (f : Formula) (table : List Formula) → eqb (f .operation) operation ≡ false → countOf operation (f ∷ table) ≡ countOf operation table
-    unfolding countOf
+    zero-count : (f : Formula) (table : List Formula) → eqb (f .operation) operation ≡ false → occurrences operation (f ∷ table) ≡ occurrences operation table
+    unfolding occurrences
     zero-count f table e = let p = passed {A = ℕ} 1 0 e in omega arith
 
     -- a tree's records are of other operations
     tree-count : (places : Slot → ℕ) (t : Tree Slot) (n sort : ℕ) (rest : List Formula) → Fits sortOf bits t sort →
-        countOf operation (records places n t rest) ≡ countOf operation rest
+        occurrences operation (records places n t rest) ≡ occurrences operation rest
     unfolding records
     tree-count places (ref s) n sort rest f = refl
     tree-count places (leaf x) n sort rest f = zero-count (leafFormula x) rest (leaf-test x f)
@@ -131,8 +131,8 @@ module _ {Slot : Type 0} where
         ∙ zero-count (ternaryFormula o (root places n a) (root places (next n a) b) (root places (next (next n a) b) c)) rest (apart .noTernary o)))
 
     pub program-count : (same : Slot → Slot → Bool) (P : List (Command Slot)) (places : Slot → ℕ) (n : ℕ) → ProgramFits sortOf bits P →
-        countOf operation (compiled same places n P) ≡ demands operation P
-    unfolding compiled countOf demands
+        occurrences operation (compiled same places n P) ≡ demands operation P
+    unfolding compiled occurrences demands
     program-count same [] places n f = refl
     program-count same (sets s t ∷ P) places n f =
         tree-count places t n (sortOf s) _ (f .0) ∙ program-count same P (put same places s (root places n t)) (next n t) (f .1)

@@ -8,7 +8,7 @@ use borrow.Author.Tests.{eq-eqb, ne-eqb}
 use Rattle.base.proofs.Choice.{chosen, passed, cond-both}
 use Rattle.table.specs.declared.Formula.{Formula}
 use Rattle.table.specs.Values.{Assignment, Value, nil, bit, word, memory, asBit, valueOf, valuesFrom, met, satisfies}
-use Rattle.table.specs.Programs.{Leaf, choiceBit, firstMemory, constantBit, constantWord, Unary, not1, top1, Binary, and2, or2, equal2, plus2, minus2, times2, read2, Ternary, if3, write3, leafValue, unaryValue, binaryValue, ternaryValue, leafFormula, unaryFormula, binaryFormula, ternaryFormula, constraint, goal, Tree, ref, leaf, unary, binary, ternary, treeValue, next, root, records, Command, sets, needs, aims, put, compiled, holds}
+use Rattle.table.specs.Programs.{Leaf, choiceBit, firstMemory, constantBit, constantWord, Unary, not1, top1, Binary, and2, or2, equal2, plus2, minus2, times2, read2, Ternary, if3, write3, leafValue, unaryValue, binaryValue, ternaryValue, leafFormula, unaryFormula, binaryFormula, ternaryFormula, constraint, goal, Tree, ref, leaf, unary, binary, ternary, treeValue, next, root, records, Command, sets, needs, aims, put, compiled, programHolds}
 use Rattle.table.proofs.Sequences.{grows, inside}
 
 -- ---- the value of one record
@@ -127,13 +127,13 @@ module _ (g : Assignment) where
     chosen-value false i j = refl
 
     demanded : (P : List (Command Slot)) (places : Slot → ℕ) (n : ℕ) → Agrees values n (compiled same places n P) →
-        met values (compiled same places n P) ≡ holds same g (λ s. values (places s)) P
-    unfolding compiled met holds
+        met values (compiled same places n P) ≡ programHolds same g (λ s. values (places s)) P
+    unfolding compiled met programHolds
     demanded [] places n h = refl
     demanded (sets s t ∷ P) places n h =
         let k = meant values places t n _ h in
         still values places t n _ ∙ (demanded P _ (next n t) (k .1)
-        ∙ ap (λ slots. holds same g slots P)
+        ∙ ap (λ slots. programHolds same g slots P)
         (fun-ext (λ x. chosen-value (same x s) (root places n t) (places x) ∙ ap (λ v. cond (same x s) v (values (places x))) (k .0))))
     demanded (needs t ∷ P) places n h =
         let k = meant values places t n _ h in
@@ -255,7 +255,7 @@ startValue g (suc (suc (suc n))) = memory (g .first)
 module _ {Slot : Type 0} (same : Slot → Slot → Bool) (g : Assignment) where
   pub means : (P : List (Command Slot)) (places : Slot → ℕ) → ((s : Slot) → places s < 4) → (slots : Slot → Value) →
       ((s : Slot) → startValue g (places s) ≡ slots s) →
-      satisfies g (firstRecords ++ compiled same places 4 P) ≡ holds same g slots P
+      satisfies g (firstRecords ++ compiled same places 4 P) ≡ programHolds same g slots P
   unfolding satisfies met
   means P places h slots e =
       let table = firstRecords ++ compiled same places 4 P in
@@ -272,7 +272,7 @@ module _ {Slot : Type 0} (same : Slot → Slot → Bool) (g : Assignment) where
         ),
       ) in
       demanded g same values P places 4 (all .1 .1 .1 .1)
-      ∙ ap (λ slots. holds same g slots P)
+      ∙ ap (λ slots. programHolds same g slots P)
       (fun-ext (λ s. four values (all .0 ∙ leaf-value g values (constantBit false)) (all .1 .0 ∙ leaf-value g values (constantBit true))
       (all .1 .1 .0 ∙ leaf-value g values (constantWord 0)) (all .1 .1 .1 .0 ∙ leaf-value g values firstMemory) (places s) (h s) ∙ e s))
     where

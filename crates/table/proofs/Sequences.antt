@@ -7,7 +7,7 @@ use native.Mathlib.Omega.{arith}
 use lib.ListN.{length}
 use Rattle.table.specs.declared.Formula.{Formula}
 use Rattle.table.specs.Values.{Assignment, Value, asBit}
-use Rattle.table.specs.Programs.{Tree, ref, leaf, unary, binary, ternary, treeValue, next, root, records, upto, Command, sets, needs, aims, put, nextAfter, placesAfter, compiled, valuesAfter, holds, unaryFormula, binaryFormula, ternaryFormula, constraint, goal}
+use Rattle.table.specs.Programs.{Tree, ref, leaf, unary, binary, ternary, treeValue, next, root, records, upto, Command, sets, needs, aims, put, nextAfter, placesAfter, compiled, valuesAfter, programHolds, unaryFormula, binaryFormula, ternaryFormula, constraint, goal}
 
 -- ---- one number after the other
 
@@ -196,8 +196,8 @@ module _ {Slot : Type 0} (same : Slot → Slot → Bool) where
     and-assoc false b c = refl
 
     pub holds-++ : (slots : Slot → Value) (P Q : List (Command Slot)) →
-        holds same g slots (P ++ Q) ≡ (holds same g slots P && holds same g (valuesAfter same g slots P) Q)
-    unfolding valuesAfter holds
+        programHolds same g slots (P ++ Q) ≡ (programHolds same g slots P && programHolds same g (valuesAfter same g slots P) Q)
+    unfolding valuesAfter programHolds
     holds-++ slots [] Q = refl
     holds-++ slots (sets s t ∷ P) Q = holds-++ (put same slots s (treeValue g slots t)) P Q
     holds-++ slots (needs t ∷ P) Q = ap (λ x. asBit (treeValue g slots t) && x) (holds-++ slots P Q) ∙ and-assoc (asBit (treeValue g slots t)) _ _

@@ -6,7 +6,7 @@ use lib.Dec.{eqb}
 use Rattle.base.specs.Words.{plus, minus, times, topBit}
 use Rattle.table.specs.declared.Formula.{Formula}
 use Rattle.table.specs.Formulas.{noSort, bitSort, wordSort, memorySort, CHOICE, FIRST, CONSTANT, NOT, AND, OR, EQUAL, IF, PLUS, MINUS, TIMES, READ, WRITE, TOP, CONSTRAINT, GOAL}
-use Rattle.table.specs.Values.{Assignment, Value, bit, word, memory, asBit, asWord, asMemory, written}
+use Rattle.table.specs.Values.{Assignment, Value, bit, word, memory, asBit, asWord, asMemory, memoryWith}
 
 -- ---- operations by their number of operands
 
@@ -50,7 +50,7 @@ binaryValue read2 a b = word (asMemory a (asWord b))
 
 abbrev pub ternaryValue : Ternary → Value → Value → Value → Value
 ternaryValue (if3 sort) a b c = cond (asBit a) b c
-ternaryValue write3 a b c = memory (written (asMemory a) (asWord b) (asWord c))
+ternaryValue write3 a b c = memory (memoryWith (asMemory a) (asWord b) (asWord c))
 
 -- ---- their records
 
@@ -200,8 +200,8 @@ module _ {Slot : Type 0} (same : Slot → Slot → Bool) where
   valuesAfter g slots (needs t ∷ program) = valuesAfter g slots program
   valuesAfter g slots (aims t ∷ program) = valuesAfter g slots program
 
-  unfoldable pub holds : Assignment → (Slot → Value) → List (Command Slot) → Bool
-  holds g slots [] = true
-  holds g slots (sets s t ∷ program) = holds g (put same slots s (treeValue g slots t)) program
-  holds g slots (needs t ∷ program) = asBit (treeValue g slots t) && holds g slots program
-  holds g slots (aims t ∷ program) = asBit (treeValue g slots t) && holds g slots program
+  unfoldable pub programHolds : Assignment → (Slot → Value) → List (Command Slot) → Bool
+  programHolds g slots [] = true
+  programHolds g slots (sets s t ∷ program) = programHolds g (put same slots s (treeValue g slots t)) program
+  programHolds g slots (needs t ∷ program) = asBit (treeValue g slots t) && programHolds g slots program
+  programHolds g slots (aims t ∷ program) = asBit (treeValue g slots t) && programHolds g slots program

@@ -63,9 +63,9 @@ allFormed sorts n [] = true
 allFormed sorts n (f ∷ table) = formed sorts n f && allFormed (changed sorts n (f .sort)) (suc n) table
 
 -- how many records have an operation
-unfoldable pub countOf : ℕ → List Formula → ℕ
-countOf operation [] = 0
-countOf operation (f ∷ table) = cond (eqb (f .operation) operation) 1 0 + countOf operation table
+unfoldable pub occurrences : ℕ → List Formula → ℕ
+occurrences operation [] = 0
+occurrences operation (f ∷ table) = cond (eqb (f .operation) operation) 1 0 + occurrences operation table
 
 -- ---- the order of parts
 
@@ -75,18 +75,18 @@ bits k kind t zero = []
 bits k kind t (suc n) = record { operation = CHOICE; sort = bitSort; constant = 0; a = k; b = kind; c = t } ∷ bits k kind (suc t) n
 
 -- all 2T choice bits of step k: executes by thread, then flushes by thread
-unfoldable pub row : (threads k : ℕ) → List Formula
-row threads k = bits k 0 0 threads ++ bits k 1 0 threads
+unfoldable pub choiceBits : (threads k : ℕ) → List Formula
+choiceBits threads k = bits k 0 0 threads ++ bits k 1 0 threads
 
 -- a part of the table that is no row of choice bits and not the goal
 pub record Inner (part : List Formula) : Type 0 where
-  pub noChoice : countOf CHOICE part ≡ 0
-  pub noGoal : countOf GOAL part ≡ 0
+  pub noChoice : occurrences CHOICE part ≡ 0
+  pub noGoal : occurrences GOAL part ≡ 0
 
 -- for each step from k on, n of them: all choice bits, then constraints (at least one) and next values
 unfoldable pub steps : (threads : ℕ) → (ℕ → List Formula) → (k n : ℕ) → List Formula
 steps threads inner k zero = []
-steps threads inner k (suc n) = row threads k ++ (inner k ++ steps threads inner (suc k) n)
+steps threads inner k (suc n) = choiceBits threads k ++ (inner k ++ steps threads inner (suc k) n)
 
 -- The parts come in this order: start values, map constraints, then the steps from 0 to K - 1; one goal last.
 pub record InOrder (threads bound cells : ℕ) (table : List Formula) : Type 0 where
@@ -96,15 +96,15 @@ pub record InOrder (threads bound cells : ℕ) (table : List Formula) : Type 0 w
   pub last : Formula
   pub parts : table ≡ starts ++ (maps ++ (steps threads inner 0 bound ++ (last ∷ [])))
   pub startsInner : Inner starts
-  pub noConstraint : countOf CONSTRAINT starts ≡ 0
+  pub noConstraint : occurrences CONSTRAINT starts ≡ 0
   pub mapsInner : Inner maps
-  pub constrained : countOf CONSTRAINT maps ≡ cells
+  pub constrained : occurrences CONSTRAINT maps ≡ cells
   pub stepsInner : (k : ℕ) → k < bound → Inner (inner k)
-  pub someConstraint : (k : ℕ) → k < bound → 1 ≤ countOf CONSTRAINT (inner k)
+  pub someConstraint : (k : ℕ) → k < bound → 1 ≤ occurrences CONSTRAINT (inner k)
   pub goal : last .operation ≡ GOAL
 
 -- a table for so many threads, bound and map cells is well formed
-pub record WellFormed (threads bound cells : ℕ) (table : List Formula) : Type 0 where
+pub record WellFormedTable (threads bound cells : ℕ) (table : List Formula) : Type 0 where
   pub records : allFormed (λ i. noSort) 0 table ≡ true
-  pub oneMemory : countOf FIRST table ≤ 1
+  pub oneMemory : occurrences FIRST table ≤ 1
   pub order : InOrder threads bound cells table

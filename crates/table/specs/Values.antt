@@ -43,8 +43,8 @@ asMemory (word w) a = 0
 asMemory (memory m) a = m a
 
 -- memory m with v at address a
-abbrev pub written : (ℕ → ℕ) → ℕ → ℕ → ℕ → ℕ
-written m a v x = cond (eqb x a) v (m x)
+abbrev pub memoryWith : (ℕ → ℕ) → ℕ → ℕ → ℕ → ℕ
+memoryWith m a v x = cond (eqb x a) v (m x)
 
 -- ---- one record
 
@@ -67,7 +67,7 @@ valueOf g values f =
     (cond (eqb (f .operation) MINUS) (word (minus (asWord a) (asWord b)))
     (cond (eqb (f .operation) TIMES) (word (times (asWord a) (asWord b)))
     (cond (eqb (f .operation) READ) (word (asMemory a (asWord b)))
-    (cond (eqb (f .operation) WRITE) (memory (written (asMemory a) (asWord b) (asWord c)))
+    (cond (eqb (f .operation) WRITE) (memory (memoryWith (asMemory a) (asWord b) (asWord c)))
     (cond (eqb (f .operation) TOP) (bit (topBit (asWord a)))
     nil)))))))))))))
 

@@ -15,8 +15,8 @@ use Rattle.base.proofs.Bytes.{same-self}
 use Rattle.base.proofs.Choice.{chosen, passed, and-true, and-right}
 use Rattle.records.specs.Instructions.{instructions, isMemory, isJump, isBare, isLast}
 use Rattle.records.specs.Sets.{records, threadAt, numberAt, modeAt, argumentAt, pcAt, countOf, follows, argumentFits, recordFits, opensAt, setAccepted}
-use Rattle.lines.specs.Lines.{unlabelled}
-use Rattle.lines.specs.declared.Stated.{Stated}
+use Rattle.text_lines.specs.Lines.{unlabelled}
+use Rattle.text_lines.specs.declared.Stated.{Stated}
 use Rattle.text.specs.Sections.{Threads, threads}
 use Rattle.text.specs.Records.{argumentOf, setBytes, statementsBefore, statements}
 use Rattle.text.specs.Answers.{threadsFit, statementsFit, doubledAt, targetFits, threadFits, labelsFit, checkpointsFit}

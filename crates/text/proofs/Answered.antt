@@ -7,16 +7,16 @@ use lib.Dec.{eqb, leb, ltb}
 use lib.ListN.{length}
 use borrow.Author.Tests.{leb-true}
 use Rattle.base.proofs.Choice.{and-left, and-right, cond-both}
-use Rattle.lines.specs.Lines.{lines}
-use Rattle.lines.specs.declared.Cell.{Cell}
+use Rattle.text_lines.specs.Lines.{lines}
+use Rattle.text_lines.specs.declared.Cell.{Cell}
 use Rattle.text.specs.Answers.{threadsFit, statementsFit, labelsFit, checkpointsFit, mapFits, roomFits, refused, refusalIn, inLines, whole, answer}
 use Rattle.text.specs.Records.{setBytes, statements}
 use Rattle.text.specs.Sections.{Threads, threads, cells}
-use Rattle.text.specs.declared.Answer.{Answer}
-use Rattle.text.specs.declared.Answer.the-variants.{Read, Refused}
+use Rattle.text.specs.declared.ReadAnswer.{ReadAnswer}
+use Rattle.text.specs.declared.ReadAnswer.the-variants.{Read, Refused}
 
 module _ (T : Threads) (cs : List Cell) (setRoom mapRoom : ℕ) where
-  abbrev pub Counts : Answer → Type 0
+  abbrev pub Counts : ReadAnswer → Type 0
   Counts (Read n m) = (n ≡ statements T) × (m ≡ length cs) × (8 * n ≤ setRoom) × (4 * m ≤ mapRoom)
   Counts (Refused number place) = Unit {0}
 
@@ -38,7 +38,7 @@ module _ (T : Threads) (cs : List Cell) (setRoom mapRoom : ℕ) where
       )
       last false e = tt
 
-  counts-lines : (line : ℕ) (ls : List (List ℕ)) (next : Answer) → Counts next → Counts (inLines line ls next)
+  counts-lines : (line : ℕ) (ls : List (List ℕ)) (next : ReadAnswer) → Counts next → Counts (inLines line ls next)
   unfolding inLines
   counts-lines line [] next c = c
   counts-lines line (l ∷ ls) next c = cond-both Counts (eqb (refusalIn l ls) 0) (counts-lines (suc line) ls next c) tt

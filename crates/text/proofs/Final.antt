@@ -9,9 +9,9 @@ use lib.Dec.{eqb}
 use lib.ListN.{length}
 use borrow.Author.Tests.{eq-eqb, ne-eqb}
 use Rattle.base.proofs.Choice.{chosen, passed, cond-both}
-use Rattle.lines.specs.Lines.{isDot, statementLine, mapLine}
-use Rattle.lines.specs.declared.Stated.{Stated}
-use Rattle.lines.specs.declared.Cell.{Cell}
+use Rattle.text_lines.specs.Lines.{isDot, statementLine, mapLine}
+use Rattle.text_lines.specs.declared.Stated.{Stated}
+use Rattle.text_lines.specs.declared.Cell.{Cell}
 use Rattle.text.proofs.Inserted.{length-inserted}
 use Rattle.text.specs.Sections.{Threads, dots, isGood, halt, added, isComplete, gained, closed, lineAdded, threadsFrom, inserted, cellAdded, cellsFrom}
 

@@ -9,14 +9,14 @@ use lib.Dec.{leb}
 use lib.ListN.{length, getD, take, List·getD-eq-default}
 use borrow.Author.Tests.{leb-true, le-leb}
 use Rattle.base.proofs.Choice.{chosen, passed, and-left, and-right, and-true}
-use Rattle.lines.specs.declared.Cell.{Cell}
+use Rattle.text_lines.specs.declared.Cell.{Cell}
 use Rattle.text.specs.Answers.{threadsFit, statementsFit, labelsFit, checkpointsFit, mapFits, refused}
-use Rattle.text.specs.Readings.{threadsKept, ThreadsStand, threadsRefusal, checked, Written}
+use Rattle.text.specs.Readings.{threadsKept, ThreadsStand, threadsRefusal, checked, RecordsWritten}
 use Rattle.text.specs.Records.{setBytes, statements}
 use Rattle.text.specs.Sections.{Threads}
-use Rattle.text.specs.declared.Answer.{Answer}
+use Rattle.text.specs.declared.ReadAnswer.{ReadAnswer}
 use Rattle.text.specs.declared.Reading.{Reading}
-use Rattle.text.specs.declared.Answer.the-variants.{Read, Refused}
+use Rattle.text.specs.declared.ReadAnswer.the-variants.{Read, Refused}
 use Rattle.text.specs.Drafts.{fourFit}
 
 pub four-few : (counts : List ℕ) → length counts ≡ 4 → fourFit counts ≡ true → (t : ℕ) → getD counts t 0 ≤ 32
@@ -100,8 +100,8 @@ assembled r draft T set n fit st fits w full check =
     (ap checkpointsFit (sym bytes) ∙ sym (check (omega (arith, w .1, full))), bytes, w .0 ∙ ap statements (sym e))
 
 -- a refusal writes no records
-pub none-written : (a : Answer) (number place : ℕ) (T : Threads) (cs : List Cell) (set map : List ℕ) → a ≡ Refused number place → Written a T cs set map
-none-written a number place T cs set map e = subst (λ (b : Answer). Written b T cs set map) (sym e) tt
+pub none-written : (a : ReadAnswer) (number place : ℕ) (T : Threads) (cs : List Cell) (set map : List ℕ) → a ≡ Refused number place → RecordsWritten a T cs set map
+none-written a number place T cs set map e = subst (λ (b : ReadAnswer). RecordsWritten b T cs set map) (sym e) tt
 
 -- what the number that row 8 gives tells
 pub fits-eight : (b : Bool) (n : ℕ) → n ≡ cond b 0 8 → (n ≡ 0 → ⊥) → (n ≡ 8) × (b ≡ false)

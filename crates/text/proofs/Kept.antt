@@ -10,8 +10,8 @@ use lib.ListN.{length, getD, set}
 use lib.Seq.{getD-set-same, getD-set-other}
 use borrow.Author.Tests.{eq-eqb, ne-eqb, lt-ltb, le-ltb}
 use Rattle.base.proofs.Choice.{chosen, passed, and-false}
-use Rattle.lines.specs.declared.Stated.{Stated}
-use Rattle.drafts.specs.Blocks.{blockAt}
+use Rattle.text_lines.specs.declared.Stated.{Stated}
+use Rattle.text_drafts.specs.Blocks.{blockAt}
 use Rattle.text.specs.Drafts.{drafted, threadsIn}
 use Rattle.records.specs.Instructions.{isLast}
 use Rattle.text.specs.Sections.{Threads, halt, added, isComplete, gained, closed}

@@ -10,7 +10,7 @@ use Rattle.base.specs.Below.{some, least}
 use Rattle.base.specs.Bytes.{same}
 use Rattle.base.proofs.Below.{least-ext}
 use Rattle.base.proofs.Choice.{chosen, passed, and-false}
-use Rattle.drafts.specs.Blocks.{blockAt}
+use Rattle.text_drafts.specs.Blocks.{blockAt}
 use Rattle.text.specs.Drafts.{drafted}
 use Rattle.text.specs.Records.{isNamed, pcOf, argumentOf}
 use Rattle.text.specs.Answers.{doubledAt, targetFits}

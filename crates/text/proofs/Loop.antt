@@ -13,26 +13,26 @@ use borrow.Author.Tests.{eq-eqb, ne-eqb, eqb-true, lt-ltb, le-ltb, lt-leb, le-le
 use Rattle.base.specs.Below.{every}
 use Rattle.base.proofs.Below.{every-not, every-all}
 use Rattle.base.proofs.Choice.{chosen, passed, and-true, and-false, and-left, and-right, and-right-false, clash}
-use Rattle.lines.specs.Lines.{lines, isDot, statementLine, mapLine}
-use Rattle.lines.specs.declared.Cell.{Cell}
-use Rattle.text.specs.Answers.{refusalOf, refusalIn, inLines, threadsFit, statementsFit}
-use Rattle.drafts.specs.Blocks.{blockAt}
+use Rattle.text_lines.specs.Lines.{lines, isDot, statementLine, mapLine}
+use Rattle.text_lines.specs.declared.Cell.{Cell}
+use Rattle.text.specs.Answers.{lineRefusal, refusalIn, inLines, threadsFit, statementsFit}
+use Rattle.text_drafts.specs.Blocks.{blockAt}
 use Rattle.text.specs.Drafts.{drafted, threadsIn, cellsOf}
 use Rattle.text.specs.Readings.{threadsKept, cellsKept, Sound, Takes, ReadsLines, threadsAfter, cellsAfter, misfits}
 use Rattle.text.specs.Sections.{Threads, noThreads, halt, dots, isGood, lineAdded, closed, threadsFrom, threads, inserted, cellAdded, cellsFrom, cells}
-use Rattle.text.specs.declared.Answer.{Answer}
-use Rattle.text.specs.declared.Answer.the-variants.{Refused}
+use Rattle.text.specs.declared.ReadAnswer.{ReadAnswer}
+use Rattle.text.specs.declared.ReadAnswer.the-variants.{Refused}
 use Rattle.text.specs.declared.Reading.{Reading}
 use Rattle.text.proofs.Carried.{cells-length}
 use Rattle.text.proofs.Final.{turned, Grows, grows-turned, grows-from, length-from}
 use Rattle.text.proofs.Inserted.{length-inserted}
-use Rattle.reader.specs.Readers.{lineAt, linesFrom}
-use Rattle.reader.specs.declared.Line.{Line}
-use Rattle.reader.proofs.Pieces.{lines-next}
+use Rattle.text_reader.specs.Readers.{lineAt, linesFrom}
+use Rattle.text_reader.specs.declared.Line.{Line}
+use Rattle.text_reader.proofs.Pieces.{lines-next}
 
 -- the lines `rest` are still to come
 pub record At (text : List ℕ) (r : Reading) (draft keys : List ℕ) (rest : List (List ℕ)) : Type 0 where
-  pub passed : (next : Answer) → inLines 1 (lines text) next ≡ inLines (r .line + 1) rest next
+  pub passed : (next : ReadAnswer) → inLines 1 (lines text) next ≡ inLines (r .line + 1) rest next
   pub ended : dots (lines text) ≡ r .ended + dots rest
   pub sound : Sound r draft
   pub kept : r .fits ≡ true → threads (lines text) ≡ threadsFrom (threadsKept r draft) rest
@@ -56,13 +56,13 @@ module _ (l : List ℕ) (ls : List (List ℕ)) where
   unfolding dots
   left-some dot = let e = ap (λ (b : Bool). cond b 1 0 + dots ls) dot in ne-eqb (cond (isDot l) 1 0 + dots ls) 0 (omega (arith, e))
 
-  pub refusal-is : cond (isDot l) 0 (refusalOf (cond (eqb (dots (l ∷ ls)) 0) (mapLine l .form) (statementLine l .form))) ≡ refusalIn l ls
+  pub refusal-is : cond (isDot l) 0 (lineRefusal (cond (eqb (dots (l ∷ ls)) 0) (mapLine l .form) (statementLine l .form))) ≡ refusalIn l ls
   unfolding refusalIn
   refusal-is = go (isDot l) refl
     where
-      go : (b : Bool) → isDot l ≡ b → cond (isDot l) 0 (refusalOf (cond (eqb (dots (l ∷ ls)) 0) (mapLine l .form) (statementLine l .form))) ≡ cond (isDot l) 0 (refusalOf (cond (eqb (dots ls) 0) (mapLine l .form) (statementLine l .form)))
+      go : (b : Bool) → isDot l ≡ b → cond (isDot l) 0 (lineRefusal (cond (eqb (dots (l ∷ ls)) 0) (mapLine l .form) (statementLine l .form))) ≡ cond (isDot l) 0 (lineRefusal (cond (eqb (dots ls) 0) (mapLine l .form) (statementLine l .form)))
       go true e = chosen _ _ e ∙ sym (chosen _ _ e)
-      go false e = ap (λ (n : ℕ). cond (isDot l) 0 (refusalOf (cond (eqb n 0) (mapLine l .form) (statementLine l .form)))) (left-is e)
+      go false e = ap (λ (n : ℕ). cond (isDot l) 0 (lineRefusal (cond (eqb n 0) (mapLine l .form) (statementLine l .form)))) (left-is e)
 
   threads-is : (T : Threads) → threadsAfter l (dots (l ∷ ls)) T ≡ turned l ls T
   threads-is T = go (isDot l) refl
@@ -118,7 +118,7 @@ module _ (text : List ℕ) (r : Reading) (draft keys : List ℕ) (l : List ℕ) 
   refusal-here = took .refusal ∙ refusal-is l ls
 
   -- the line is refused
-  pub refused-here : (r′ .refusal ≡ 0 → ⊥) → (next : Answer) → inLines 1 (lines text) next ≡ Refused (r′ .refusal) (r′ .line)
+  pub refused-here : (r′ .refusal ≡ 0 → ⊥) → (next : ReadAnswer) → inLines 1 (lines text) next ≡ Refused (r′ .refusal) (r′ .line)
   unfolding inLines
   refused-here f next =
       at .passed next
@@ -127,7 +127,7 @@ module _ (text : List ℕ) (r : Reading) (draft keys : List ℕ) (l : List ℕ) 
 
   -- it is not
   module _ (good : r′ .refusal ≡ 0) where
-    next-passed : (next : Answer) → inLines 1 (lines text) next ≡ inLines (r′ .line + 1) ls next
+    next-passed : (next : ReadAnswer) → inLines 1 (lines text) next ≡ inLines (r′ .line + 1) ls next
     unfolding inLines
     next-passed next =
         at .passed next
@@ -312,7 +312,7 @@ ends text r draft keys at good = record {
 }
 
 -- a line is
-pub stops : (text : List ℕ) (r : Reading) (draft keys : List ℕ) → (r .refusal ≡ 0 → ⊥) → Sound r draft → ((next : Answer) → inLines 1 (lines text) next ≡ Refused (r .refusal) (r .line)) → ReadsLines text r draft keys
+pub stops : (text : List ℕ) (r : Reading) (draft keys : List ℕ) → (r .refusal ≡ 0 → ⊥) → Sound r draft → ((next : ReadAnswer) → inLines 1 (lines text) next ≡ Refused (r .refusal) (r .line)) → ReadsLines text r draft keys
 stops text r draft keys bad sound refused = record {
   refused = λ f. refused;
   passed = λ e. absurd (bad e);

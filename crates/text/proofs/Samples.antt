@@ -6,12 +6,12 @@ use Rattle.base.specs.Below.{every, some, number, least}
 use Rattle.base.specs.Bytes.{same, over}
 use Rattle.records.specs.Instructions.{words, wordOf}
 use Rattle.records.specs.Sets.{opensAt}
-use Rattle.lines.specs.Bytes.{run, valueAfter}
-use Rattle.lines.specs.Lines.{lines, isDot, padded, isLabel, stated, numbered, bracketed, targeted, argued, afterWord, worded, labelled, statement, statementLine, valued, addressed, cell, mapLine}
+use Rattle.text_lines.specs.Characters.{run, valueAfter}
+use Rattle.text_lines.specs.Lines.{lines, isDot, padded, isLabel, stated, numbered, bracketed, targeted, argued, afterWord, worded, labelled, statement, statementLine, valued, addressed, cell, mapLine}
 use Rattle.text.specs.Sections.{dots, added, gained, closed, lineAdded, threadsFrom, threads, inserted, cellAdded, cellsFrom, cells}
 use Rattle.text.specs.Records.{joined, pcOf, argumentOf, statementBytes, threadBytes, setBytes, statementsBefore, cellBytes, mapBytes}
 use Rattle.text.specs.Answers.{refusalIn, inLines, statementsFit, doubledAt, targetFits, threadFits, labelsFit, checkpointsFit, addressDoubled, mapFits, whole, answer}
-use Rattle.text.specs.declared.Answer.the-variants.{Read}
+use Rattle.text.specs.declared.ReadAnswer.the-variants.{Read}
 
 -- the listing program's example
 example : List ℕ

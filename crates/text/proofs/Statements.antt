@@ -13,11 +13,11 @@ use Rattle.base.specs.Bytes.{same}
 use Rattle.base.proofs.Bytes.{length-over}
 use Rattle.base.proofs.Choice.{chosen, passed, and-left, and-right, and-true, and-false, and-right-false, clash, cond-both}
 use Rattle.records.specs.Instructions.{instructions, isMemory, isJump, isBare, isLast, wordOf}
-use Rattle.lines.specs.Bytes.{isBlank, isDigit, digits, skip, onlyBlanks, name, pastName, pastDigits, value, first, endsWith}
-use Rattle.lines.specs.Lines.{isDot, isAllowed, uncommented, unlabelled, padded, isLabel, noStatement, stated, numbered, bracketed, targeted, argued, afterWord, worded, labelled, statement, statementLine}
-use Rattle.lines.specs.declared.Form.{Form}
-use Rattle.lines.specs.declared.Form.the-variants.{Empty, Malformed, Large}
-use Rattle.lines.specs.declared.Stated.{Stated}
+use Rattle.text_lines.specs.Characters.{isBlank, isDigit, digits, skip, onlyBlanks, name, pastName, pastDigits, value, first, endsWith}
+use Rattle.text_lines.specs.Lines.{isDot, isAllowed, uncommented, unlabelled, padded, isLabel, noStatement, stated, numbered, bracketed, targeted, argued, afterWord, worded, labelled, statement, statementLine}
+use Rattle.text_lines.specs.declared.Form.{Form}
+use Rattle.text_lines.specs.declared.Form.the-variants.{Empty, Malformed, Large}
+use Rattle.text_lines.specs.declared.Stated.{Stated}
 use Rattle.text.proofs.Below.{cond-where}
 use Rattle.text.specs.Sections.{Threads, dots, isGood, halt, noThreads, added, isComplete, gained, closed, lineAdded, threadsFrom, threads}
 

@@ -10,11 +10,11 @@ use lib.Dec.{eqb, ltb}
 use lib.ListN.{getD}
 use borrow.Author.Tests.{eq-eqb, lt-ltb, ltb-true, ltb-false}
 use Rattle.base.proofs.Choice.{chosen, passed, and-left, and-right, or-true, or-right-true, or-left, or-right, clash}
-use Rattle.lines.specs.Lines.{isDot, statementLine, mapLine}
-use Rattle.lines.specs.declared.Stated.{Stated}
+use Rattle.text_lines.specs.Lines.{isDot, statementLine, mapLine}
+use Rattle.text_lines.specs.declared.Stated.{Stated}
 use Rattle.records.specs.Instructions.{isLast}
-use Rattle.text.specs.Answers.{refusalOf}
-use Rattle.drafts.specs.Blocks.{blockAt}
+use Rattle.text.specs.Answers.{lineRefusal}
+use Rattle.text_drafts.specs.Blocks.{blockAt}
 use Rattle.text.specs.Drafts.{threadsIn}
 use Rattle.text.specs.Readings.{threadsKept, cellsKept, openCount, Closes, States, Maps, Takes, misfits}
 use Rattle.text.specs.Sections.{Threads, halt, isGood, added, isComplete, gained, closed, lineAdded, cellAdded}
@@ -89,7 +89,7 @@ module _ (l : List ℕ) (left : ℕ) (r : Reading) (draft keys : List ℕ) where
   pub took-cell : isDot l ≡ false → eqb left 0 ≡ true → (r′ : Reading) (keys′ : List ℕ) → Maps (mapLine l) r keys r′ keys′ → Takes l left r draft keys (numbered (r′ .refusal) (r .line + 1) r′) draft keys′
   unfolding cellAdded
   took-cell plain none r′ keys′ m = record {
-    refusal = m .refusal ∙ sym (passed _ _ plain ∙ ap refusalOf (chosen (mapLine l .form) (statementLine l .form) none));
+    refusal = m .refusal ∙ sym (passed _ _ plain ∙ ap lineRefusal (chosen (mapLine l .form) (statementLine l .form) none));
     line = refl;
     ended = no-end plain (r′ .ended) (m .ended);
     sound = λ sound. ((λ t. let e = ap (λ (counts : List ℕ). getD counts t 0) (m .counts) in rw e (sound .0 t)), sound .1);
@@ -105,7 +105,7 @@ module _ (l : List ℕ) (left : ℕ) (r : Reading) (draft keys : List ℕ) where
   pub took-statement : isDot l ≡ false → eqb left 0 ≡ false → (r′ : Reading) (draft′ : List ℕ) → States (statementLine l) r draft r′ draft′ → Takes l left r draft keys (numbered (r′ .refusal) (r .line + 1) r′) draft′ keys
   unfolding lineAdded
   took-statement plain more r′ draft′ s = record {
-    refusal = s .refusal ∙ sym (passed _ _ plain ∙ ap refusalOf (passed (mapLine l .form) (statementLine l .form) more));
+    refusal = s .refusal ∙ sym (passed _ _ plain ∙ ap lineRefusal (passed (mapLine l .form) (statementLine l .form) more));
     line = refl;
     ended = no-end plain (r′ .ended) (s .ended);
     sound = s .sound;

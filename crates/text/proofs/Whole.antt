@@ -7,14 +7,14 @@ use lib.Dec.{leb}
 use lib.ListN.{length}
 use borrow.Author.Tests.{le-ltb, lt-ltb}
 use Rattle.base.proofs.Choice.{chosen, passed, cond-ap}
-use Rattle.lines.specs.Lines.{lines}
-use Rattle.lines.specs.declared.Cell.{Cell}
+use Rattle.text_lines.specs.Lines.{lines}
+use Rattle.text_lines.specs.declared.Cell.{Cell}
 use Rattle.text.specs.Answers.{refused, threadsFit, statementsFit, labelsFit, checkpointsFit, mapFits, whole, inLines, answer, outputBy, setOutput, mapOutput}
-use Rattle.text.specs.Readings.{ReadsLines, ThreadsStand, CellsStand, checked, Written, Few, roomed, setPart, mapPart}
+use Rattle.text.specs.Readings.{ReadsLines, ThreadsStand, CellsStand, checked, RecordsWritten, Few, roomed, setPart, mapPart}
 use Rattle.text.specs.Records.{setBytes, statements, mapBytes}
 use Rattle.text.specs.Sections.{Threads, threads, cells}
-use Rattle.text.specs.declared.Answer.{Answer}
-use Rattle.text.specs.declared.Answer.the-variants.{Read, Refused}
+use Rattle.text.specs.declared.ReadAnswer.{ReadAnswer}
+use Rattle.text.specs.declared.ReadAnswer.the-variants.{Read, Refused}
 use Rattle.text.specs.declared.Reading.{Reading}
 use Rattle.text.proofs.Maps.{cells-ordered, map-fits}
 
@@ -26,7 +26,7 @@ module _ (text : List ℕ) (r : Reading) (draft keys : List ℕ) (read : ReadsLi
   pub cells-stand : CellsStand r keys (cells (lines text))
   cells-stand = record { few = read .few good; many = read .many good; accepted = map-fits (cells (lines text)) (cells-ordered (lines text)) }
 
-pub written-few : (a : Answer) (T : Threads) (cs : List Cell) (set map : List ℕ) → Written a T cs set map → Few a
+pub written-few : (a : ReadAnswer) (T : Threads) (cs : List Cell) (set map : List ℕ) → RecordsWritten a T cs set map → Few a
 written-few (Read n m) T cs set map w = (w .2, w .3)
 written-few (Refused number place) T cs set map w = tt
 
@@ -46,7 +46,7 @@ whole-roomed T cs a b = sym
     last false = refl
 
 -- a text that is not too long, whose lines are not refused
-pub answer-is : (text : List ℕ) (a b : ℕ) (checks : Answer) → length text ≤ 16384 → ((next : Answer) → inLines 1 (lines text) next ≡ next) → checks ≡ checked (threads (lines text)) (cells (lines text)) →
+pub answer-is : (text : List ℕ) (a b : ℕ) (checks : ReadAnswer) → length text ≤ 16384 → ((next : ReadAnswer) → inLines 1 (lines text) next ≡ next) → checks ≡ checked (threads (lines text)) (cells (lines text)) →
     roomed a b checks ≡ answer text a b
 unfolding answer
 answer-is text a b checks short lined e =
@@ -58,21 +58,21 @@ pub answer-long : (text : List ℕ) (a b : ℕ) → 16384 < length text → Refu
 unfolding answer
 answer-long text a b long = sym (chosen _ _ (lt-ltb 16384 (length text) long))
 
-pub answer-line : (text : List ℕ) (a b number line : ℕ) → length text ≤ 16384 → ((next : Answer) → inLines 1 (lines text) next ≡ Refused number line) → Refused number line ≡ answer text a b
+pub answer-line : (text : List ℕ) (a b number line : ℕ) → length text ≤ 16384 → ((next : ReadAnswer) → inLines 1 (lines text) next ≡ Refused number line) → Refused number line ≡ answer text a b
 unfolding answer
 answer-line text a b number line short lined = sym (passed _ _ (le-ltb 16384 (length text) short) ∙ lined (whole (threads (lines text)) (cells (lines text)) a b))
 
 -- the outputs
-pub set-output : (checks r : Answer) (text set map out : List ℕ) (a b : ℕ) → r ≡ roomed a b checks → Written checks (threads (lines text)) (cells (lines text)) set map →
+pub set-output : (checks r : ReadAnswer) (text set map out : List ℕ) (a b : ℕ) → r ≡ roomed a b checks → RecordsWritten checks (threads (lines text)) (cells (lines text)) set map →
     outputBy r (setPart checks set) out ≡ setOutput r text out
 unfolding setOutput
 set-output (Read n m) r text set map out a b e w = ap (λ (bytes : List ℕ). outputBy r bytes out) (w .0)
 set-output (Refused number place) r text set map out a b e w =
-    ap (λ (s : Answer). outputBy s [] out) e ∙ sym (ap (λ (s : Answer). outputBy s (setBytes (threads (lines text))) out) e)
+    ap (λ (s : ReadAnswer). outputBy s [] out) e ∙ sym (ap (λ (s : ReadAnswer). outputBy s (setBytes (threads (lines text))) out) e)
 
-pub map-output : (checks r : Answer) (text set map out : List ℕ) (a b : ℕ) → r ≡ roomed a b checks → Written checks (threads (lines text)) (cells (lines text)) set map →
+pub map-output : (checks r : ReadAnswer) (text set map out : List ℕ) (a b : ℕ) → r ≡ roomed a b checks → RecordsWritten checks (threads (lines text)) (cells (lines text)) set map →
     outputBy r (mapPart checks map) out ≡ mapOutput r text out
 unfolding mapOutput
 map-output (Read n m) r text set map out a b e w = ap (λ (bytes : List ℕ). outputBy r bytes out) (w .1)
 map-output (Refused number place) r text set map out a b e w =
-    ap (λ (s : Answer). outputBy s [] out) e ∙ sym (ap (λ (s : Answer). outputBy s (mapBytes (cells (lines text))) out) e)
+    ap (λ (s : ReadAnswer). outputBy s [] out) e ∙ sym (ap (λ (s : ReadAnswer). outputBy s (mapBytes (cells (lines text))) out) e)

@@ -8,33 +8,33 @@ use Rattle.base.specs.Below.{every, some, number}
 use Rattle.base.specs.Bytes.{same, over}
 use Rattle.records.specs.Instructions.{isJump}
 use Rattle.records.specs.Sets.{opensAt, records}
-use Rattle.lines.specs.Lines.{lines, isDot, statementLine, mapLine}
-use Rattle.lines.specs.declared.Form.{Form}
-use Rattle.lines.specs.declared.Form.the-variants.{Empty, Malformed, Large, Good}
-use Rattle.lines.specs.declared.Stated.{Stated}
-use Rattle.lines.specs.declared.Cell.{Cell}
+use Rattle.text_lines.specs.Lines.{lines, isDot, statementLine, mapLine}
+use Rattle.text_lines.specs.declared.Form.{Form}
+use Rattle.text_lines.specs.declared.Form.the-variants.{Empty, Malformed, Large, Good}
+use Rattle.text_lines.specs.declared.Stated.{Stated}
+use Rattle.text_lines.specs.declared.Cell.{Cell}
 use Rattle.text.specs.Sections.{Threads, dots, threads, cells}
-use Rattle.text.specs.Records.{isNamed, argumentOf, setBytes, statements, cellAt, mapBytes}
-use Rattle.text.specs.declared.Answer.{Answer}
-use Rattle.text.specs.declared.Answer.the-variants.{Read, Refused}
+use Rattle.text.specs.Records.{isNamed, argumentOf, setBytes, statements, mapCell, mapBytes}
+use Rattle.text.specs.declared.ReadAnswer.{ReadAnswer}
+use Rattle.text.specs.declared.ReadAnswer.the-variants.{Read, Refused}
 
 -- ---- lines in order, 2 before 3 in a line
 
 -- 2: line malformed or forbidden byte; 3: number above 65,535; 0: not refused
-abbrev pub refusalOf : Form → ℕ
-refusalOf Malformed = 2
-refusalOf Large = 3
-refusalOf Empty = 0
-refusalOf Good = 0
+abbrev pub lineRefusal : Form → ℕ
+lineRefusal Malformed = 2
+lineRefusal Large = 3
+lineRefusal Empty = 0
+lineRefusal Good = 0
 
 -- what refuses a line; it is one of the map where no dot follows
 unfoldable pub refusalIn : List ℕ → List (List ℕ) → ℕ
 refusalIn l following =
     cond (isDot l) 0
-    (refusalOf (cond (eqb (dots following) 0) (mapLine l .form) (statementLine l .form)))
+    (lineRefusal (cond (eqb (dots following) 0) (mapLine l .form) (statementLine l .form)))
 
 -- the first line that is refused, its number counted from `line`; else what comes next
-unfoldable pub inLines : ℕ → List (List ℕ) → Answer → Answer
+unfoldable pub inLines : ℕ → List (List ℕ) → ReadAnswer → ReadAnswer
 inLines line [] next = next
 inLines line (l ∷ ls) next =
     let rest = inLines (suc line) ls next in
@@ -71,7 +71,7 @@ checkpointsFit set = leb (number (records set) (opensAt set)) 8
 
 -- a map address doubled
 unfoldable pub addressDoubled : List Cell → Bool
-addressDoubled cs = some (length cs) (λ i. some i (λ j. eqb (cellAt cs j .address) (cellAt cs i .address)))
+addressDoubled cs = some (length cs) (λ i. some i (λ j. eqb (mapCell cs j .address) (mapCell cs i .address)))
 
 -- 8: map address doubled, or above 128 cells in a text
 unfoldable pub mapFits : List Cell → Bool
@@ -81,11 +81,11 @@ mapFits cs = leb (length cs) 128 && not (addressDoubled cs)
 abbrev pub roomFits : Threads → List Cell → ℕ → ℕ → Bool
 roomFits T cs setRoom mapRoom = leb (8 * statements T) setRoom && leb (4 * length cs) mapRoom
 
-abbrev pub refused : ℕ → Answer
+abbrev pub refused : ℕ → ReadAnswer
 refused number = Refused number 0
 
 -- 4 to 8, then 11
-unfoldable pub whole : Threads → List Cell → ℕ → ℕ → Answer
+unfoldable pub whole : Threads → List Cell → ℕ → ℕ → ReadAnswer
 whole T cs setRoom mapRoom =
     cond (not (threadsFit T)) (refused 4)
     (cond (not (statementsFit T)) (refused 5)
@@ -96,19 +96,19 @@ whole T cs setRoom mapRoom =
     (Read (statements T) (length cs)))))))
 
 -- 1: text above 16,384 bytes; then the lines, then the whole text
-unfoldable pub answer : List ℕ → ℕ → ℕ → Answer
+unfoldable pub answer : List ℕ → ℕ → ℕ → ReadAnswer
 answer text setRoom mapRoom =
     cond (ltb 16384 (length text)) (refused 1)
     (inLines 1 (lines text) (whole (threads (lines text)) (cells (lines text)) setRoom mapRoom))
 
 -- ---- the lent outputs: all bytes stay where the text is refused, and those beyond the records
 
-abbrev pub outputBy : Answer → List ℕ → List ℕ → List ℕ
+abbrev pub outputBy : ReadAnswer → List ℕ → List ℕ → List ℕ
 outputBy (Read statements cells) bytes out = over bytes out
 outputBy (Refused number place) bytes out = out
 
-unfoldable pub setOutput : Answer → List ℕ → List ℕ → List ℕ
+unfoldable pub setOutput : ReadAnswer → List ℕ → List ℕ → List ℕ
 setOutput r text out = outputBy r (setBytes (threads (lines text))) out
 
-unfoldable pub mapOutput : Answer → List ℕ → List ℕ → List ℕ
+unfoldable pub mapOutput : ReadAnswer → List ℕ → List ℕ → List ℕ
 mapOutput r text out = outputBy r (mapBytes (cells (lines text))) out

@@ -4,10 +4,10 @@ use mathlib.Core.Bool.{Bool, cond, _&&_}
 use mathlib.Core.List.{List, [], _∷_, _++_}
 use lib.Dec.{ltb, leb}
 use lib.ListN.{getD, take, drop}
-use Rattle.lines.specs.declared.Form.the-variants.{Good}
-use Rattle.lines.specs.declared.Stated.{Stated}
-use Rattle.lines.specs.declared.Cell.{Cell}
-use Rattle.drafts.specs.Blocks.{blockAt}
+use Rattle.text_lines.specs.declared.Form.the-variants.{Good}
+use Rattle.text_lines.specs.declared.Stated.{Stated}
+use Rattle.text_lines.specs.declared.Cell.{Cell}
+use Rattle.text_drafts.specs.Blocks.{blockAt}
 use Rattle.text.specs.Sections.{Threads, halt, inserted}
 
 -- the statements of thread t, which has n; its blocks start at 32 * t

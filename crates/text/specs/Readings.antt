@@ -6,18 +6,18 @@ use mathlib.Core.List.{List, []}
 use lib.Dec.{eqb, ltb, leb}
 use lib.ListN.{length, getD, take}
 use Rattle.records.specs.Instructions.{isLast}
-use Rattle.lines.specs.Lines.{lines, isDot, statementLine, mapLine}
-use Rattle.lines.specs.declared.Stated.{Stated}
-use Rattle.lines.specs.declared.Cell.{Cell}
+use Rattle.text_lines.specs.Lines.{lines, isDot, statementLine, mapLine}
+use Rattle.text_lines.specs.declared.Stated.{Stated}
+use Rattle.text_lines.specs.declared.Cell.{Cell}
 use Rattle.text.specs.Sections.{Threads, isGood, added, closed, lineAdded, threads, inserted, cellAdded, cells}
-use Rattle.text.specs.Answers.{refusalOf, inLines, threadsFit, statementsFit, labelsFit, checkpointsFit, mapFits}
+use Rattle.text.specs.Answers.{lineRefusal, inLines, threadsFit, statementsFit, labelsFit, checkpointsFit, mapFits}
 use Rattle.text.specs.Answers.{refused as refusedBy}
 use Rattle.text.specs.Records.{setBytes, statements, mapBytes}
 use Rattle.records.specs.Maps.{mapAccepted}
-use Rattle.drafts.specs.Blocks.{blockAt}
+use Rattle.text_drafts.specs.Blocks.{blockAt}
 use Rattle.text.specs.Drafts.{threadsIn, cellsOf}
-use Rattle.text.specs.declared.Answer.{Answer}
-use Rattle.text.specs.declared.Answer.the-variants.{Read, Refused}
+use Rattle.text.specs.declared.ReadAnswer.{ReadAnswer}
+use Rattle.text.specs.declared.ReadAnswer.the-variants.{Read, Refused}
 use Rattle.text.specs.declared.Reading.{Reading}
 
 -- the threads, and the cells, that are kept
@@ -60,7 +60,7 @@ pub record Closes (r : Reading) (draft : List ℕ) (r′ : Reading) (draft′ : 
 
 -- a thread's line that holds x
 pub record States (x : Stated) (r : Reading) (draft : List ℕ) (r′ : Reading) (draft′ : List ℕ) : Type 0 where
-  pub refusal : r′ .refusal ≡ refusalOf (x .form)
+  pub refusal : r′ .refusal ≡ lineRefusal (x .form)
   pub fits : r′ .fits ≡ cond (isGood (x .form)) (r .fits && ltb (r .ended) 4 && ltb (openCount r) 32) (r .fits)
   pub ended : r′ .ended ≡ r .ended
   pub cells : r′ .cells ≡ r .cells
@@ -70,7 +70,7 @@ pub record States (x : Stated) (r : Reading) (draft : List ℕ) (r′ : Reading)
 
 -- a line of the map that holds c; up to 128 cells are kept, and 129 stands for more
 pub record Maps (c : Cell) (r : Reading) (keys : List ℕ) (r′ : Reading) (keys′ : List ℕ) : Type 0 where
-  pub refusal : r′ .refusal ≡ refusalOf (c .form)
+  pub refusal : r′ .refusal ≡ lineRefusal (c .form)
   pub fits : r′ .fits ≡ r .fits
   pub ended : r′ .ended ≡ r .ended
   pub counts : r′ .counts ≡ r .counts
@@ -92,7 +92,7 @@ misfits ended n = ltb 32 n || ended && eqb n 0
 
 -- a line taken: its refusal, and what is kept after it; threads that cease to fit have a section with too many statements or too few
 pub record Takes (l : List ℕ) (left : ℕ) (r : Reading) (draft keys : List ℕ) (r′ : Reading) (draft′ keys′ : List ℕ) : Type 0 where
-  pub refusal : r′ .refusal ≡ cond (isDot l) 0 (refusalOf (cond (eqb left 0) (mapLine l .form) (statementLine l .form)))
+  pub refusal : r′ .refusal ≡ cond (isDot l) 0 (lineRefusal (cond (eqb left 0) (mapLine l .form) (statementLine l .form)))
   pub line : r′ .line ≡ r .line + 1
   pub ended : r′ .ended ≡ r .ended + cond (isDot l) 1 0
   pub sound : Sound r draft → Sound r′ draft′
@@ -106,8 +106,8 @@ pub record Takes (l : List ℕ) (left : ℕ) (r : Reading) (draft keys : List �
 
 -- the lines of a text taken: the first that is refused, or what is kept of all
 pub record ReadsLines (text : List ℕ) (r : Reading) (draft keys : List ℕ) : Type 0 where
-  pub refused : (r .refusal ≡ 0 → ⊥) → (next : Answer) → inLines 1 (lines text) next ≡ Refused (r .refusal) (r .line)
-  pub passed : r .refusal ≡ 0 → (next : Answer) → inLines 1 (lines text) next ≡ next
+  pub refused : (r .refusal ≡ 0 → ⊥) → (next : ReadAnswer) → inLines 1 (lines text) next ≡ Refused (r .refusal) (r .line)
+  pub passed : r .refusal ≡ 0 → (next : ReadAnswer) → inLines 1 (lines text) next ≡ next
   pub ended : r .refusal ≡ 0 → threads (lines text) .ended ≡ r .ended
   pub sound : Sound r draft
   pub kept : r .refusal ≡ 0 → r .fits ≡ true → threads (lines text) ≡ threadsKept r draft
@@ -134,7 +134,7 @@ abbrev pub threadsRefusal : Threads → ℕ
 threadsRefusal T = cond (threadsFit T) (cond (statementsFit T) (cond (labelsFit T) 0 6) 5) 4
 
 -- the checks of the whole text, 4 to 8
-unfoldable pub checked : Threads → List Cell → Answer
+unfoldable pub checked : Threads → List Cell → ReadAnswer
 checked T cs =
     cond (not (threadsFit T)) (refusedBy 4)
     (cond (not (statementsFit T)) (refusedBy 5)
@@ -144,29 +144,29 @@ checked T cs =
     (Read (statements T) (length cs))))))
 
 -- the records stand at the start of work memory, where the answer is not a refusal
-abbrev pub Written : Answer → Threads → List Cell → List ℕ → List ℕ → Type 0
-Written (Read n m) T cs set map = (take (8 * n) set ≡ setBytes T) × (take (4 * m) map ≡ mapBytes cs) × (n ≤ 128) × (m ≤ 128)
-Written (Refused number place) T cs set map = Unit {0}
+abbrev pub RecordsWritten : ReadAnswer → Threads → List Cell → List ℕ → List ℕ → Type 0
+RecordsWritten (Read n m) T cs set map = (take (8 * n) set ≡ setBytes T) × (take (4 * m) map ≡ mapBytes cs) × (n ≤ 128) × (m ≤ 128)
+RecordsWritten (Refused number place) T cs set map = Unit {0}
 
-pub record Judges (r : Reading) (draft keys : List ℕ) (a : Answer) (set map : List ℕ) : Type 0 where
+pub record Judges (r : Reading) (draft keys : List ℕ) (a : ReadAnswer) (set map : List ℕ) : Type 0 where
   pub answer : (T : Threads) (cs : List Cell) → ThreadsStand r draft T → CellsStand r keys cs → a ≡ checked T cs
-  pub written : (T : Threads) (cs : List Cell) → ThreadsStand r draft T → CellsStand r keys cs → Written a T cs set map
+  pub written : (T : Threads) (cs : List Cell) → ThreadsStand r draft T → CellsStand r keys cs → RecordsWritten a T cs set map
 
 -- 11 after the other checks
-abbrev pub roomed : ℕ → ℕ → Answer → Answer
+abbrev pub roomed : ℕ → ℕ → ReadAnswer → ReadAnswer
 roomed setRoom mapRoom (Read n m) = cond (leb (8 * n) setRoom && leb (4 * m) mapRoom) (Read n m) (refusedBy 11)
 roomed setRoom mapRoom (Refused number place) = Refused number place
 
 -- the records that an answer counts, at the start of work memory
-abbrev pub setPart : Answer → List ℕ → List ℕ
+abbrev pub setPart : ReadAnswer → List ℕ → List ℕ
 setPart (Read n m) bytes = take (8 * n) bytes
 setPart (Refused number place) bytes = []
 
-abbrev pub mapPart : Answer → List ℕ → List ℕ
+abbrev pub mapPart : ReadAnswer → List ℕ → List ℕ
 mapPart (Read n m) bytes = take (4 * m) bytes
 mapPart (Refused number place) bytes = []
 
 -- at most 128 statements and 128 cells
-abbrev pub Few : Answer → Type 0
+abbrev pub Few : ReadAnswer → Type 0
 Few (Read n m) = (n ≤ 128) × (m ≤ 128)
 Few (Refused number place) = Unit {0}

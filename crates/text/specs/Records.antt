@@ -5,10 +5,10 @@ use mathlib.Core.List.{List, [], _∷_, _++_}
 use lib.ListN.{length, getD}
 use Rattle.base.specs.Below.{least}
 use Rattle.base.specs.Bytes.{word, same}
-use Rattle.lines.specs.Lines.{unlabelled, noCell}
-use Rattle.lines.specs.declared.Form.the-variants.{Empty}
-use Rattle.lines.specs.declared.Stated.{Stated}
-use Rattle.lines.specs.declared.Cell.{Cell}
+use Rattle.text_lines.specs.Lines.{unlabelled, noCell}
+use Rattle.text_lines.specs.declared.Form.the-variants.{Empty}
+use Rattle.text_lines.specs.declared.Stated.{Stated}
+use Rattle.text_lines.specs.declared.Cell.{Cell}
 use Rattle.text.specs.Sections.{Threads}
 
 -- the bytes of n items, one after the other
@@ -50,12 +50,12 @@ statements T = statementsBefore T (T .ended)
 
 -- ---- the map
 
-abbrev pub cellAt : List Cell → ℕ → Cell
-cellAt cs i = getD cs i (noCell Empty)
+abbrev pub mapCell : List Cell → ℕ → Cell
+mapCell cs i = getD cs i (noCell Empty)
 
 -- Map cell, 4 bytes: address, value.
 unfoldable pub cellBytes : List Cell → ℕ → List ℕ
-cellBytes cs i = word (cellAt cs i .address) (word (cellAt cs i .value) [])
+cellBytes cs i = word (mapCell cs i .address) (word (mapCell cs i .value) [])
 
 unfoldable pub mapBytes : List Cell → List ℕ
 mapBytes cs = joined (length cs) (cellBytes cs)

@@ -8,14 +8,14 @@ ghost use mathlib.Core.Bool.{true, cond};
 ghost use mathlib.Core.List.{List};
 ghost use Prim.Native.Nat.{_*_, _≤_};
 ghost use lib.ListN.{length, take};
-ghost use Rattle.lines.specs.declared.Cell.{Cell};
+ghost use Rattle.text_lines.specs.declared.Cell.{Cell};
 ghost use Rattle.text.specs.Answers.{mapFits, outputBy, answer as answerOf, setOutput, mapOutput};
 ghost use Rattle.text.specs.Readings.{Sound, ThreadsStand, CellsStand, threadsRefusal, Judges, Few, roomed, setPart, mapPart};
 ghost use Rattle.text.specs.Records.{mapBytes};
 ghost use Rattle.text.specs.Sections.{Threads};
 
 // What reading answers.
-pub enum Answer {
+pub enum ReadAnswer {
     Read { statements: u16, cells: u16 },
     Refused { number: u8, place: u32 },
 }
@@ -41,10 +41,10 @@ impl Reading {
 }
 
 // A refusal that concerns no line.
-fn refused(number: u8) -> Answer
-    ensures { λ r. ⌜ r ≡ Answer.Refused number 0 ⌝ }
+fn refused(number: u8) -> ReadAnswer
+    ensures { λ r. ⌜ r ≡ ReadAnswer.Refused number 0 ⌝ }
 {
-    Answer::Refused { number, place: 0 }
+    ReadAnswer::Refused { number, place: 0 }
 }
 
 // Which of 4, 5 and 6 refuses the threads, 0 where none does.
@@ -83,7 +83,7 @@ fn map_refusal(keys: &[u32], r: Reading, map: &mut [u8]) -> u8
 }
 
 // The checks of the whole text but that of room, with the records written into work memory.
-fn judge(draft: &[u8], keys: &[u32], r: Reading, set: &mut [u8], map: &mut [u8]) -> Answer
+fn judge(draft: &[u8], keys: &[u32], r: Reading, set: &mut [u8], map: &mut [u8]) -> ReadAnswer
     requires { ⌜ Sound r (now draft) × (length (now keys) ≡ 128) × (length (now set) ≡ 1024) × (length (now map) ≡ 512) ⌝ }
     ensures { λ a. ⌜ Judges r (now (draft .entry)) (now (keys .entry)) a (now (set .exit)) (now (map .exit)) ⌝ }
 {
@@ -100,21 +100,27 @@ fn judge(draft: &[u8], keys: &[u32], r: Reading, set: &mut [u8], map: &mut [u8])
     if last != 0 {
         return refused(last);
     }
-    Answer::Read {
+    ReadAnswer::Read {
         statements,
         cells: r.cells,
     }
 }
 
 // Writes the records that an answer counts, if there is room for all of them.
-fn finish(answer: Answer, records: &[u8], cells: &[u8], set: &mut [u8], map: &mut [u8]) -> Answer
+fn finish(
+    answer: ReadAnswer,
+    records: &[u8],
+    cells: &[u8],
+    set: &mut [u8],
+    map: &mut [u8],
+) -> ReadAnswer
     requires { ⌜ Few answer × (length (now records) ≡ 1024) × (length (now cells) ≡ 512) ⌝ }
     ensures { λ r. ⌜ (r ≡ roomed (length (now (set .entry))) (length (now (map .entry))) answer)
         × (now (set .exit) ≡ outputBy r (setPart answer (now (records .entry))) (now (set .entry)))
         × (now (map .exit) ≡ outputBy r (mapPart answer (now (cells .entry))) (now (map .entry))) ⌝ }
 {
     match answer {
-        Answer::Read {
+        ReadAnswer::Read {
             statements,
             cells: count,
         } => {
@@ -124,19 +130,19 @@ fn finish(answer: Answer, records: &[u8], cells: &[u8], set: &mut [u8], map: &mu
             if room {
                 base::place(set, 0, &records[..size]);
                 base::place(map, 0, &cells[..length]);
-                return Answer::Read {
+                return ReadAnswer::Read {
                     statements,
                     cells: count,
                 };
             }
             refused(11)
         }
-        Answer::Refused { number, place } => Answer::Refused { number, place },
+        ReadAnswer::Refused { number, place } => ReadAnswer::Refused { number, place },
     }
 }
 
 // Reads a set text, and writes its statement records and its map records.
-pub fn read(text: &[u8], set: &mut [u8], map: &mut [u8]) -> Answer
+pub fn read(text: &[u8], set: &mut [u8], map: &mut [u8]) -> ReadAnswer
     ensures { λ r. ⌜ (r ≡ answerOf (now (text .entry)) (length (now (set .entry))) (length (now (map .entry))))
         × (now (set .exit) ≡ setOutput r (now (text .entry)) (now (set .entry)))
         × (now (map .exit) ≡ mapOutput r (now (text .entry)) (now (map .entry))) ⌝ }
@@ -145,7 +151,7 @@ pub fn read(text: &[u8], set: &mut [u8], map: &mut [u8]) -> Answer
     let mut keys = [0u32; 128];
     let r = sections::read(text, &mut draft, &mut keys);
     if r.refusal != 0 {
-        return Answer::Refused {
+        return ReadAnswer::Refused {
             number: r.refusal,
             place: r.line,
         };

@@ -2,16 +2,16 @@
 ghost use mathlib.Core.Path.{_≡_};
 ghost use Prim.Native.Nat.{_≤_, _<_};
 ghost use lib.ListN.{length, set};
-ghost use Rattle.lines.specs.Lines.{lines};
-ghost use Rattle.lines.specs.declared.Form.{Form};
+ghost use Rattle.text_lines.specs.Lines.{lines};
+ghost use Rattle.text_lines.specs.declared.Form.{Form};
 ghost use Rattle.text.specs.Readings.{Adds, Closes, States, Takes, ReadsLines};
 ghost use Rattle.text.specs.Sections.{halt as haltOf, dots};
 use crate::Reading;
 use crate::map;
-use lines::Form;
-use lines::Stated;
 use records::instructions::HALT;
 use records::instructions::is_last;
+use text_lines::Form;
+use text_lines::Stated;
 
 // The counts with n for thread t.
 fn with_count(counts: [u16; 4], t: u16, n: u16) -> [u16; 4]
@@ -30,10 +30,10 @@ fn add(r: Reading, draft: &mut [u8], x: Stated) -> Reading
 {
     let t = r.ended;
     let counts = r.counts;
-    let n = drafts::count(counts, t);
+    let n = text_drafts::count(counts, t);
     let room = r.fits & (t < Reading::THREADS) & (n < Reading::STATEMENTS);
     if room {
-        drafts::put(draft, 32 * (t as u32) + (n as u32), x);
+        text_drafts::put(draft, 32 * (t as u32) + (n as u32), x);
         return Reading {
             counts: with_count(counts, t, n + 1),
             ..r
@@ -63,10 +63,10 @@ fn close(r: Reading, draft: &mut [u8]) -> Reading
 {
     let t = r.ended;
     let counts = r.counts;
-    let n = drafts::count(counts, t);
+    let n = text_drafts::count(counts, t);
     let some = r.fits & (t < Reading::THREADS) & (0 < n);
     if some {
-        if is_last(drafts::number(draft, 32 * (t as u32) + ((n - 1) as u32))) {
+        if is_last(text_drafts::number(draft, 32 * (t as u32) + ((n - 1) as u32))) {
             return Reading { ended: t + 1, ..r };
         }
         let s = add(r, draft, halt());
@@ -101,7 +101,7 @@ fn take_line(l: &[u8], left: u16, r: Reading, draft: &mut [u8], keys: &mut [u32]
     ensures { λ r′. ⌜ Takes (now (l .entry)) left r (now (draft .entry)) (now (keys .entry)) r′ (now (draft .exit)) (now (keys .exit)) ⌝ }
 {
     let line = r.line + 1;
-    if lines::is_dot(l) {
+    if text_lines::is_dot(l) {
         let s = close(r, draft);
         return Reading {
             refusal: 0,
@@ -110,10 +110,10 @@ fn take_line(l: &[u8], left: u16, r: Reading, draft: &mut [u8], keys: &mut [u32]
         };
     }
     if left == 0 {
-        let s = map::take(r, keys, lines::cells::map_line(l));
+        let s = map::take(r, keys, text_lines::cells::map_line(l));
         return Reading { line, ..s };
     }
-    let s = take(r, draft, lines::statements::statement_line(l));
+    let s = take(r, draft, text_lines::statements::statement_line(l));
     Reading { line, ..s }
 }
 
@@ -125,9 +125,9 @@ fn count_dots(text: &[u8]) -> u16
     let mut found: u16 = 0;
     let mut i: usize = 0;
     while i <= text.len() {
-        let l = reader::line_from(text, i);
+        let l = text_reader::line_from(text, i);
         let end = l.end;
-        found += lines::is_dot(&text[i..end]) as u16;
+        found += text_lines::is_dot(&text[i..end]) as u16;
         i = l.next;
     }
     found
@@ -149,7 +149,7 @@ fn read_lines(text: &[u8], draft: &mut [u8], keys: &mut [u32]) -> Reading
     };
     let mut i: usize = 0;
     while i <= text.len() {
-        let l = reader::line_from(text, i);
+        let l = text_reader::line_from(text, i);
         let end = l.end;
         let left = total - r.ended;
         r = take_line(&text[i..end], left, r, draft, keys);

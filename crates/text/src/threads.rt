@@ -6,18 +6,18 @@ ghost use lib.ListN.{length, drop, take, getD};
 ghost use Rattle.base.specs.Below.{least};
 ghost use Rattle.base.specs.Bytes.{same};
 ghost use Rattle.text.specs.Answers.{doubledAt, targetFits, threadFits, labelsFit, checkpointsFit};
-ghost use Rattle.drafts.specs.Blocks.{blockAt};
+ghost use Rattle.text_drafts.specs.Blocks.{blockAt};
 ghost use Rattle.text.specs.Drafts.{drafted, threadsIn, fourFit};
 ghost use Rattle.text.specs.Records.{joined, isNamed, argumentOf, statementBytes, setBytes, statements};
-use lines::Stated;
 use records::instructions::is_jump;
+use text_lines::Stated;
 
 // Whether a label is there.
 fn is_named(label: &[u8]) -> bool
     ensures { λ r. ⌜ r ≡ isNamed (now (label .entry)) ⌝ }
 {
     let none = [0u8; Stated::LABEL];
-    !drafts::same_label(label, &none)
+    !text_drafts::same_label(label, &none)
 }
 
 // The first of thread t's first n statements that has a label, n where none has.
@@ -26,8 +26,8 @@ fn find(draft: &[u8], t: u16, n: u16, label: &[u8]) -> u16
 {
     let mut p: u16 = 0;
     while p < n {
-        let other = drafts::label(draft, drafts::block(t, p));
-        if drafts::same_label(other, label) {
+        let other = text_drafts::label(draft, text_drafts::block(t, p));
+        if text_drafts::same_label(other, label) {
             return p;
         }
         p += 1;
@@ -40,12 +40,12 @@ fn argument(draft: &[u8], t: u16, n: u16, p: u16) -> u16
     requires { ⌜ p < n ⌝ }
     ensures { λ r. ⌜ r ≡ argumentOf n (drafted (now (draft .entry)) t n) p ⌝ }
 {
-    let k = drafts::block(t, p);
-    let target = drafts::target(draft, k);
+    let k = text_drafts::block(t, p);
+    let target = text_drafts::target(draft, k);
     if is_named(target) {
         return find(draft, t, n, target);
     }
-    drafts::argument(draft, k)
+    text_drafts::argument(draft, k)
 }
 
 // Whether the label of thread t's statement p is doubled: one before p has it.
@@ -53,7 +53,7 @@ fn is_doubled(draft: &[u8], t: u16, n: u16, p: u16) -> bool
     requires { ⌜ p < n ⌝ }
     ensures { λ r. ⌜ r ≡ doubledAt (drafted (now (draft .entry)) t n) p ⌝ }
 {
-    let label = drafts::label(draft, drafts::block(t, p));
+    let label = text_drafts::label(draft, text_drafts::block(t, p));
     if is_named(label) {
         return find(draft, t, p, label) < p;
     }
@@ -65,7 +65,7 @@ fn target_fits(draft: &[u8], t: u16, n: u16, p: u16) -> bool
     requires { ⌜ p < n ⌝ }
     ensures { λ r. ⌜ r ≡ targetFits n (drafted (now (draft .entry)) t n) p ⌝ }
 {
-    let number = drafts::number(draft, drafts::block(t, p));
+    let number = text_drafts::number(draft, text_drafts::block(t, p));
     if is_jump(number) {
         return argument(draft, t, n, p) < n;
     }
@@ -95,7 +95,7 @@ pub fn labels_fit(draft: &[u8], ended: u16, counts: [u16; 4]) -> bool
 {
     let mut t: u16 = 0;
     while t < ended {
-        if !fits(draft, t, drafts::count(counts, t)) {
+        if !fits(draft, t, text_drafts::count(counts, t)) {
             return false;
         }
         t += 1;
@@ -108,12 +108,12 @@ fn bytes_of(draft: &[u8], t: u16, n: u16, p: u16) -> [u8; 8]
     requires { ⌜ (p < n) × (t < 256) ⌝ }
     ensures { λ r. ⌜ r ≡ statementBytes t n (drafted (now (draft .entry)) t n) p ⌝ }
 {
-    let k = drafts::block(t, p);
+    let k = text_drafts::block(t, p);
     let argument = argument(draft, t, n, p);
     [
         t as u8,
-        drafts::number(draft, k),
-        drafts::mode(draft, k),
+        text_drafts::number(draft, k),
+        text_drafts::mode(draft, k),
         0,
         (argument % 256) as u8,
         (argument / 256) as u8,
@@ -145,7 +145,7 @@ fn write_threads(draft: &[u8], ended: u16, counts: [u16; 4], set: &mut [u8]) -> 
     let mut k: u16 = 0;
     let mut t: u16 = 0;
     while t < ended {
-        let n = drafts::count(counts, t);
+        let n = text_drafts::count(counts, t);
         write(draft, t, n, set, k);
         k += n;
         t += 1;

@@ -6,7 +6,7 @@ use Rattle.decoder.proofs.Judged.{model-bits, encodes, found}
 use Rattle.decoder.proofs.Sized.{sized}
 use Rattle.evaluation.specs.Evaluations.{givenBy, falseIn}
 use Rattle.decoding.specs.Models.{bits}
-use Rattle.encoder.specs.declared.Answer.{Answer as Size}
+use Rattle.encoder.specs.declared.TableAnswer.{TableAnswer as Size}
 use Rattle.encoder.specs.Answers.{tableOutput}
 use Rattle.base.proofs.Factors.{product-below}
 use lib.Seq.{take-all}

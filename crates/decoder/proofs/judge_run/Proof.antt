@@ -1,7 +1,7 @@
 -- `decoder::judge_run` meets its contract. Assumes nothing.
 use Rattle.decoder.proofs.Sized.{sized}
 use Rattle.decoder.proofs.Judged.{run-unfit, run-short, run-refused, run-accepted, work-room, trace-room, map-room}
-use Rattle.decoder.specs.declared.Decoding.{Decoding}
+use Rattle.decoder.specs.declared.DecodeAnswer.{DecodeAnswer}
 use Rattle.decoder.specs.Answers.{workLeft, traceLeft, mapLeft}
 use Rattle.records.proofs.Layouts.{set-read}
 use Rattle.records.specs.Sets.{Set, setOf}
@@ -73,9 +73,9 @@ returns-4 : tie.Need-returns-4
 returns-4 c = let x = c .before .before .before .before in let m = x .before .before .before in let r = m .before .before .before in let f = r .before .before .before in let s = f .before .before .before .before .before .before .before .before in let a = s .args in
     let e = x .show .ensures .0 in (
       e ∙ run-accepted (now (a .set)) (now (a .map)) (a .bound) (a .n) (s .pre .0) (now (a .model)) (a .layout .threads) (threads-of s) (length (now (a .work))) (length (now (a .trace))) (length (now (a .found))) (sym (f .before .model-fits .ensures) ∙ not-false _ (f .if1 .left)) (r .before .before .if2 .left) (r .false-record .result) (r .false-record .ensures .0) (m .if3 .left),
-      r .false-record .ensures .1 ∙ sym (ap (λ (d : Decoding). workLeft d (now (a .work))) e),
-      x .show .ensures .1 ∙ sym (ap (λ (d : Decoding). traceLeft d (now (a .set)) (a .bound) (now (a .model)) (now (a .trace))) e),
-      x .show .ensures .2 ∙ sym (ap (λ (d : Decoding). mapLeft d (now (a .set)) (now (a .map)) (a .bound) (now (a .model)) (now (a .found))) e),
+      r .false-record .ensures .1 ∙ sym (ap (λ (d : DecodeAnswer). workLeft d (now (a .work))) e),
+      x .show .ensures .1 ∙ sym (ap (λ (d : DecodeAnswer). traceLeft d (now (a .set)) (a .bound) (now (a .model)) (now (a .trace))) e),
+      x .show .ensures .2 ∙ sym (ap (λ (d : DecodeAnswer). mapLeft d (now (a .set)) (now (a .map)) (a .bound) (now (a .model)) (now (a .found))) e),
     )
 
 pub judge-run-spec : {M : Type 1} → statement M

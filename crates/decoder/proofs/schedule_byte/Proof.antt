@@ -1,6 +1,6 @@
 -- `decoder::schedule_byte` meets its contract. Assumes nothing.
-use Rattle.step.specs.declared.Choice.the-variants.{Flush}
-use Rattle.step.specs.Runs.{choiceOf}
+use Rattle.machine.specs.declared.Choice.the-variants.{Flush}
+use Rattle.machine.specs.Runs.{choiceOf}
 use Rattle.base.proofs.Choice.{chosen, passed}
 use borrow.Author.Tests.{lt-ltb, le-ltb}
 use native.Mathlib.Omega.{arith}

@@ -1,11 +1,11 @@
 -- `decoder::show` meets its contract. Assumes nothing.
 use Rattle.encoding.proofs.Bytes.{Bytes}
-use Rattle.step.specs.Runs.{choices}
+use Rattle.machine.specs.Runs.{choices}
 use Rattle.decoder.proofs.Sized.{Sized, sized}
 use Rattle.decoder.proofs.Shown.{asked, schedule-long, shown-answer, shown-trace, shown-map}
 use Rattle.decoder.proofs.Judged.{model-bits}
 use Rattle.decoder.specs.Answers.{falseRecord}
-use Rattle.firsts.specs.Firsts.{foundBy, writtenBy, firstCell}
+use Rattle.first_cells.specs.Firsts.{foundBy, writtenBy, firstCell}
 use Rattle.decoder.proofs.Given.{Asked, Given, given as given-cells}
 use Rattle.decoding.specs.Models.{bits, listedCells, modelFits, assigned}
 use Rattle.decoding.specs.Decodings.{runOf}

@@ -1,7 +1,7 @@
 -- `deepchalk::deepchalk_check` meets its contract. Assumes nothing.
 use mathlib.Core.Path.{ap, _∙_}
 use denote.Ref.{now}
-use Rattle.decoder.specs.declared.Answer.{Answer}
+use Rattle.decoder.specs.declared.CheckAnswer.{CheckAnswer}
 use Rattle.decoder.specs.Answers.{workAfter}
 use Rattle.deepchalk.specs.Packed.{packedCheck}
 use borrow.Author.Needs.{needs}
@@ -25,7 +25,7 @@ returns : tie.Need-returns
 returns c =
     let s = c .before .before .before .check .ensures in
     let a = c .before .before .before .before .before .before .before .before .before .args in
-    (c .pack-check .ensures ∙ ap packedCheck (s .0), s .1 ∙ ap (λ (r : Answer). workAfter r (now (a .work))) (s .0))
+    (c .pack-check .ensures ∙ ap packedCheck (s .0), s .1 ∙ ap (λ (r : CheckAnswer). workAfter r (now (a .work))) (s .0))
 
 pub deepchalk-check-spec : {M : Type 1} → statement M
 deepchalk-check-spec = tie.close (tie.spec check-requires pack-check-requires same-length returns)

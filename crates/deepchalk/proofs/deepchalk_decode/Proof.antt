@@ -1,7 +1,7 @@
 -- `deepchalk::deepchalk_decode` meets its contract. Assumes nothing.
 use mathlib.Core.Path.{ap, _∙_}
 use denote.Ref.{now}
-use Rattle.decoder.specs.declared.Decoding.{Decoding}
+use Rattle.decoder.specs.declared.DecodeAnswer.{DecodeAnswer}
 use Rattle.decoder.specs.Answers.{workLeft, traceLeft, mapLeft}
 use Rattle.deepchalk.specs.Packed.{packedDecoding}
 use borrow.Author.Needs.{needs}
@@ -32,9 +32,9 @@ returns c =
     let s = c .before .before .before .before .before .before .before .decode .ensures in
     let a = c .before .before .before .before .before .before .before .before .before .before .before .before .before .before .before .before .before .args in (
       c .pack-decoding .ensures ∙ ap packedDecoding (s .0),
-      s .1 ∙ ap (λ (r : Decoding). workLeft r (now (a .work))) (s .0),
-      s .2 ∙ ap (λ (r : Decoding). traceLeft r (now (a .set)) (a .bound) (now (a .model)) (now (a .trace))) (s .0),
-      s .3 ∙ ap (λ (r : Decoding). mapLeft r (now (a .set)) (now (a .map)) (a .bound) (now (a .model)) (now (a .found))) (s .0),
+      s .1 ∙ ap (λ (r : DecodeAnswer). workLeft r (now (a .work))) (s .0),
+      s .2 ∙ ap (λ (r : DecodeAnswer). traceLeft r (now (a .set)) (a .bound) (now (a .model)) (now (a .trace))) (s .0),
+      s .3 ∙ ap (λ (r : DecodeAnswer). mapLeft r (now (a .set)) (now (a .map)) (a .bound) (now (a .model)) (now (a .found))) (s .0),
     )
 
 pub deepchalk-decode-spec : {M : Type 1} → statement M

@@ -1,7 +1,7 @@
 -- `deepchalk::deepchalk_read` meets its contract. Assumes nothing.
 use Rattle.deepchalk.specs.Packed.{packedRead}
 use Rattle.text.specs.Answers.{setOutput, mapOutput}
-use Rattle.text.specs.declared.Answer.{Answer}
+use Rattle.text.specs.declared.ReadAnswer.{ReadAnswer}
 use mathlib.Core.Path.{ap, _∙_}
 use denote.Ref.{now}
 use borrow.Author.Needs.{needs}
@@ -27,7 +27,7 @@ same-length-2 c = search needs
 returns : tie.Need-returns
 returns c = let s = c .before .before .before .before .before .read .ensures in
     let a = c .before .before .before .before .before .before .before .before .before .before .before .args in
-    (c .pack-read .ensures ∙ ap packedRead (s .0), s .1 ∙ ap (λ (r : Answer). setOutput r (now (a .text)) (now (a .set))) (s .0), s .2 ∙ ap (λ (r : Answer). mapOutput r (now (a .text)) (now (a .map))) (s .0))
+    (c .pack-read .ensures ∙ ap packedRead (s .0), s .1 ∙ ap (λ (r : ReadAnswer). setOutput r (now (a .text)) (now (a .set))) (s .0), s .2 ∙ ap (λ (r : ReadAnswer). mapOutput r (now (a .text)) (now (a .map))) (s .0))
 
 pub deepchalk-read-spec : {M : Type 1} → statement M
 deepchalk-read-spec =

@@ -1,7 +1,7 @@
 -- `deepchalk::deepchalk_simulate` meets its contract. Assumes nothing.
 use denote.Ref.{now}
 use mathlib.Core.Path.{ap, _∙_}
-use Rattle.step.specs.declared.Answer.{Answer}
+use Rattle.machine.specs.declared.RunAnswer.{RunAnswer}
 use Rattle.simulation.specs.Simulation.{traceOutput}
 use Rattle.deepchalk.specs.Packed.{packed}
 use borrow.Author.Needs.{needs}
@@ -25,7 +25,7 @@ returns : tie.Need-returns
 returns c =
     let s = c .before .before .before .simulate .ensures in
     let a = c .before .before .before .before .before .before .before .before .before .args in
-    (c .pack .ensures ∙ ap packed (s .0), s .1 ∙ ap (λ (r : Answer). traceOutput r (now (a .set)) (now (a .map)) (now (a .schedule)) (now (a .trace))) (s .0))
+    (c .pack .ensures ∙ ap packed (s .0), s .1 ∙ ap (λ (r : RunAnswer). traceOutput r (now (a .set)) (now (a .map)) (now (a .schedule)) (now (a .trace))) (s .0))
 
 pub deepchalk-simulate-spec : {M : Type 1} → statement M
 deepchalk-simulate-spec = tie.close (tie.spec simulate-requires pack-requires same-length returns)

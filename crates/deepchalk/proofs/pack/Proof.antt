@@ -2,7 +2,7 @@
 use Prim.Native.Nat.{ℕ, _+_, _*_}
 use native.Mathlib.Nat.{zero-add}
 use mathlib.Core.Path.{ap, _∙_, sym}
-use Rattle.step.specs.declared.End.{End}
+use Rattle.machine.specs.declared.End.{End}
 use Rattle.deepchalk.specs.Packed.{endNumber, endCode, packed}
 use borrow.Author.Needs.{needs}
 use Rattle.deepchalk.proofs.pack.Statement.{statement}

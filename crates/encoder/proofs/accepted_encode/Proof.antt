@@ -12,7 +12,7 @@ use Rattle.table.specs.Formulas.{writtenAt}
 use Rattle.table.proofs.Written.{written-table}
 use Rattle.encoding.specs.Encodings.{tableOf}
 use Rattle.encoder.specs.Answers.{encodeAnswer}
-use Rattle.encoder.specs.declared.Answer.the-variants.{Encoded}
+use Rattle.encoder.specs.declared.TableAnswer.the-variants.{Encoded}
 use Rattle.encoder.proofs.Accepted.{bound-zero, bound-large, bound-fits, limits-start, points-differ, table-is}
 use Rattle.encoder.proofs.accepted_encode.Statement.{statement}
 use Rattle.encoder.proofs.accepted_encode.Tie as tie
@@ -31,8 +31,8 @@ returns-2 c =
     let p = c .before .before .before .before .before .pre in
     (sym (bound-large (now (a .set)) (now (a .map)) (a .bound) _ (p .0) (p .1) (c .if2 .taken)), refl)
 
-points-requires : tie.Need-points-requires
-points-requires c κs = search needs
+of-set-requires : tie.Need-of-set-requires
+of-set-requires c κs = search needs
 
 cast-steps : tie.Need-cast-steps
 cast-steps c = search needs
@@ -44,7 +44,7 @@ mul-if3 : tie.Need-mul-if3
 mul-if3 c =
     let a = c .before .before .before .before .before .before .before .args in
     let p = c .before .before .before .before .before .before .before .pre in
-    let points = c .before .points in
+    let points = c .before .of-set in
     let l = limits-start (now (a .set)) (a .layout) (points .result) (p .0) (p .2) (points .ensures) in
     let few = c .table-records .ensures .1 (l .fourThreads) (l .fewStatements) (few-cells 128 (now (a .map)) (p .1)) (omega arith) in
     omega arith
@@ -54,7 +54,7 @@ unfolding encodeAnswer
 returns-3 c =
     let a = c .before .before .before .before .before .before .before .before .args in
     let p = c .before .before .before .before .before .before .before .before .pre in
-    let points = c .before .before .points in
+    let points = c .before .before .of-set in
     let t = c .before .table-records .ensures .0 ∙ ap length (table-is (now (a .set)) (a .layout) (points .result) (p .0) (p .2) (points .ensures) (now (a .map)) (a .bound)) in (
       sym (bound-fits (now (a .set)) (now (a .map)) (a .bound) _ (p .0) (p .1) (c .before .before .before .before .if1 .left) (c .before .before .before .if2 .left)
           ∙ chosen _ _ (lt-ltb (length (now (a .table))) (16 * length (tableOf (now (a .set)) (now (a .map)) (a .bound))) (omega arith))),
@@ -65,7 +65,7 @@ write-requires : tie.Need-write-requires
 write-requires c κs =
     let a = c .before .before .before .before .before .before .before .before .before .args in
     let p = c .before .before .before .before .before .before .before .before .before .pre in
-    let points = c .before .before .before .points in
+    let points = c .before .before .before .of-set in
     let t = c .before .before .table-records .ensures .0 in
     (limits-start (now (a .set)) (a .layout) (points .result) (p .0) (p .2) (points .ensures), few-cells 128 (now (a .map)) (p .1), omega arith, omega arith, points-differ (now (a .set)) (a .layout) (points .result) (p .0) (p .2) (points .ensures))
 
@@ -73,7 +73,7 @@ cast-t16 : tie.Need-cast-t16
 cast-t16 c =
     let a = c .before .before .before .before .before .before .before .before .before .before .before .before .args in
     let p = c .before .before .before .before .before .before .before .before .before .before .before .before .pre in
-    let points = c .before .before .before .before .before .before .points in
+    let points = c .before .before .before .before .before .before .of-set in
     let l = limits-start (now (a .set)) (a .layout) (points .result) (p .0) (p .2) (points .ensures) in
     let few = c .before .before .before .before .before .table-records .ensures .1 (l .fourThreads) (l .fewStatements) (few-cells 128 (now (a .map)) (p .1)) (omega arith) in
     omega arith
@@ -86,7 +86,7 @@ unfolding encodeAnswer
 returns-4 c =
     let a = c .before .before .before .before .before .before .before .before .before .before .before .before .args in
     let p = c .before .before .before .before .before .before .before .before .before .before .before .before .pre in
-    let points = c .before .before .before .before .before .before .points in
+    let points = c .before .before .before .before .before .before .of-set in
     let is = table-is (now (a .set)) (a .layout) (points .result) (p .0) (p .2) (points .ensures) (now (a .map)) (a .bound) in
     let t = c .before .before .before .before .before .table-records .ensures .0 ∙ ap length is in
     let room : 16 * length (tableOf (now (a .set)) (now (a .map)) (a .bound)) ≤ length (now (a .table)) = omega arith in (
@@ -102,7 +102,7 @@ accepted-encode-spec =
     (tie.spec
     returns
     returns-2
-    points-requires
+    of-set-requires
     cast-steps
     table-records-requires
     mul-if3

@@ -6,7 +6,7 @@ use native.Mathlib.Omega.{arith}
 use borrow.Author.Needs.{needs}
 use Rattle.records.proofs.Maps.{few-cells}
 use Rattle.encoder.specs.Answers.{sizeAnswer}
-use Rattle.encoder.specs.declared.Answer.the-variants.{Encoded}
+use Rattle.encoder.specs.declared.TableAnswer.the-variants.{Encoded}
 use Rattle.encoder.proofs.Accepted.{bound-zero, bound-large, bound-fits, limits-start, table-is}
 use Rattle.encoder.proofs.accepted_size.Statement.{statement}
 use Rattle.encoder.proofs.accepted_size.Tie as tie
@@ -25,8 +25,8 @@ returns-2 c =
     let p = c .before .before .before .before .pre in
     sym (bound-large (now (a .set)) (now (a .map)) (a .bound) _ (p .0) (p .1) (c .if2 .taken))
 
-points-requires : tie.Need-points-requires
-points-requires c κs = search needs
+of-set-requires : tie.Need-of-set-requires
+of-set-requires c κs = search needs
 
 cast-table-records : tie.Need-cast-table-records
 cast-table-records c = search needs
@@ -38,7 +38,7 @@ cast-t9 : tie.Need-cast-t9
 cast-t9 c =
     let a = c .before .before .before .before .before .before .args in
     let p = c .before .before .before .before .before .before .pre in
-    let points = c .before .points in
+    let points = c .before .of-set in
     let l = limits-start (now (a .set)) (a .layout) (points .result) (p .0) (p .2) (points .ensures) in
     let few = c .table-records .ensures .1 (l .fourThreads) (l .fewStatements) (few-cells 128 (now (a .map)) (p .1)) (omega arith) in
     omega arith
@@ -48,7 +48,7 @@ unfolding sizeAnswer
 returns-3 c =
     let a = c .before .before .before .before .before .before .args in
     let p = c .before .before .before .before .before .before .pre in
-    let points = c .before .points in
+    let points = c .before .of-set in
     ap Encoded (c .table-records .ensures .0 ∙ ap length (table-is (now (a .set)) (a .layout) (points .result) (p .0) (p .2) (points .ensures) (now (a .map)) (a .bound)))
     ∙ sym (bound-fits (now (a .set)) (now (a .map)) (a .bound) _ (p .0) (p .1) (c .before .before .before .if1 .left) (c .before .before .if2 .left))
 
@@ -58,7 +58,7 @@ accepted-size-spec =
     (tie.spec
     returns
     returns-2
-    points-requires
+    of-set-requires
     cast-table-records
     table-records-requires
     cast-t9

@@ -7,8 +7,9 @@ use Rattle.records.specs.Sets.{setBy}
 use Rattle.table.specs.Programs.{upto}
 use Rattle.encoding.specs.Slots.{code}
 use Rattle.encoding.specs.Steps.{only, word0, step}
-use Rattle.places.specs.Places.{placeOf, listed}
-use Rattle.places.proofs.Pieces.{program-below}
+use Rattle.encoder_slots.specs.Places.{placeOf}
+use Rattle.set_index.specs.Points.{listed}
+use Rattle.encoder_slots.proofs.Pieces.{program-below}
 use Rattle.encoder.proofs.Repeating.{two-steps-room}
 use Rattle.encoder.proofs.all_steps.Statement.{statement}
 use Rattle.encoder.proofs.all_steps.Tie as tie
@@ -46,7 +47,7 @@ later-steps-requires c κs =
       two-steps-room S cs start (a .first) (f .result .next) next (p .0 .below),
       few,
       (let e = w .codeIs in let l = below (only code) in omega arith),
-      (let e = w .noughtIs in let l = below word0 in omega arith),
+      (let e = w .wordZeroIs in let l = below word0 in omega arith),
     )
 
 same-length-3 : tie.Need-same-length-3

@@ -5,8 +5,8 @@ use Rattle.records.specs.Maps.{cells}
 use Rattle.records.specs.Sets.{setBy}
 use Rattle.table.specs.Programs.{upto}
 use Rattle.encoding.specs.Encodings.{starting, mapDemand}
-use Rattle.places.specs.Places.{listed}
-use Rattle.places.proofs.Pieces.{writes-++}
+use Rattle.set_index.specs.Points.{listed}
+use Rattle.encoder_slots.proofs.Pieces.{writes-++}
 use borrow.Author.Needs.{needs}
 use Rattle.encoder.proofs.before_steps.Statement.{statement}
 use Rattle.encoder.proofs.before_steps.Tie as tie

@@ -5,7 +5,7 @@ use Prim.Native.Nat.{_+_}
 use borrow.Author.Needs.{needs}
 use Rattle.table.specs.Programs.{constraint, leafFormula, binaryFormula, constantWord, equal2, read2}
 use Rattle.encoder.proofs.Parts.{demand-writes}
-use Rattle.bases.proofs.Records.{recordAt}
+use Rattle.encoder_bases.proofs.Records.{recordAt}
 use Rattle.encoder.proofs.demand.Statement.{statement}
 use Rattle.encoder.proofs.demand.Tie as tie
 

@@ -8,8 +8,8 @@ use Prim.Native.Nat.{ℕ, _+_, _-_, _*_, _≤_}
 use Rattle.encoding.specs.Encodings.{mapDemand}
 use Rattle.table.specs.Programs.{upto}
 use Rattle.records.specs.Maps.{cells}
-use Rattle.places.proofs.Pieces.{writes-row, writes-more}
-use Rattle.places.specs.Pieces.{Writes}
+use Rattle.encoder_slots.proofs.Pieces.{writes-row, writes-more}
+use Rattle.encoder_slots.specs.Pieces.{Writes}
 use Rattle.encoder.proofs.demands.Statement.{statement}
 use Rattle.encoder.proofs.demands.Tie as tie
 

@@ -32,7 +32,7 @@ returns c =
       record {
         stepped = record { written = w .written; next = w .next };
         codeIs = c .before .before .place .ensures ∙ ap (λ (f : Slot → ℕ). f (only code)) (w .places);
-        noughtIs = c .place2 .ensures ∙ ap (λ (f : Slot → ℕ). f word0) (w .places);
+        wordZeroIs = c .place2 .ensures ∙ ap (λ (f : Slot → ℕ). f word0) (w .places);
       },
       omega arith,
     )

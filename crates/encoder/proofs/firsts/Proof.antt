@@ -4,7 +4,7 @@ use mathlib.Core.Bool.{true, false}
 use mathlib.Core.Path.{ap, _∙_}
 use borrow.Author.Needs.{needs}
 use Rattle.table.specs.Programs.{leafFormula, constantBit, constantWord, firstMemory}
-use Rattle.bases.proofs.Records.{recordAt, written-4}
+use Rattle.encoder_bases.proofs.Records.{recordAt, written-4}
 use Rattle.encoder.proofs.firsts.Statement.{statement}
 use Rattle.encoder.proofs.firsts.Tie as tie
 

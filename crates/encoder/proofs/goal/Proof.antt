@@ -5,7 +5,7 @@ use Prim.Native.Nat.{_+_}
 use borrow.Author.Needs.{needs}
 use Rattle.table.specs.Programs.{goal, unaryFormula, binaryFormula, not1, equal2}
 use Rattle.encoder.proofs.Parts.{goal-written}
-use Rattle.bases.proofs.Records.{recordAt}
+use Rattle.encoder_bases.proofs.Records.{recordAt}
 use Rattle.encoder.proofs.goal.Statement.{statement}
 use Rattle.encoder.proofs.goal.Tie as tie
 

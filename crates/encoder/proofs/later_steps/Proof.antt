@@ -64,7 +64,7 @@ returns c =
           record {
             stepped = c .before .before .before .before .repeated-steps .ensures .0 S cs start begun s (steps-room S cs start (a .threads) (a .first) stride s (a .bound) (p .1) (length begun) room) (w .stepped);
             codeIs = c .before .further .ensures ∙ place (only code) refl (a .second .code) (w .codeIs);
-            noughtIs = c .further2 .ensures ∙ place word0 refl (a .second .nought) (w .noughtIs);
+            wordZeroIs = c .further2 .ensures ∙ place word0 refl (a .second .zero) (w .wordZeroIs);
           },
       let l = c .before .before .before .before .repeated-steps .ensures .1 in omega arith,
     )

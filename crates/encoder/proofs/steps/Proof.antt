@@ -5,14 +5,15 @@ use denote.Ref.{now}
 use native.Mathlib.Omega.{arith}
 use mathlib.Core.Path.{_≡_, refl, subst}
 use Prim.Native.Nat.{ℕ, _+_, _-_, _*_, _≤_}
-use Rattle.places.specs.Places.{placeOf, listed}
-use Rattle.places.specs.Idle.{Idle}
-use Rattle.places.proofs.Idle.{idle-step, idle-written}
+use Rattle.encoder_slots.specs.Places.{placeOf}
+use Rattle.set_index.specs.Points.{listed}
+use Rattle.encoder_slots.specs.Idle.{Idle}
+use Rattle.encoder_slots.proofs.Idle.{idle-step, idle-written}
 use Rattle.encoding.specs.Steps.{step}
 use Rattle.table.specs.Programs.{upto}
 use Rattle.records.specs.Sets.{setBy}
-use Rattle.places.proofs.Pieces.{writes-row, writes-more, limits-after}
-use Rattle.places.specs.Pieces.{Writes, Limits}
+use Rattle.encoder_slots.proofs.Pieces.{writes-row, writes-more, limits-after}
+use Rattle.encoder_slots.specs.Pieces.{Writes, Limits}
 use Rattle.encoder.proofs.steps.Statement.{statement}
 use Rattle.encoder.proofs.steps.Tie as tie
 

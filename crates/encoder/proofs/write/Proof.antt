@@ -7,12 +7,12 @@ use borrow.Author.Needs.{needs}
 use Rattle.records.specs.Maps.{cells}
 use Rattle.records.specs.Sets.{setBy}
 use Rattle.table.specs.Programs.{upto}
-use Rattle.encoding.specs.Slots.{unit, argument}
+use Rattle.encoding.specs.Slots.{wordOne, argument}
 use Rattle.encoding.specs.Steps.{block}
 use Rattle.encoding.specs.Encodings.{mapDemand, starting}
-use Rattle.places.proofs.Idle.{idle-none, idle-needs, idle-++, idle-upto, idle-block, idle-written, idle-start}
-use Rattle.places.specs.Places.{listed}
-use Rattle.places.proofs.Pieces.{limits-after}
+use Rattle.encoder_slots.proofs.Idle.{idle-none, idle-needs, idle-++, idle-upto, idle-block, idle-written, idle-start}
+use Rattle.set_index.specs.Points.{listed}
+use Rattle.encoder_slots.proofs.Pieces.{limits-after}
 use Rattle.encoder.proofs.Repeating.{encoded-ended, ended-room}
 use Rattle.encoder.proofs.Sizes.{early}
 use Rattle.encoder.proofs.write.Statement.{statement}
@@ -71,7 +71,7 @@ all-steps-requires c κs =
       members,
       c .before .before .before .before .before .before .before .before .before .before .before .before .before .before .before .before .make2 .ensures .1 refl (p .0 .fourThreads) members (p .4),
       ended-room S cs (now (a .map)) (a .bound) (now (a .table)) _ _ _ _ (c .before .before .before .before .before .before .before .before .before .before .before .before .before .firsts .ensures) (w .0) (p .3),
-      idle-written S (early S cs (now (a .map))) (idle-++ S (starting S cs) (upto (mapDemand (now (a .map))) (cells (now (a .map)))) (idle-++ S (block S cs 0 unit) (block S cs 0 argument) (idle-block S cs 0 unit) (idle-block S cs 0 argument))
+      idle-written S (early S cs (now (a .map))) (idle-++ S (starting S cs) (upto (mapDemand (now (a .map))) (cells (now (a .map)))) (idle-++ S (block S cs 0 wordOne) (block S cs 0 argument) (idle-block S cs 0 wordOne) (idle-block S cs 0 argument))
           (idle-upto S (mapDemand (now (a .map))) (λ j. idle-needs S _ [] (idle-none S)) (cells (now (a .map))))) _ _ _ _ _ _ (w .0) (idle-start S 2304),
     )
 
@@ -88,7 +88,7 @@ returns c =
     let cs = listed (a .points) in
     let e = c .before .before .before .before .before .before .before .all-steps .ensures .0 in
     encoded-ended S cs (now (a .map)) (a .bound) (now (a .table)) _ _ _ _ _ _ _ _ _ (c .before .before .before .before .before .before .before .before .before .before .before .before .before .before .before .before .before .before .before .before .before .firsts .ensures) (c .before .before .before .before .before .before .before .before .before .before .before .before .before .before .before .before-steps .ensures .0) e
-    (c .before .before .goal .ensures _ (e .codeIs) (e .noughtIs))
+    (c .before .before .goal .ensures _ (e .codeIs) (e .wordZeroIs))
 
 pub write-spec : {M : Type 1} → statement M
 write-spec =

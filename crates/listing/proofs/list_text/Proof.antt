@@ -1,9 +1,9 @@
 -- `listing::list_text` meets its contract. Assumes nothing.
 use Rattle.listing.specs.Texts.{listingBy, listingOf}
 use Rattle.listing.proofs.Records.{set-taken, map-taken}
-use Rattle.listings.specs.Outputs.{count, printed}
-use Rattle.listings.specs.Listings.{listing}
-use Rattle.text.specs.declared.Answer.{Answer}
+use Rattle.listing_output.specs.Outputs.{count, printed}
+use Rattle.listing_output.specs.Listings.{listing}
+use Rattle.text.specs.declared.ReadAnswer.{ReadAnswer}
 use Rattle.text.proofs.Answered.{read-counts}
 use lib.Seq.{length-take-le}
 use lib.ListN.{length, take}
@@ -17,8 +17,8 @@ use Rattle.listing.proofs.list_text.Statement.{statement}
 use Rattle.listing.proofs.list_text.Tie as tie
 use Rattle.listing.proofs.list_text.Reads as reads
 use Rattle.listing.proofs.list_text.Lts as lts
-use Rattle.listings.proofs.list.Reads as list-reads
-use Rattle.listings.proofs.refused.Reads as refused-reads
+use Rattle.listing_output.proofs.list.Reads as list-reads
+use Rattle.listing_output.proofs.refused.Reads as refused-reads
 use Rattle.text.proofs.read.Reads as read-reads
 
 slice-aggregate-read : tie.Need-slice-aggregate-read
@@ -85,7 +85,7 @@ returns c = let text = c .before .before .before .before .before .before .before
     let l = c .before .before .list .ensures in
     let set = ap (take (8 * g .0 .0)) (w .1) ∙ set-taken (c .before .before .before .before .before .before .before .before .before .before .before .read .result) (g .0 .0) (g .0 .1 .0) (g .1) text _ (k .0) in
     let map = ap (take (4 * g .0 .1 .0)) (w .2) ∙ map-taken (c .before .before .before .before .before .before .before .before .before .before .before .read .result) (g .0 .0) (g .0 .1 .0) (g .1) text _ (k .1) in
-    let e = ap₂ listing set map ∙ sym (ap (λ (r : Answer). listingBy r text) (sym (w .0) ∙ g .1)) in
+    let e = ap₂ listing set map ∙ sym (ap (λ (r : ReadAnswer). listingBy r text) (sym (w .0) ∙ g .1)) in
     (l .0 ∙ ap (λ (bytes : List ℕ). count bytes out) e, l .1 ∙ ap (λ (bytes : List ℕ). printed bytes out) e)
 
 same-length-2 : tie.Need-same-length-2
@@ -96,7 +96,7 @@ unfolding listingOf
 returns-2 c = let text = c .before .before .before .before .before .before .before .before .before .before .before .before .before .before .args .text .now in let out = c .before .before .before .before .before .before .before .before .before .before .before .before .before .before .args .out .now in
     let g = c .before .before .before .before .before .answer2 .given in let w = c .before .before .before .before .before .before .before .before .before .read .ensures in
     let l = c .before .before .refused .ensures in
-    let e = sym (ap (λ (r : Answer). listingBy r text) (sym (w .0) ∙ g .1)) in
+    let e = sym (ap (λ (r : ReadAnswer). listingBy r text) (sym (w .0) ∙ g .1)) in
     (l .0 ∙ ap (λ (bytes : List ℕ). count bytes out) e, l .1 ∙ ap (λ (bytes : List ℕ). printed bytes out) e)
 
 pub list-text-spec : {M : Type 1} → statement M

@@ -9,9 +9,9 @@ use borrow.Author.Needs.{needs}
 use borrow.Author.Tests.{eq-eqb, ne-eqb, le-leb, lt-leb}
 use Rattle.replay.specs.Replay.{limitedTrace}
 use Rattle.replay.proofs.Judged.{walked-retrace}
-use Rattle.step.specs.Maps.{begin}
-use Rattle.step.specs.Machine.{noWrite}
-use Rattle.runs.proofs.Steps.{runs-over}
+use Rattle.machine.specs.Maps.{begin}
+use Rattle.machine.specs.Machine.{noWrite}
+use Rattle.step.proofs.Steps.{runs-over}
 use Rattle.records.specs.Sets.{setBy}
 use Rattle.base.proofs.Choice.{chosen, passed, and-true, and-false, and-right-false}
 use Rattle.replay.proofs.accepted.Statement.{statement}
@@ -19,7 +19,7 @@ use Rattle.replay.proofs.accepted.Tie as tie
 use Rattle.replay.proofs.accepted.Reads as reads
 use Rattle.replay.proofs.accepted.Lts as lts
 use Rattle.replay.proofs.refused.Reads as refused-reads
-use Rattle.runs.proofs.walk.Reads as walk-reads
+use Rattle.step.proofs.walk.Reads as walk-reads
 
 refused-requires : tie.Need-refused-requires
 refused-requires c κs = search needs

@@ -11,12 +11,12 @@ use borrow.Author.Needs.{needs}
 use borrow.Author.Tests.{lt-ltb, le-ltb, le-leb}
 use Rattle.simulation.proofs.Written.{out-most, put-out}
 use Rattle.simulation.specs.Simulation.{limited}
-use Rattle.step.specs.Traces.{trace}
-use Rattle.step.specs.Runs.{choices}
-use Rattle.step.specs.Maps.{begin}
-use Rattle.step.specs.Machine.{start, noWrite}
-use Rattle.step.proofs.Runs.{length-trace, length-choices}
-use Rattle.runs.proofs.Steps.{runs-over, walked-follow}
+use Rattle.machine.specs.Traces.{trace}
+use Rattle.machine.specs.Runs.{choices}
+use Rattle.machine.specs.Maps.{begin}
+use Rattle.machine.specs.Machine.{start, noWrite}
+use Rattle.machine.proofs.Runs.{length-trace, length-choices}
+use Rattle.step.proofs.Steps.{runs-over, walked-follow}
 use Rattle.records.specs.Sets.{Set, setBy}
 use Rattle.records.specs.Maps.{mapValue}
 use Rattle.base.proofs.Choice.{chosen, passed}
@@ -26,7 +26,7 @@ use Rattle.simulation.proofs.accepted.Tie as tie
 use Rattle.simulation.proofs.accepted.Reads as reads
 use Rattle.simulation.proofs.accepted.Lts as lts
 use Rattle.base.proofs.place.Reads as place-reads
-use Rattle.runs.proofs.walk.Reads as walk-reads
+use Rattle.step.proofs.walk.Reads as walk-reads
 use Rattle.simulation.proofs.bytes_out.Reads as bytes-out-reads
 
 -- ---- after the run

@@ -1,9 +1,9 @@
 -- `simulation::simulate` meets its contract. Assumes nothing.
 use lib.ListN.{length}
 use Rattle.records.specs.Maps.{mapValue, mapAccepted}
-use Rattle.step.specs.Traces.{trace}
-use Rattle.step.specs.Runs.{choices}
-use Rattle.step.specs.Machine.{start, noWrite}
+use Rattle.machine.specs.Traces.{trace}
+use Rattle.machine.specs.Runs.{choices}
+use Rattle.machine.specs.Machine.{start, noWrite}
 use Rattle.simulation.specs.Simulation.{limited, simulated, scheduleTrace, outputOver}
 use denote.Ref.{now}
 use mathlib.Core.Path.{_≡_, refl, sym, ap, _∙_}

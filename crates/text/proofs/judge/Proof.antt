@@ -1,5 +1,5 @@
 -- `text::judge` meets its contract. Assumes nothing.
-use Rattle.text.specs.declared.Answer.the-variants.{Read, Refused}
+use Rattle.text.specs.declared.ReadAnswer.the-variants.{Read, Refused}
 use Rattle.text.specs.Sections.{Threads}
 use Rattle.text.specs.Records.{setBytes, statements}
 use Rattle.text.specs.Readings.{ThreadsStand}

@@ -1,9 +1,9 @@
 -- `text::read` meets its contract. Assumes nothing.
-use Rattle.text.specs.declared.Answer.the-variants.{Refused}
+use Rattle.text.specs.declared.ReadAnswer.the-variants.{Refused}
 use Rattle.text.specs.Sections.{threads, cells}
 use Rattle.text.specs.Answers.{setOutput, mapOutput}
 use Rattle.text.proofs.Whole.{threads-stand, cells-stand, written-few, answer-is, answer-long, answer-line, set-output, map-output}
-use Rattle.lines.specs.Lines.{lines}
+use Rattle.text_lines.specs.Lines.{lines}
 use lib.ListN.{length}
 use denote.Ref.{now}
 use native.Mathlib.Decide.{decLt}

@@ -1,5 +1,5 @@
 -- `text::sections::add` meets its contract. Assumes nothing.
-use Rattle.drafts.proofs.Blocks.{stored-length, stored-block}
+use Rattle.text_drafts.proofs.Blocks.{stored-length, stored-block}
 use Rattle.text.specs.Drafts.{threadsIn}
 use Rattle.text.proofs.Kept.{added-kept, bounded-more}
 use Rattle.base.proofs.Choice.{and-left, and-right, clash}
@@ -15,8 +15,8 @@ use Rattle.text.proofs.sections.add.Statement.{statement}
 use Rattle.text.proofs.sections.add.Tie as tie
 use Rattle.text.proofs.sections.add.Reads as reads
 use Rattle.text.proofs.sections.add.Lts as lts
-use Rattle.drafts.proofs.count.Reads as count-reads
-use Rattle.drafts.proofs.put.Reads as put-reads
+use Rattle.text_drafts.proofs.count.Reads as count-reads
+use Rattle.text_drafts.proofs.put.Reads as put-reads
 use Rattle.text.proofs.sections.with_count.Reads as with-count-reads
 
 count-requires : tie.Need-count-requires

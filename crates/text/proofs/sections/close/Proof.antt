@@ -1,5 +1,5 @@
 -- `text::sections::close` meets its contract. Assumes nothing.
-use Rattle.lines.specs.declared.Stated.{Stated}
+use Rattle.text_lines.specs.declared.Stated.{Stated}
 use Rattle.text.specs.Sections.{added}
 use Rattle.text.specs.Readings.{threadsKept}
 use Rattle.text.specs.Drafts.{threadsIn}
@@ -19,8 +19,8 @@ use Rattle.text.proofs.sections.close.Tie as tie
 use Rattle.text.proofs.sections.close.Reads as reads
 use Rattle.text.proofs.sections.close.Lts as lts
 use Rattle.records.proofs.instructions.is_last.Reads as is-last-reads
-use Rattle.drafts.proofs.count.Reads as count-reads
-use Rattle.drafts.proofs.number.Reads as number-reads
+use Rattle.text_drafts.proofs.count.Reads as count-reads
+use Rattle.text_drafts.proofs.number.Reads as number-reads
 use Rattle.text.proofs.sections.add.Reads as add-reads
 use Rattle.text.proofs.sections.halt.Reads as halt-reads
 

@@ -1,8 +1,8 @@
 -- `text::sections::count_dots` meets its contract. Assumes nothing.
-use Rattle.reader.specs.Readers.{linesFrom}
-use Rattle.reader.proofs.Pieces.{Bounds, line-bounds, lines-next, lines-start, lines-end}
+use Rattle.text_reader.specs.Readers.{linesFrom}
+use Rattle.text_reader.proofs.Pieces.{Bounds, line-bounds, lines-next, lines-start, lines-end}
 use Rattle.text.specs.Sections.{dots}
-use Rattle.lines.specs.Lines.{lines}
+use Rattle.text_lines.specs.Lines.{lines}
 use Rattle.base.proofs.Choice.{cast-test}
 use lib.ListN.{length}
 use denote.Ref.{now}
@@ -17,8 +17,8 @@ use Rattle.text.proofs.sections.count_dots.Statement.{statement}
 use Rattle.text.proofs.sections.count_dots.Tie as tie
 use Rattle.text.proofs.sections.count_dots.Reads as reads
 use Rattle.text.proofs.sections.count_dots.Lts as lts
-use Rattle.lines.proofs.is_dot.Reads as is-dot-reads
-use Rattle.reader.proofs.line_from.Reads as line-from-reads
+use Rattle.text_lines.proofs.is_dot.Reads as is-dot-reads
+use Rattle.text_reader.proofs.line_from.Reads as line-from-reads
 
 -- a test counted
 test-counts : (b : Bool) → boolByte b ≤ 1

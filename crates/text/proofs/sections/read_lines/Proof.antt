@@ -1,9 +1,9 @@
 -- `text::sections::read_lines` meets its contract. Assumes nothing.
 use Rattle.text.proofs.Loop.{turn, At, begins, ends, stops, refused-here, next-at}
 use Rattle.text.specs.Sections.{dots}
-use Rattle.reader.specs.Readers.{linesFrom}
-use Rattle.reader.proofs.Pieces.{Bounds, line-bounds, lines-start, lines-end}
-use Rattle.lines.specs.Lines.{lines}
+use Rattle.text_reader.specs.Readers.{linesFrom}
+use Rattle.text_reader.proofs.Pieces.{Bounds, line-bounds, lines-start, lines-end}
+use Rattle.text_lines.specs.Lines.{lines}
 use lib.ListN.{length}
 use lib.Dec.{ltb, leb}
 use denote.Ref.{now}
@@ -17,7 +17,7 @@ use Rattle.text.proofs.sections.read_lines.Tie as tie
 use Rattle.text.proofs.sections.read_lines.Reads as reads
 use Rattle.text.proofs.sections.read_lines.Lts as lts
 use Rattle.text.proofs.sections.count_dots.Reads as count-dots-reads
-use Rattle.reader.proofs.line_from.Reads as line-from-reads
+use Rattle.text_reader.proofs.line_from.Reads as line-from-reads
 use Rattle.text.proofs.sections.take_line.Reads as take-line-reads
 
 abbrev Inv-loop : tie.InvT-loop

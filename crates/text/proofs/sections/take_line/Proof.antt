@@ -2,8 +2,8 @@
 use mathlib.Core.Path.{subst, sym, _∙_}
 use Rattle.text.specs.Readings.{States, Maps}
 use Rattle.text.proofs.Turns.{took-dot, took-cell, took-statement}
-use Rattle.lines.specs.declared.Cell.{Cell}
-use Rattle.lines.specs.declared.Stated.{Stated}
+use Rattle.text_lines.specs.declared.Cell.{Cell}
+use Rattle.text_lines.specs.declared.Stated.{Stated}
 use borrow.Author.Tests.{eq-eqb, ne-eqb}
 use denote.Ref.{now}
 use borrow.Author.Needs.{needs}
@@ -11,9 +11,9 @@ use Rattle.text.proofs.sections.take_line.Statement.{statement}
 use Rattle.text.proofs.sections.take_line.Tie as tie
 use Rattle.text.proofs.sections.take_line.Reads as reads
 use Rattle.text.proofs.sections.take_line.Lts as lts
-use Rattle.lines.proofs.cells.map_line.Reads as map-line-reads
-use Rattle.lines.proofs.is_dot.Reads as is-dot-reads
-use Rattle.lines.proofs.statements.statement_line.Reads as statement-line-reads
+use Rattle.text_lines.proofs.cells.map_line.Reads as map-line-reads
+use Rattle.text_lines.proofs.is_dot.Reads as is-dot-reads
+use Rattle.text_lines.proofs.statements.statement_line.Reads as statement-line-reads
 use Rattle.text.proofs.map.take.Reads as map-take-reads
 use Rattle.text.proofs.sections.close.Reads as close-reads
 use Rattle.text.proofs.sections.take.Reads as sections-take-reads

@@ -10,9 +10,9 @@ use Rattle.text.proofs.threads.argument.Statement.{statement}
 use Rattle.text.proofs.threads.argument.Tie as tie
 use Rattle.text.proofs.threads.argument.Reads as reads
 use Rattle.text.proofs.threads.argument.Lts as lts
-use Rattle.drafts.proofs.argument.Reads as argument-reads
-use Rattle.drafts.proofs.target.Reads as target-reads
-use Rattle.drafts.proofs.block.Reads as block-reads
+use Rattle.text_drafts.proofs.argument.Reads as argument-reads
+use Rattle.text_drafts.proofs.target.Reads as target-reads
+use Rattle.text_drafts.proofs.block.Reads as block-reads
 use Rattle.text.proofs.threads.find.Reads as find-reads
 use Rattle.text.proofs.threads.is_named.Reads as is-named-reads
 

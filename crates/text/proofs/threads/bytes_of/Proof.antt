@@ -11,10 +11,10 @@ use Rattle.text.proofs.threads.bytes_of.Statement.{statement}
 use Rattle.text.proofs.threads.bytes_of.Tie as tie
 use Rattle.text.proofs.threads.bytes_of.Reads as reads
 use Rattle.text.proofs.threads.bytes_of.Lts as lts
-use Rattle.drafts.proofs.mode.Reads as mode-reads
-use Rattle.drafts.proofs.number.Reads as number-reads
+use Rattle.text_drafts.proofs.mode.Reads as mode-reads
+use Rattle.text_drafts.proofs.number.Reads as number-reads
 use Rattle.text.proofs.threads.argument.Reads as argument-reads
-use Rattle.drafts.proofs.block.Reads as block-reads
+use Rattle.text_drafts.proofs.block.Reads as block-reads
 
 block-requires : tie.Need-block-requires
 block-requires c κs = search needs

@@ -2,7 +2,7 @@
 use denote.Ref.{now}
 use lib.ListN.{take, drop}
 use mathlib.Core.List.{List}
-use Rattle.drafts.specs.Blocks.{blockAt}
+use Rattle.text_drafts.specs.Blocks.{blockAt}
 use Rattle.base.specs.Below.{least}
 use Rattle.base.specs.Bytes.{same}
 use Rattle.base.proofs.Below.{least-more, least-hit}
@@ -14,9 +14,9 @@ use Rattle.text.proofs.threads.find.Statement.{statement}
 use Rattle.text.proofs.threads.find.Tie as tie
 use Rattle.text.proofs.threads.find.Reads as reads
 use Rattle.text.proofs.threads.find.Lts as lts
-use Rattle.drafts.proofs.same_label.Reads as same-label-reads
-use Rattle.drafts.proofs.label.Reads as label-reads
-use Rattle.drafts.proofs.block.Reads as block-reads
+use Rattle.text_drafts.proofs.same_label.Reads as same-label-reads
+use Rattle.text_drafts.proofs.label.Reads as label-reads
+use Rattle.text_drafts.proofs.block.Reads as block-reads
 
 abbrev Inv-loop : tie.InvT-loop
 Inv-loop draft t n label p₀ p = (p ≤ n) × (least p (λ q. same (blockAt draft (32 * t + q) .label) label) ≡ p)

@@ -10,8 +10,8 @@ use Rattle.text.proofs.threads.is_doubled.Statement.{statement}
 use Rattle.text.proofs.threads.is_doubled.Tie as tie
 use Rattle.text.proofs.threads.is_doubled.Reads as reads
 use Rattle.text.proofs.threads.is_doubled.Lts as lts
-use Rattle.drafts.proofs.label.Reads as label-reads
-use Rattle.drafts.proofs.block.Reads as block-reads
+use Rattle.text_drafts.proofs.label.Reads as label-reads
+use Rattle.text_drafts.proofs.block.Reads as block-reads
 use Rattle.text.proofs.threads.find.Reads as find-reads
 use Rattle.text.proofs.threads.is_named.Reads as is-named-reads
 

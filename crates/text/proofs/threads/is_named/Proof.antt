@@ -6,7 +6,7 @@ use Rattle.text.proofs.threads.is_named.Statement.{statement}
 use Rattle.text.proofs.threads.is_named.Tie as tie
 use Rattle.text.proofs.threads.is_named.Reads as reads
 use Rattle.text.proofs.threads.is_named.Lts as lts
-use Rattle.drafts.proofs.same_label.Reads as same-label-reads
+use Rattle.text_drafts.proofs.same_label.Reads as same-label-reads
 
 slice-aggregate-same-label : tie.Need-slice-aggregate-same-label
 slice-aggregate-same-label c = search needs

@@ -15,7 +15,7 @@ use Rattle.text.proofs.threads.labels_fit.Statement.{statement}
 use Rattle.text.proofs.threads.labels_fit.Tie as tie
 use Rattle.text.proofs.threads.labels_fit.Reads as reads
 use Rattle.text.proofs.threads.labels_fit.Lts as lts
-use Rattle.drafts.proofs.count.Reads as count-reads
+use Rattle.text_drafts.proofs.count.Reads as count-reads
 use Rattle.text.proofs.threads.fits.Reads as fits-reads
 
 abbrev Inv-loop : tie.InvT-loop

@@ -11,9 +11,9 @@ use Rattle.text.proofs.threads.target_fits.Tie as tie
 use Rattle.text.proofs.threads.target_fits.Reads as reads
 use Rattle.text.proofs.threads.target_fits.Lts as lts
 use Rattle.records.proofs.instructions.is_jump.Reads as is-jump-reads
-use Rattle.drafts.proofs.number.Reads as number-reads
+use Rattle.text_drafts.proofs.number.Reads as number-reads
 use Rattle.text.proofs.threads.argument.Reads as argument-reads
-use Rattle.drafts.proofs.block.Reads as block-reads
+use Rattle.text_drafts.proofs.block.Reads as block-reads
 
 block-requires : tie.Need-block-requires
 block-requires c κs = search needs

@@ -13,7 +13,7 @@ use Rattle.text.proofs.threads.write_threads.Statement.{statement}
 use Rattle.text.proofs.threads.write_threads.Tie as tie
 use Rattle.text.proofs.threads.write_threads.Reads as reads
 use Rattle.text.proofs.threads.write_threads.Lts as lts
-use Rattle.drafts.proofs.count.Reads as count-reads
+use Rattle.text_drafts.proofs.count.Reads as count-reads
 use Rattle.text.proofs.threads.write.Reads as write-reads
 
 abbrev Inv-loop : tie.InvT-loop

@@ -1,2 +1,0 @@
--- Laws of the checkpoints noted one after the other.
-pub mod Noted

@@ -1,0 +1,48 @@
+-- `encoder_bases::state::put_full` meets its contract. Assumes nothing.
+use Prim.Native.Nat.{_+_}
+use mathlib.Core.Path.{refl}
+use Rattle.encoder_slots.specs.Places.{placeOf}
+use Rattle.encoding.specs.Slots.{slot, choice, bitZero, full}
+use Rattle.table.specs.Programs.{if3}
+use Rattle.encoder_bases.proofs.Given.{gives-ternary}
+use borrow.Author.Needs.{needs}
+use Rattle.encoder_bases.proofs.state.put_full.Statement.{statement}
+use Rattle.encoder_bases.proofs.state.put_full.Tie as tie
+
+add-j : tie.Need-add-j
+add-j c = search needs
+
+place-requires : tie.Need-place-requires
+place-requires c κs = search needs
+
+place-requires-2 : tie.Need-place-requires-2
+place-requires-2 c κs = search needs
+
+place-requires-3 : tie.Need-place-requires-3
+place-requires-3 c κs = search needs
+
+put-one-requires : tie.Need-put-one-requires
+put-one-requires c κs = search needs
+
+same-length : tie.Need-same-length
+same-length c = search needs
+
+returns : tie.Need-returns
+returns c =
+    let a = c .before .before .before .before .before .before .before .before .before .args in (
+      c .before .before .put-one .ensures .0 (placeOf (a .slots .now)) _
+          (gives-ternary (placeOf (a .slots .now)) (a .n) _ (if3 1) (slot choice 0 (a .threads + a .t)) (slot bitZero 0 0) (slot full (a .t) 0) (refl, (refl, refl)) (c .before .before .before .before .before .before .place .ensures) (c .before .before .before .before .before .place2 .ensures) (c .before .before .before .before .place3 .ensures)),
+      c .before .before .put-one .ensures .1,
+    )
+
+pub put-full-spec : {M : Type 1} → statement M
+put-full-spec =
+    tie.close
+    (tie.spec
+    add-j
+    place-requires
+    place-requires-2
+    place-requires-3
+    put-one-requires
+    same-length
+    returns)

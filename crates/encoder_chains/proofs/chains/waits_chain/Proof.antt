@@ -1,0 +1,120 @@
+-- `encoder_chains::chains::waits_chain` meets its contract. Assumes nothing.
+use Rattle.set_index.specs.Tables.{ListTable}
+use Rattle.encoder_chains.proofs.Leads.{or-placed}
+use Rattle.machine.specs.Machine.{contains}
+use Rattle.records.specs.Sets.{Set}
+use Rattle.encoder_chains.proofs.Trees.{chain-none, chain-more}
+use Rattle.encoding.specs.Slots.{Term, slot, held, waits}
+use Rattle.encoding.specs.Steps.{chain as chainOf, link}
+use Rattle.encoder_slots.specs.Pieces.{WritesTree}
+use Rattle.encoder_slots.specs.Places.{placeOf}
+use native.Mathlib.Omega.{arith}
+use denote.Ref.{now}
+use mathlib.Core.Path.{_≡_, refl, _∙_, subst}
+use mathlib.Core.List.{List}
+use Prim.Native.Nat.{ℕ, _+_, _-_, _≤_, _<_}
+use lib.ListN.{length, getD}
+use borrow.Author.Needs.{needs}
+use Rattle.encoder_chains.proofs.chains.waits_chain.Statement.{statement}
+use Rattle.encoder_chains.proofs.chains.waits_chain.Tie as tie
+
+abbrev Inv-loop : tie.InvT-loop
+Inv-loop table slots out₀ count t n base tree₀ p₀ out tree p =
+    (p ≤ count) × (count ≤ 8) × (tree .next ≤ n + p) × (length out ≡ length out₀)
+    × ((S : Set) (cs : List ℕ) (base-tree : Term) (start : List ℕ) (m : ℕ) → length cs ≡ count → t < S .threads → n ≤ 1900000000 → ListTable S cs table
+    → WritesTree (placeOf slots) base-tree start m out₀ n base
+    → WritesTree (placeOf slots) (chainOf (link S cs 0 waits t 0) p base-tree) start m out (tree .next) (tree .at))
+
+abbrev μ-loop : tie.MeasureT-loop
+μ-loop table slots out₀ count t n base tree₀ p₀ out tree p = count - p
+
+returns : tie.Need-returns Inv-loop μ-loop
+returns c =
+    let a = c .before .before .before .before .args in
+    (λ S cs tree start m is inside small all k w. absurd (c .if1 .taken all), omega arith)
+
+returns-2 : tie.Need-returns-2 Inv-loop μ-loop
+returns-2 c =
+    let a = c .before .before .before .before .before .args in
+    (λ (S : Set) (cs : List ℕ) tree start m is inside small all (k : ListTable S cs (now (a .table))) w. absurd (c .if2 .taken (k .whole)), omega arith)
+
+returns-3 : tie.Need-returns-3 Inv-loop μ-loop
+returns-3 c =
+    let a = c .before .before .before .before .before .before .args in
+    (λ (S : Set) (cs : List ℕ) tree start m (is : length cs ≡ a .count) inside small all (k : ListTable S cs (now (a .table))) w. let few = k .eightPoints in absurd (omega arith), omega arith)
+
+loop-holds : tie.Need-loop-holds Inv-loop μ-loop
+loop-holds c =
+    let a = c .before .before .before .before .before .before .args in
+    let few = c .if3 .left in (
+      omega arith,
+      omega arith,
+      omega arith,
+      refl,
+      λ (S : Set) (cs : List ℕ) (tree : Term) (start : List ℕ) (m : ℕ) is inside small k w.
+          chain-none (placeOf (now (a .slots))) (link S cs 0 waits (a .t) 0) tree start m (now (a .out)) (a .n) (a .base) w,
+    )
+
+contained-requires : tie.Need-contained-requires Inv-loop μ-loop
+contained-requires c κs = search needs
+
+put-link-requires : tie.Need-put-link-requires Inv-loop μ-loop
+put-link-requires c κs = search needs
+
+add-p : tie.Need-add-p Inv-loop μ-loop
+add-p c = search needs
+
+loop-less : tie.Need-loop-less Inv-loop μ-loop
+loop-less c = search needs
+
+loop-again : tie.Need-loop-again Inv-loop μ-loop
+loop-again c =
+    let a = c .before .before .before .before .before .before .before .before .before .before .before .before .before .args in
+    let l = c .before .before .before .before .before .before .loop in
+    let p = c .before .before .put-link in
+    let going = c .before .before .before .before .before .loop-test .taken in
+    let added = p .ensures .1 in (
+      omega arith,
+      l .inv .1,
+      omega arith,
+      p .kept .0 ∙ l .inv .3,
+      λ (S : Set) (cs : List ℕ) (tree : Term) (start : List ℕ) (m : ℕ) (is : length cs ≡ a .count) inside (small : a .n ≤ 1900000000) k w.
+          let links = link S cs 0 waits (a .t) 0 in
+          let here : l .p < length cs = omega arith in
+          chain-more (placeOf (now (a .slots))) links tree start m _ _ _ (l .p)
+          (p .ensures .0 (placeOf (now (a .slots))) (links (l .p)) (chainOf links (l .p) tree) start m (omega arith)
+          (c .before .before .before .before .contained .ensures S cs k inside here ∙ or-placed (placeOf (now (a .slots))) {d = contains S (a .t) (getD cs (l .p) 0)} refl (slot held (a .t) (l .p)))
+          (l .inv .4 S cs tree start m is inside small k w)),
+    )
+
+same-length : tie.Need-same-length Inv-loop μ-loop
+same-length c = search needs
+
+returns-4 : tie.Need-returns-4 Inv-loop μ-loop
+returns-4 c =
+    let a = c .before .before .before .before .before .before .before .before .args in
+    let l = c .before .loop in (
+      λ (S : Set) (cs : List ℕ) (tree : Term) (start : List ℕ) (m : ℕ) (is : length cs ≡ a .count) inside small all k w.
+          let end : l .p ≡ length cs = omega arith in
+          subst (λ (j : ℕ). WritesTree (placeOf (now (a .slots))) (chainOf (link S cs 0 waits (a .t) 0) j tree) start m (l .out) (l .tree .next) (l .tree .at))
+          end (l .inv .4 S cs tree start m is inside small k w),
+      omega arith,
+    )
+
+pub waits-chain-spec : {M : Type 1} → statement M
+waits-chain-spec =
+    tie.close
+    (tie.spec
+    Inv-loop
+    μ-loop
+    returns
+    returns-2
+    returns-3
+    loop-holds
+    contained-requires
+    put-link-requires
+    add-p
+    loop-less
+    loop-again
+    same-length
+    returns-4)

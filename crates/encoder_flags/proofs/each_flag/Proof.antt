@@ -1,0 +1,117 @@
+-- `encoder_flags::each_flag` meets its contract. Assumes nothing.
+use Rattle.set_index.specs.Held.{StandsFrom}
+use Rattle.set_index.specs.Tables.{JumpsOf}
+use Rattle.encoder_slots.proofs.Entries.{row-others}
+use Rattle.encoder_slots.proofs.Pieces.{writes-row, writes-more, below-after}
+use Rattle.encoder_slots.specs.Pieces.{Writes}
+use Rattle.encoder_slots.specs.Places.{placeOf, size}
+use Rattle.encoding.specs.Steps.{entry}
+use Rattle.encoding.specs.Slots.{Kind, kindNumber, choice, flag, bitZero, Slot, slot}
+use Rattle.table.specs.Programs.{upto}
+use Rattle.records.specs.Sets.{Set}
+use Prim.Native.Nat.{ℕ, _+_, _-_, _*_, _≤_, _<_}
+use mathlib.Core.Path.{_≡_, refl, sym, _∙_, subst}
+use mathlib.Core.Bool.{false}
+use lib.Dec.{eqb}
+use mathlib.Core.List.{List}
+use native.Mathlib.Omega.{arith}
+use denote.Ref.{now}
+use lib.ListN.{length}
+use borrow.Author.Needs.{needs}
+use Rattle.encoder_flags.proofs.each_flag.Statement.{statement}
+use Rattle.encoder_flags.proofs.each_flag.Tie as tie
+
+abbrev Inv-loop : tie.InvT-loop
+Inv-loop set first lists slots₀ out₀ t count n executes no' next₀ j₀ slots out next j =
+    (j ≤ count) × (next ≤ n + 36 * j) × (length out ≡ length out₀) × (length slots ≡ length slots₀)
+    × ((S : Set) (cs : List ℕ) (k : ℕ) → count ≡ S .count t → JumpsOf S t count lists → StandsFrom S set t first count
+    → length slots₀ ≡ size → ((s : Slot) → placeOf slots₀ s < n)
+    → (Writes (upto (entry S cs k flag t) j) out₀ slots₀ n out slots next) × ((s : Slot) → placeOf slots s < next))
+
+abbrev μ-loop : tie.MeasureT-loop
+μ-loop set first lists slots₀ out₀ t count n executes no' next₀ j₀ slots out next j = count - j
+
+place-requires : tie.Need-place-requires Inv-loop μ-loop
+place-requires c κs = search needs
+
+place-requires-2 : tie.Need-place-requires-2 Inv-loop μ-loop
+place-requires-2 c κs = search needs
+
+loop-holds : tie.Need-loop-holds Inv-loop μ-loop
+loop-holds c =
+    let a = c .before .before .before .before .before .before .before .before .args in (
+      omega arith,
+      omega arith,
+      refl,
+      refl,
+      λ (S : Set) (cs : List ℕ) (k : ℕ) count-is listed known all below. (writes-row (entry S cs k flag (a .t)) (now (a .out)) (now (a .slots)) (a .n), below),
+    )
+
+flag-requires : tie.Need-flag-requires Inv-loop μ-loop
+flag-requires c κs =
+    let q = c .before .before .before .before .before .before .before .before .before .before .before .before .pre in
+    let few = q .1 in
+    let small = q .3 in
+    (q .0, q .1, omega arith, q .2, omega arith)
+
+add-j : tie.Need-add-j Inv-loop μ-loop
+add-j c = search needs
+
+loop-less : tie.Need-loop-less Inv-loop μ-loop
+loop-less c = search needs
+
+loop-again : tie.Need-loop-again Inv-loop μ-loop
+loop-again c =
+    let a = c .before .before .before .before .before .before .before .before .before .before .before .before .before .before .before .before .before .args in
+    let l = c .before .before .before .before .before .before .before .before .loop in
+    let r = c .before .before .before .before .flag in
+    let choice-place = c .before .before .before .before .before .before .before .before .before .before .before .place in
+    let no-place = c .before .before .before .before .before .before .before .before .before .place2 in
+    let more = r .ensures .1 in (
+      omega arith,
+      omega arith,
+      search needs,
+      search needs,
+      λ (S : Set) (cs : List ℕ) (k : ℕ) count-is listed known all below.
+          let f = entry S cs k flag (a .t) in
+          let so-far = l .inv .4 S cs k count-is listed known all below in
+          let kept : (other : Kind) (x y : ℕ) → eqb (kindNumber other) (kindNumber flag) ≡ false → placeOf (now (a .slots)) (slot other x y) ≡ placeOf (l .slots) (slot other x y) =
+          λ other x y apart. sym (row-others S cs k flag (a .t) other x y apart (l .j) (now (a .out)) (now (a .slots)) (a .n) (l .out) (l .slots) (l .next) (so-far .0)) in
+          let w = r .ensures .0 S cs k count-is listed known (choice-place .ensures ∙ kept choice 0 (a .t) refl) (no-place .ensures ∙ kept bitZero 0 0 refl) (l .inv .3 ∙ all) (so-far .1) in
+          (writes-more f (l .j) (now (a .out)) (now (a .slots)) (a .n) _ _ _ _ _ _ (so-far .0) w, below-after (f (l .j)) _ _ _ _ _ _ w (so-far .1)),
+    )
+
+same-length : tie.Need-same-length Inv-loop μ-loop
+same-length c = search needs
+
+same-length-2 : tie.Need-same-length-2 Inv-loop μ-loop
+same-length-2 c = search needs
+
+returns : tie.Need-returns Inv-loop μ-loop
+returns c =
+    let a = c .before .before .before .before .before .before .before .before .before .before .args in
+    let l = c .before .loop in
+    let few = c .before .before .before .before .before .before .before .before .before .before .pre .1 in
+    let j-is : l .j ≡ a .count = omega arith in (
+      λ (S : Set) (cs : List ℕ) (k : ℕ) count-is listed known all below.
+          subst (λ (i : ℕ). Writes (upto (entry S cs k flag (a .t)) i) (now (a .out)) (now (a .slots)) (a .n) (l .out) (l .slots) (l .next))
+          (j-is ∙ count-is) (l .inv .4 S cs k count-is listed known all below .0),
+      omega arith,
+    )
+
+pub each-flag-spec : {M : Type 1} → statement M
+each-flag-spec =
+    tie.close
+    (tie.spec
+    Inv-loop
+    μ-loop
+    place-requires
+    place-requires-2
+    loop-holds
+    flag-requires
+    add-j
+    loop-less
+    loop-again
+    same-length
+    same-length-2
+    returns)

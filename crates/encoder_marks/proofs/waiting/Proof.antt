@@ -1,0 +1,76 @@
+-- `encoder_marks::waiting` meets its contract. Assumes nothing.
+use Rattle.encoder_slots.specs.Pieces.{WritesTree}
+use Rattle.encoder_slots.specs.Places.{placeOf, size}
+use Rattle.encoder_slots.proofs.Entries.{entry-kept, treeOf}
+use Rattle.encoder_bases.proofs.Given.{put-written}
+use Rattle.encoding.specs.Steps.{base}
+use Rattle.encoding.specs.Slots.{Slot, kinds, waits}
+use Rattle.table.proofs.Sequences.{inside}
+use Rattle.records.specs.Sets.{Set}
+use Prim.Native.Nat.{ℕ, _<_}
+use mathlib.Core.Path.{_≡_, refl}
+use mathlib.Core.List.{List}
+use lib.ListN.{length}
+use native.Mathlib.Omega.{arith}
+use denote.Ref.{now}
+use borrow.Author.Needs.{needs}
+use Rattle.encoder_marks.proofs.waiting.Statement.{statement}
+use Rattle.encoder_marks.proofs.waiting.Tie as tie
+
+put-base-requires : tie.Need-put-base-requires
+put-base-requires c κs = search needs
+
+add-next : tie.Need-add-next
+add-next c = search needs
+
+waits-chain-requires : tie.Need-waits-chain-requires
+waits-chain-requires c κs = search needs
+
+set-place-requires : tie.Need-set-place-requires
+set-place-requires c κs = search needs
+
+same-length : tie.Need-same-length
+same-length c = search needs
+
+same-length-2 : tie.Need-same-length-2
+same-length-2 c = search needs
+
+returns : tie.Need-returns
+unfolding kinds
+returns c =
+    let a = c .before .before .before .before .before .before .before .before .before .before .before .before .before .before .before .before .before .before .args in
+    let q = c .before .before .before .before .before .before .before .before .before .before .before .before .before .before .before .before .before .before .pre in
+    let places = placeOf (now (a .slots)) in
+    let limit = q .0 in
+    let within = q .1 in
+    let g = c .before .before .before .before .before .before .before .before .before .before .before .before .put-base in
+    let r = c .before .before .before .before .before .before .waits-chain in
+    let p = c .before .before .set-place .ensures in
+    let most = g .ensures .1 in
+    let links = r .ensures .1 in (
+      λ (S : Set) (cs : List ℕ) row column inside-row k (all : length (now (a .slots)) ≡ size) (below : (s : Slot) → placeOf (now (a .slots)) s < a .n).
+          let put = g .ensures .0 S cs row refl (λ e. absurd (omega arith)) (omega arith) in
+          let w : WritesTree places (treeOf S cs (a .step) waits (a .t) 0) (now (a .out)) (a .n) _ (r .result .next) (r .result .at) =
+          r .ensures .0 S cs (base S cs (a .step) waits (a .t) 0) (now (a .out)) (a .n) column inside-row (omega arith) all k
+          (put-written (g .result) places (a .n) (base S cs (a .step) waits (a .t) 0) (now (a .out)) _ put) in
+          let small : r .result .at < 4294967295 =
+          let i = inside places (treeOf S cs (a .step) waits (a .t) 0) (a .n) below in
+          let e = w .treeRoot in
+          let f = w .treeNext in
+          omega arith in
+          entry-kept S cs (a .step) waits (a .t) 0 (now (a .out)) (now (a .slots)) (a .n) _ _ (r .result .next) (r .result .at) refl w
+          (p .1 all (omega arith) (omega arith) (omega arith) small) (p .0),
+      omega arith,
+    )
+
+pub waiting-spec : {M : Type 1} → statement M
+waiting-spec =
+    tie.close
+    (tie.spec
+    put-base-requires
+    add-next
+    waits-chain-requires
+    set-place-requires
+    same-length
+    same-length-2
+    returns)

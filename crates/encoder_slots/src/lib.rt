@@ -1,0 +1,118 @@
+// The places of a table's values in an array, and the kinds by number.
+ghost use mathlib.Core.Path.{_≡_};
+ghost use Prim.Native.Nat.{_<_};
+ghost use lib.ListN.{length, getD};
+ghost use Rattle.base.specs.Below.{number};
+ghost use Rattle.table.specs.Programs.{put};
+ghost use Rattle.encoding.specs.Slots.{slot, same, kindAt};
+ghost use Rattle.encoder_slots.specs.Places.{wide, width, begin, keptAt, placeFrom, placeOf, size};
+ghost use Rattle.set_index.specs.Points.{listed};
+
+pub mod kinds;
+
+// Whether a kind has a value for each statement.
+fn wide(kind: u8) -> bool
+    ensures { λ r. ⌜ r ≡ wide kind ⌝ }
+{
+    (kind == kinds::ACTIVE)
+        | (kind == kinds::ADDRESS)
+        | (kind == kinds::LOADED)
+        | (kind == kinds::SWAPS)
+        | (kind == kinds::RESULT)
+        | (kind == kinds::TEST)
+        | (kind == kinds::NOT_TEST)
+        | (kind == kinds::FLAG)
+        | (kind == kinds::ARGUMENT)
+}
+
+// The length of a kind's rows.
+fn width(kind: u8) -> u16
+    ensures { λ r. ⌜ r ≡ width kind ⌝ }
+{
+    if wide(kind) {
+        return 32;
+    }
+    9
+}
+
+// How many kinds before this one have a value for each statement.
+fn wide_before(kind: u8) -> u8
+    ensures { λ r. ⌜ r ≡ number kind wide ⌝ }
+{
+    if kind <= kinds::ACTIVE {
+        return 0;
+    }
+    if kind <= kinds::ADDRESS {
+        return 1;
+    }
+    if kind <= kinds::FLUSH_TO {
+        return kind - kinds::ONE_PERMITTED;
+    }
+    if kind <= kinds::FLAG {
+        return 7;
+    }
+    if kind <= kinds::ARGUMENT {
+        return 8;
+    }
+    9
+}
+
+// Where the rows of a kind begin, without a loop: a caller who names the kind has a constant once compiled.
+fn begin(kind: u8) -> usize
+    ensures { λ r. ⌜ r ≡ begin kind ⌝ }
+{
+    36 * (kind as usize) + 92 * (wide_before(kind) as usize)
+}
+
+// The number kept for a kind's value for a and b.
+fn kept(slots: &[u32], kind: u8, a: u8, b: u16) -> u32
+    ensures { λ r. ⌜ r ≡ keptAt (now (slots .entry)) kind a b ⌝ }
+{
+    if a < 4 {
+        let length = width(kind);
+        if b < length {
+            let i = begin(kind) + ((length as usize) * (a as usize) + (b as usize));
+            // A caller whose array has this length and who names the kind needs no test here once compiled.
+            if slots.len() == 2304 {
+                if kind < 41 {
+                    return slots[i];
+                }
+                return 0;
+            }
+            if i < slots.len() {
+                return slots[i];
+            }
+        }
+    }
+    0
+}
+
+// The record of a kind's value for a and b, which lies at `start` unless it was set.
+pub fn place(slots: &[u32], kind: u8, a: u8, b: u16, start: u64) -> u64
+    ensures { λ r. ⌜ r ≡ placeFrom (now (slots .entry)) kind a b start ⌝ }
+{
+    let number = kept(slots, kind, a, b);
+    if number == 0 {
+        return start;
+    }
+    (number as u64) - 1
+}
+
+// Sets the record of a kind's value for a and b, if there is a place for it.
+pub fn set_place(slots: &mut [u32], kind: u8, a: u8, b: u16, index: u64)
+    ensures { λ _. ⌜ (length (now (slots .exit)) ≡ length (now (slots .entry)))
+        × (length (now (slots .entry)) ≡ size → kind < 41 → a < 4 → b < width kind → index < 4294967295
+        → placeOf (now (slots .exit)) ≡ put same (placeOf (now (slots .entry))) (slot (kindAt kind) a b) index) ⌝ }
+{
+    if a < 4 {
+        let length = width(kind);
+        if b < length {
+            let i = begin(kind) + ((length as usize) * (a as usize) + (b as usize));
+            if slots.len() == 2304 {
+                if kind < 41 {
+                    slots[i] = ((index % 4294967296 + 1) % 4294967296) as u32;
+                }
+            }
+        }
+    }
+}

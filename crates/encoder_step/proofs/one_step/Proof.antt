@@ -1,0 +1,92 @@
+-- `encoder_step::one_step` meets its contract. Assumes nothing.
+use denote.Ref.{now}
+use native.Mathlib.Omega.{arith}
+use lib.ListN.{length}
+use mathlib.Core.List.{[], _∷_}
+use mathlib.Core.Path.{_≡_}
+use Prim.Native.Nat.{_≤_}
+use Rattle.records.specs.Sets.{setBy}
+use Rattle.table.specs.Programs.{needs as demanded}
+use Rattle.encoding.specs.Steps.{blocks, ruled, step}
+use Rattle.set_index.specs.Points.{listed}
+use Rattle.encoder_slots.proofs.Pieces.{writes-++, limits-after}
+use Rattle.encoder_slots.proofs.Idle.{idle-none, idle-needs, idle-written}
+use Rattle.set_index.proofs.Counted.{listed-most}
+use Rattle.encoder_step.proofs.Sequence.{ready-blocks}
+use borrow.Author.Needs.{needs}
+use Rattle.encoder_step.proofs.one_step.Statement.{statement}
+use Rattle.encoder_step.proofs.one_step.Tie as tie
+
+returns : tie.Need-returns
+returns c =
+    let a = c .before .before .before .before .before .before .args in
+    (λ limits room members lists idle. absurd (c .if1 .taken (limits .allPlaces)), λ room. omega arith)
+
+returns-2 : tie.Need-returns-2
+returns-2 c =
+    let a = c .before .before .before .before .before .before .before .args in
+    let past = c .if2 .taken in
+    (λ limits (room : a .n ≤ 1400000000) members lists idle. absurd (omega arith), λ room. omega arith)
+
+returns-3 : tie.Need-returns-3
+returns-3 c =
+    let a = c .before .before .before .before .before .before .before .before .before .args in
+    let past = c .if3 .taken in
+    (λ limits room members lists idle. absurd (let four = limits .fourThreads in omega arith), λ room. omega arith)
+
+deciding-kinds-requires : tie.Need-deciding-kinds-requires
+deciding-kinds-requires c κs =
+    let a = c .before .before .before .before .before .before .before .before .before .before .before .args in
+    let eight : length (a .points .numbers) ≡ 8 = search needs in
+    (omega arith, omega arith, listed-most (a .points) eight)
+
+rule-requires : tie.Need-rule-requires
+rule-requires c κs = search needs
+
+acting-kinds-requires : tie.Need-acting-kinds-requires
+acting-kinds-requires c κs = search needs
+
+same-length : tie.Need-same-length
+same-length c = search needs
+
+same-length-2 : tie.Need-same-length-2
+same-length-2 c = search needs
+
+returns-4 : tie.Need-returns-4
+unfolding step
+returns-4 c =
+    let a = c .before .before .before .before .before .before .before .before .before .before .before .before .before .before .before .before .before .before .before .before .before .before .before .before .before .before .before .before .args in
+    let r1 = c .before .before .before .before .before .before .before .before .before .before .before .before .before .before .before .before .deciding-kinds in
+    let r2 = c .before .before .before .before .before .before .before .before .before .rule in
+    let r3 = c .before .before .before .before .acting-kinds in
+    let m1 = r1 .ensures .1 in
+    let m2 = r2 .ensures .1 in
+    let m3 = r3 .ensures .1 in
+    let S = setBy (now (a .set)) (a .layout) in
+    let cs = listed (a .points) in
+    let k = a .step in
+    let rules = demanded (ruled S cs k) ∷ [] in (
+      λ limits room members lists idle.
+          let w1 = r1 .ensures .0 limits members lists idle in
+          let s1 = ready-blocks (a .layout) (a .points) (now (a .set)) k 0 11 w1 (record { limits = limits; idle = idle }) in
+          let w2 = r2 .ensures .0 (now (a .set)) cs k in
+          let w3 = r3 .ensures .0 (limits-after (a .layout) (a .points) rules _ _ _ _ _ _ w2 (s1 .limits)) members lists
+          (idle-written S rules (idle-needs S (ruled S cs k) [] (idle-none S)) _ _ _ _ _ _ w2 (s1 .idle)) in
+          writes-++ (blocks S cs k 0 11) (demanded (ruled S cs k) ∷ blocks S cs k 11 25) (now (a .out)) (now (a .slots)) (a .n) _ _ _ _ _ _ w1
+          (writes-++ rules (blocks S cs k 11 25) _ _ _ _ _ _ _ _ _ w2 w3),
+      λ room. omega arith,
+    )
+
+pub one-step-spec : {M : Type 1} → statement M
+one-step-spec =
+    tie.close
+    (tie.spec
+    returns
+    returns-2
+    returns-3
+    deciding-kinds-requires
+    rule-requires
+    acting-kinds-requires
+    same-length
+    same-length-2
+    returns-4)

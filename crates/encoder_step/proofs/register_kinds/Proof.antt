@@ -1,0 +1,111 @@
+-- `encoder_step::register_kinds` meets its contract. Assumes nothing.
+use denote.Ref.{now}
+use native.Mathlib.Omega.{arith}
+use mathlib.Core.Path.{_≡_, _∙_}
+use Rattle.records.specs.Sets.{setBy}
+use lib.ListN.{length}
+use Rattle.encoding.specs.Slots.{kinds}
+use Rattle.set_index.specs.Points.{listed}
+use Rattle.encoder_step.proofs.Given.{of-accu, of-adr, of-full, of-halted, of-mem}
+use Rattle.encoder_step.proofs.Sequence.{Ready, ready-block, five}
+use borrow.Author.Needs.{needs}
+use Rattle.encoder_step.proofs.register_kinds.Statement.{statement}
+use Rattle.encoder_step.proofs.register_kinds.Tie as tie
+
+register-block-requires : tie.Need-register-block-requires
+register-block-requires c κs = search needs
+
+register-block-requires-2 : tie.Need-register-block-requires-2
+register-block-requires-2 c κs = search needs
+
+register-block-requires-3 : tie.Need-register-block-requires-3
+register-block-requires-3 c κs = search needs
+
+register-block-requires-4 : tie.Need-register-block-requires-4
+register-block-requires-4 c κs = search needs
+
+register-block-requires-5 : tie.Need-register-block-requires-5
+register-block-requires-5 c κs =
+    let q = c .before .before .before .before .before .before .before .before .before .before .before .before .before .before .before .before .before .before .before .before .before .before .before .before .before .before .before .before .before .before .before .before .before .pre in
+    let p0 = q .0 in
+    let p1 = q .1 in
+    let m1 = c .before .before .before .before .before .before .before .before .before .before .before .before .before .before .before .before .before .before .before .before .before .before .before .before .before .before .before .register-block .ensures .1 in
+    let m2 = c .before .before .before .before .before .before .before .before .before .before .before .before .before .before .before .before .before .before .before .before .register-block2 .ensures .1 in
+    let m3 = c .before .before .before .before .before .before .before .before .before .before .before .before .before .register-block3 .ensures .1 in
+    let m4 = c .before .before .before .before .before .before .register-block4 .ensures .1 in
+    (omega arith, omega arith)
+
+same-length : tie.Need-same-length
+same-length c =
+    let r1 = c .before .before .before .before .before .before .before .before .before .before .before .before .before .before .before .before .before .before .before .before .before .before .before .before .before .before .before .before .before .before .before .before .register-block in
+    let r2 = c .before .before .before .before .before .before .before .before .before .before .before .before .before .before .before .before .before .before .before .before .before .before .before .before .before .register-block2 in
+    let r3 = c .before .before .before .before .before .before .before .before .before .before .before .before .before .before .before .before .before .before .register-block3 in
+    let r4 = c .before .before .before .before .before .before .before .before .before .before .before .register-block4 in
+    let r5 = c .before .before .before .before .register-block5 in
+    let e1 : length (r1 .last .1 .0) ≡ length (now (c .before .before .before .before .before .before .before .before .before .before .before .before .before .before .before .before .before .before .before .before .before .before .before .before .before .before .before .before .before .before .before .before .before .before .before .before .before .before .args .slots)) = r1 .kept .1 .0 in
+    let e2 : length (r2 .last .1 .0) ≡ length (r1 .last .1 .0) = r2 .kept .1 .0 in
+    let e3 : length (r3 .last .1 .0) ≡ length (r2 .last .1 .0) = r3 .kept .1 .0 in
+    let e4 : length (r4 .last .1 .0) ≡ length (r3 .last .1 .0) = r4 .kept .1 .0 in
+    let e5 : length (r5 .last .1 .0) ≡ length (r4 .last .1 .0) = r5 .kept .1 .0 in
+    e5 ∙ (e4 ∙ (e3 ∙ (e2 ∙ (e1))))
+
+same-length-2 : tie.Need-same-length-2
+same-length-2 c =
+    let r1 = c .before .before .before .before .before .before .before .before .before .before .before .before .before .before .before .before .before .before .before .before .before .before .before .before .before .before .before .before .before .before .before .before .register-block in
+    let r2 = c .before .before .before .before .before .before .before .before .before .before .before .before .before .before .before .before .before .before .before .before .before .before .before .before .before .register-block2 in
+    let r3 = c .before .before .before .before .before .before .before .before .before .before .before .before .before .before .before .before .before .before .register-block3 in
+    let r4 = c .before .before .before .before .before .before .before .before .before .before .before .register-block4 in
+    let r5 = c .before .before .before .before .register-block5 in
+    let e1 : length (r1 .last .1 .1 .0) ≡ length (now (c .before .before .before .before .before .before .before .before .before .before .before .before .before .before .before .before .before .before .before .before .before .before .before .before .before .before .before .before .before .before .before .before .before .before .before .before .before .before .args .out)) = r1 .kept .1 .1 .0 in
+    let e2 : length (r2 .last .1 .1 .0) ≡ length (r1 .last .1 .1 .0) = r2 .kept .1 .1 .0 in
+    let e3 : length (r3 .last .1 .1 .0) ≡ length (r2 .last .1 .1 .0) = r3 .kept .1 .1 .0 in
+    let e4 : length (r4 .last .1 .1 .0) ≡ length (r3 .last .1 .1 .0) = r4 .kept .1 .1 .0 in
+    let e5 : length (r5 .last .1 .1 .0) ≡ length (r4 .last .1 .1 .0) = r5 .kept .1 .1 .0 in
+    e5 ∙ (e4 ∙ (e3 ∙ (e2 ∙ (e1))))
+
+returns : tie.Need-returns
+unfolding kinds
+returns c =
+    let a = c .before .before .before .before .before .before .before .before .before .before .before .before .before .before .before .before .before .before .before .before .before .before .before .before .before .before .before .before .before .before .before .before .before .before .before .before .before .before .args in
+    let q = c .before .before .before .before .before .before .before .before .before .before .before .before .before .before .before .before .before .before .before .before .before .before .before .before .before .before .before .before .before .before .before .before .before .before .before .before .before .before .pre in
+    let p0 = q .0 in
+    let p1 = q .1 in
+    let r1 = c .before .before .before .before .before .before .before .before .before .before .before .before .before .before .before .before .before .before .before .before .before .before .before .before .before .before .before .before .before .before .before .before .register-block in
+    let r2 = c .before .before .before .before .before .before .before .before .before .before .before .before .before .before .before .before .before .before .before .before .before .before .before .before .before .register-block2 in
+    let r3 = c .before .before .before .before .before .before .before .before .before .before .before .before .before .before .before .before .before .before .register-block3 in
+    let r4 = c .before .before .before .before .before .before .before .before .before .before .before .register-block4 in
+    let r5 = c .before .before .before .before .register-block5 in
+    let m1 = r1 .ensures .1 in
+    let m2 = r2 .ensures .1 in
+    let m3 = r3 .ensures .1 in
+    let m4 = r4 .ensures .1 in
+    let m5 = r5 .ensures .1 in (
+      λ bytes layout points threads limits members idle.
+          let S = setBy bytes layout in
+          let cs = listed points in
+          let s0 : Ready layout points bytes (a .step) (now (a .slots)) (a .n) = record { limits = limits; idle = idle } in
+          let w1 = r1 .ensures .0 S cs threads (of-adr S cs) members (s0 .limits .allPlaces) (s0 .limits .below) in
+          let s1 = ready-block layout points bytes (a .step) 26 w1 s0 in
+          let w2 = r2 .ensures .0 S cs threads (of-mem S cs) members (s1 .limits .allPlaces) (s1 .limits .below) in
+          let s2 = ready-block layout points bytes (a .step) 27 w2 s1 in
+          let w3 = r3 .ensures .0 S cs threads (of-accu S cs) members (s2 .limits .allPlaces) (s2 .limits .below) in
+          let s3 = ready-block layout points bytes (a .step) 28 w3 s2 in
+          let w4 = r4 .ensures .0 S cs threads (of-full S cs) members (s3 .limits .allPlaces) (s3 .limits .below) in
+          let s4 = ready-block layout points bytes (a .step) 29 w4 s3 in
+          let w5 = r5 .ensures .0 S cs threads (of-halted S cs) members (s4 .limits .allPlaces) (s4 .limits .below) in
+          five layout points bytes (a .step) 26 w1 w2 w3 w4 w5,
+      omega arith,
+    )
+
+pub register-kinds-spec : {M : Type 1} → statement M
+register-kinds-spec =
+    tie.close
+    (tie.spec
+    register-block-requires
+    register-block-requires-2
+    register-block-requires-3
+    register-block-requires-4
+    register-block-requires-5
+    same-length
+    same-length-2
+    returns)

@@ -1,3 +1,0 @@
--- The lines of a set text (document 01, "Set text").
-pub mod Bytes
-pub mod Lines

@@ -1,0 +1,6 @@
+-- The machine of document 01: its state and one step, runs and their ends, runs over a map, and traces.
+pub mod Held
+pub mod Machine
+pub mod Maps
+pub mod Runs
+pub mod Traces

@@ -1,0 +1,10 @@
+-- Laws of a set's checkpoints, of the members of classes, and of lists of statements.
+pub mod Contains
+pub mod Counted
+pub mod Filling
+pub mod Growing
+pub mod Held
+pub mod Listed
+pub mod Making
+pub mod Noted
+pub mod Past

@@ -1,0 +1,79 @@
+-- Classes of statements, and a table of the statements of each class. Assumes nothing.
+use Prim.Native.Nat.{ℕ, zero, suc, _+_, _*_, _≤_, _<_}
+use mathlib.Core.Path.{_≡_}
+use mathlib.Core.Bool.{Bool, true, false, cond, _&&_}
+use mathlib.Core.List.{List, [], _∷_, _++_}
+use lib.Dec.{eqb}
+use lib.ListN.{length, getD}
+use Rattle.records.specs.Instructions.{STORE, MEM, CAS, HALT, EXIT, CHECK, isJump}
+use Rattle.records.specs.Sets.{Set}
+use Rattle.records.specs.declared.Statement.{Statement}
+use Rattle.machine.specs.Machine.{needsEmpty}
+use Rattle.encoding.specs.Steps.{Link, skip, setsAccu, loads, isConditional}
+
+-- ---- classes
+
+-- instruction n is of class c; there are 11 classes
+abbrev pub inClass : (c n : ℕ) → Bool
+inClass c n =
+    cond (eqb c 0) (eqb n STORE)
+    (cond (eqb c 1) (eqb n MEM)
+    (cond (eqb c 2) (setsAccu n)
+    (cond (eqb c 3) (eqb n HALT)
+    (cond (eqb c 4) (eqb n CAS)
+    (cond (eqb c 5) (eqb n EXIT)
+    (cond (eqb c 6) (needsEmpty n)
+    (cond (eqb c 7) (eqb n CHECK)
+    (cond (eqb c 8) (isJump n)
+    (cond (eqb c 9) (loads n)
+    (cond (eqb c 10) (isConditional n) false))))))))))
+
+-- a list with one number more at its end, or as it is
+abbrev pub added : Bool → List ℕ → ℕ → List ℕ
+added true ms k = ms ++ (k ∷ [])
+added false ms k = ms
+
+-- the statements of class c among the first k of thread t, in order
+unfoldable pub members : Set → (c t k : ℕ) → List ℕ
+members S c t zero = []
+members S c t (suc k) = added (inClass c (S .statement t k .number)) (members S c t k) k
+
+-- all those of thread t
+abbrev pub membersOf : Set → (c t : ℕ) → List ℕ
+membersOf S c t = members S c t (S .count t)
+
+-- of the links of thread t's statements those of class c
+abbrev pub ofClass : Set → (c t : ℕ) → (ℕ → Link) → ℕ → Link
+ofClass S c t links i = cond (inClass c (S .statement t i .number)) (links i) skip
+
+-- ---- the table
+
+-- where the row of class c and thread t starts
+abbrev pub rowIndex : (c t : ℕ) → ℕ
+rowIndex c t = 132 * c + 33 * t
+
+-- a row: how many members, then the members
+pub record Row (bytes : List ℕ) (c t : ℕ) (ms : List ℕ) : Type 0 where
+  pub many : getD bytes (rowIndex c t) 0 ≡ length ms
+  pub each : (j : ℕ) → j < length ms → getD bytes (rowIndex c t + 1 + j) 0 ≡ getD ms j 0
+
+-- the bytes are the table of a set whose threads have at most 32 statements each
+pub record Members (S : Set) (bytes : List ℕ) : Type 0 where
+  pub whole : length bytes ≡ 1452
+  pub few : (t : ℕ) → t < 4 → S .count t ≤ 32
+  pub row : (c t : ℕ) → c < 11 → t < 4 → Row bytes c t (membersOf S c t)
+
+-- the table while it is made, of the threads before t, of the first i statements of thread t, and for the first m classes of statement i too
+pub record Filled (S : Set) (t i m : ℕ) (bytes : List ℕ) : Type 0 where
+  pub whole : length bytes ≡ 1452
+  pub few : (u : ℕ) → u < 4 → S .count u ≤ 32
+  pub before : (c u : ℕ) → c < 11 → u < 4 → u < t → Row bytes c u (membersOf S c u)
+  pub done : (c : ℕ) → c < 11 → t < 4 → c < m → Row bytes c t (members S c t (i + 1))
+  pub due : (c : ℕ) → c < 11 → t < 4 → m ≤ c → Row bytes c t (members S c t i)
+  pub after : (c u : ℕ) → c < 11 → u < 4 → t < u → Row bytes c u []
+
+-- ---- jumps
+
+-- a jump to j
+abbrev pub namesTarget : Statement → ℕ → Bool
+namesTarget s j = isJump (s .number) && eqb (s .argument) j
