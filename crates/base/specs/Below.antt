@@ -1,4 +1,4 @@
--- Tests over the numbers below a bound. Assumes nothing.
+-- Tests over the numbers below a bound. A reader of the calls believes this. Assumes nothing.
 use Prim.Native.Nat.{ℕ, zero, suc, _+_}
 use mathlib.Core.Bool.{Bool, true, false, cond, _&&_, _||_}
 use lib.Dec.{ltb}

@@ -1,4 +1,4 @@
--- Bytes in slices: little-endian fields, and bytes written at a place. Assumes nothing.
+-- Bytes in slices: little-endian fields, and bytes written at a place. A reader of the calls believes this. Assumes nothing.
 use Prim.Native.Nat.{ℕ, _+_, _*_, _/_, _%_}
 use mathlib.Core.List.{List, [], _∷_, _++_}
 use mathlib.Core.Bool.{Bool, true, false, cond, _&&_}

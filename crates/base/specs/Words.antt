@@ -1,4 +1,4 @@
--- Words of 16 bits (document 01, "Machine"). Assumes nothing.
+-- Words of 16 bits (document 01, "Machine"). A reader of the calls believes this. Assumes nothing.
 use Prim.Native.Nat.{ℕ, _+_, _-_, _*_, _%_}
 use mathlib.Core.Bool.{Bool}
 use lib.Dec.{leb}

@@ -1,4 +1,4 @@
--- The parts of a case. Assumes nothing.
+-- The parts of a case. This serves the code; no call's promise needs it. Assumes nothing.
 use Prim.Native.Nat.{ℕ, _≤_}
 use mathlib.Core.List.{List}
 use lib.ListN.{length}

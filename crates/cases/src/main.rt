@@ -8,22 +8,19 @@ ghost use lib.ListN.{length};
 ghost use Rattle.cases.specs.Parts.{Inside};
 use libc::STDOUT_FILENO;
 use machine::End;
+use machine::Machine;
 use machine::RunAnswer;
-
-// Bytes of a trace step.
-const STEP_BYTES: usize = 24;
+use records::instructions::HALT;
 
 // ---- litmus tests: all runs of one by the proved simulation, how many there are, and how many lead to its outcome. A thread's HALT
 // changes no register, so each run is followed to where only HALTs are left, and these are taken last, by thread.
 
-// The instruction number of HALT.
-const HALT: u8 = 17;
 // Choices of a run, and of a run with its HALTs.
 const RUN: usize = 36;
 
 const LONGEST: usize = 40;
 // Bytes of the trace of such a run.
-const TRACE: usize = LONGEST * STEP_BYTES;
+const TRACE: usize = LONGEST * Machine::STEP;
 // More visits than any of the tests takes.
 const VISITS: u64 = 10000000;
 
@@ -63,10 +60,10 @@ fn step_byte(trace: &[u8; TRACE], step: usize, byte: usize) -> u8 {
     if step >= LONGEST {
         return 0;
     }
-    if byte >= STEP_BYTES {
+    if byte >= Machine::STEP {
         return 0;
     }
-    let at = STEP_BYTES * step + byte;
+    let at = Machine::STEP * step + byte;
     trace[at]
 }
 
@@ -293,7 +290,7 @@ fn show_trace(trace: &[u8]) {
     while at < trace.len() {
         io::print_decimal(STDOUT_FILENO, wide(trace[at]));
         at += 1;
-        if at % STEP_BYTES == 0 {
+        if at % Machine::STEP == 0 {
             io::write_all(STDOUT_FILENO, b"\n");
         } else {
             io::write_all(STDOUT_FILENO, b" ");
@@ -319,8 +316,8 @@ fn show(name: &[u8], set: &[u8], map: &[u8], schedule: &[u8]) {
     if 65 < schedule.len() {
         return;
     }
-    let mut buffer = [0u8; 65 * STEP_BYTES];
-    let size = STEP_BYTES * schedule.len();
+    let mut buffer = [0u8; 65 * Machine::STEP];
+    let size = Machine::STEP * schedule.len();
     show_over(name, set, map, schedule, &mut buffer[..size]);
 }
 

@@ -6,9 +6,25 @@ ghost use Rattle.replay.specs.Replay.{replayed};
 ghost use Rattle.text.specs.Answers.{answer as answerOf, setOutput, mapOutput};
 ghost use Rattle.encoder.specs.Answers.{sizeAnswer, encodeAnswer, tableOutput};
 ghost use Rattle.decoder.specs.Answers.{checkAnswer, workAfter, decodeAnswer, workLeft, traceLeft, mapLeft};
-ghost use Rattle.deepchalk.specs.Packed.{packed, packedRead, packedTable, packedCheck, packedDecoding};
+ghost use Rattle.deepchalk.specs.Packed.{packed, packedRefusal, packedRead, packedTable, packedCheck, packedDecoding};
 use machine::End;
 use machine::RunAnswer;
+
+// The lowest bit of each part of a number.
+const BIT_8: u64 = 256;
+
+const BIT_16: u64 = 65536;
+
+const BIT_32: u64 = 4294967296;
+
+const BIT_48: u64 = 281474976710656;
+
+// A refusal as one number.
+fn pack_refusal(number: u8, place: u32) -> u64
+    ensures { λ r. ⌜ r ≡ packedRefusal number place ⌝ }
+{
+    (number as u64) + BIT_32 * (place as u64)
+}
 
 // An answer as one number.
 fn pack(answer: RunAnswer) -> u64
@@ -16,14 +32,14 @@ fn pack(answer: RunAnswer) -> u64
 {
     match answer {
         RunAnswer::Ran { steps, end } => {
-            let count = 4294967296 * (steps as u64);
+            let count = BIT_32 * (steps as u64);
             match end {
-                End::Code(code) => 65536 * (code as u64) + count,
-                End::Stuck => 256 + count,
-                End::Open => 512 + count,
+                End::Code(code) => BIT_16 * (code as u64) + count,
+                End::Stuck => BIT_8 + count,
+                End::Open => 2 * BIT_8 + count,
             }
         }
-        RunAnswer::Refused { number, place } => (number as u64) + 4294967296 * (place as u64),
+        RunAnswer::Refused { number, place } => pack_refusal(number, place),
     }
 }
 
@@ -33,10 +49,9 @@ fn pack_read(answer: text::ReadAnswer) -> u64
 {
     match answer {
         text::ReadAnswer::Read { statements, cells } => {
-            65536 * (statements as u64) + 4294967296 * (cells as u64)
+            BIT_16 * (statements as u64) + BIT_32 * (cells as u64)
         }
-        text::ReadAnswer::Refused { number, place } => (number as u64)
-            + 4294967296 * (place as u64),
+        text::ReadAnswer::Refused { number, place } => pack_refusal(number, place),
     }
 }
 
@@ -45,9 +60,8 @@ fn pack_table(answer: encoder::TableAnswer) -> u64
     ensures { λ r. ⌜ r ≡ packedTable answer ⌝ }
 {
     match answer {
-        encoder::TableAnswer::Encoded { records } => 4294967296 * (records as u64),
-        encoder::TableAnswer::Refused { number, place } => (number as u64)
-            + 4294967296 * (place as u64),
+        encoder::TableAnswer::Encoded { records } => BIT_32 * (records as u64),
+        encoder::TableAnswer::Refused { number, place } => pack_refusal(number, place),
     }
 }
 
@@ -57,8 +71,7 @@ fn pack_check(answer: decoder::CheckAnswer) -> u64
 {
     match answer {
         decoder::CheckAnswer::Accepted => 0,
-        decoder::CheckAnswer::Refused { number, place } => (number as u64)
-            + 4294967296 * (place as u64),
+        decoder::CheckAnswer::Refused { number, place } => pack_refusal(number, place),
     }
 }
 
@@ -68,11 +81,9 @@ fn pack_decoding(answer: decoder::DecodeAnswer) -> u64
 {
     match answer {
         decoder::DecodeAnswer::Decoded { steps, cells } => {
-            4294967296 * (steps as u64) + 281474976710656 * (cells as u64)
+            BIT_32 * (steps as u64) + BIT_48 * (cells as u64)
         }
-        decoder::DecodeAnswer::Refused { number, place } => {
-            (number as u64) + 4294967296 * (place as u64)
-        }
+        decoder::DecodeAnswer::Refused { number, place } => pack_refusal(number, place),
     }
 }
 

@@ -1,4 +1,4 @@
--- What the listing program prints for a set text (document 01, "Sample runs"). Assumes nothing.
+-- What the listing program prints for a set text (document 01, "Sample runs"). A reader of the calls believes this. Assumes nothing.
 use Prim.Native.Nat.{ℕ}
 use mathlib.Core.List.{List}
 use Rattle.text_lines.specs.Lines.{lines}

@@ -31,7 +31,7 @@ use Rattle.machine.specs.declared.Outcome.the-variants.{Taken, NotPermitted, La
 use Rattle.machine.specs.declared.Thread.{Thread}
 use Rattle.machine.specs.declared.Written.{Written}
 use Rattle.listing_output.specs.Listings.{text, digits, places, decimal, name, hasNone, argument, pair, cell, lineOf, line, lastLine, refusedLine, lowest, onLowest, listingFrom, listing}
-use Rattle.listing_output.specs.Outputs.{printed, count}
+use Rattle.listing_output.specs.Printed.{printed, count}
 use Rattle.listing_output.proofs.Texts.{few-places, printed-fits}
 
 -- ---- items

@@ -12,7 +12,8 @@ use lib.Seq.{take-all, take-length, take-append-le, take-append-add, take-take, 
 use Rattle.base.proofs.Bytes.{placed-fits, over-more, length-over}
 use Rattle.base.specs.Bytes.{splice, placed, over}
 use Rattle.listing_output.specs.Listings.{places, digits, decimal, item}
-use Rattle.listing_output.specs.Outputs.{printed, Stands, Prints}
+use Rattle.listing_output.specs.Outputs.{Stands, Prints}
+use Rattle.listing_output.specs.Printed.{printed}
 
 -- ---- an output with a text printed into it
 

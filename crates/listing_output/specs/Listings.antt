@@ -1,4 +1,5 @@
--- What the listing program prints (document 01, "Sample runs"): a line for each step, then the last line. Assumes nothing.
+-- What the listing program prints (document 01, "Sample runs"): a line for each step, then the last line.
+-- A reader of the calls believes this. Assumes nothing.
 use Prim.Native.Char.{code}
 use Prim.Native.Nat.{ℕ, zero, suc, _+_, _/_, _%_}
 use Prim.Native.String.{String, [] as end, _∷_ as _then_}

@@ -1,4 +1,5 @@
--- How the code finds the lowest choice: it tries the eight bytes that may be permitted. Assumes nothing.
+-- How the code finds the lowest choice: it tries the eight bytes that may be permitted.
+-- This serves the code; no call's promise needs it. Assumes nothing.
 use Prim.Native.Nat.{ℕ, _+_}
 use mathlib.Core.Bool.{Bool, false, cond, not, _&&_}
 use mathlib.Core.List.{List, [], _∷_, _++_}

@@ -13,12 +13,15 @@ ghost use Rattle.machine.specs.Machine.{noWrite};
 ghost use Rattle.machine.specs.Maps.{begin};
 ghost use Rattle.simulation.specs.Simulation.{simulated};
 ghost use Rattle.listing_output.specs.Listings.{listingFrom, listing, refusedLine};
-ghost use Rattle.listing_output.specs.Outputs.{printed, count, Stands, Prints, lastOf};
+ghost use Rattle.listing_output.specs.Outputs.{Stands, Prints, lastOf};
+ghost use Rattle.listing_output.specs.Printed.{printed, count};
 ghost use Rattle.listing_output.specs.Schedules.{candidate as candidateOf, denies, nextByte, accepts};
 use lines::last;
 use lines::line;
 use lines::refusal;
+use machine::Machine;
 use machine::RunAnswer;
+use records::refusals;
 
 // The schedule byte of candidate j: executes by thread, then flushes by thread.
 fn candidate(j: u8) -> u8
@@ -35,16 +38,16 @@ fn candidate(j: u8) -> u8
 fn denied(set: &[u8], map: &[u8], schedule: &[u8]) -> bool
     ensures { λ r. ⌜ r ≡ denies (simulated (now (set .entry)) (now (map .entry)) (now (schedule .entry)) 1536) ⌝ }
 {
-    let mut trace = [0u8; 1536];
+    let mut trace = [0u8; Machine::TRACE];
     let answer = simulation::simulate(set, map, schedule, &mut trace);
     match answer {
         RunAnswer::Ran { steps, end } => false,
-        RunAnswer::Refused { number, place } => number == 12,
+        RunAnswer::Refused { number, place } => number == refusals::NOT_PERMITTED,
     }
 }
 
 // The byte of the first candidate that is permitted after the first k bytes of a schedule.
-fn next(set: &[u8], map: &[u8], schedule: [u8; 64], k: usize) -> u8
+fn next(set: &[u8], map: &[u8], schedule: [u8; Machine::STEPS], k: usize) -> u8
     requires { ⌜ k < 64 ⌝ }
     ensures { λ r. ⌜ r ≡ nextByte (now (set .entry)) (now (map .entry)) (take k schedule) ⌝ }
 {
@@ -65,7 +68,7 @@ fn next(set: &[u8], map: &[u8], schedule: [u8; 64], k: usize) -> u8
 fn finish(set: &[u8], map: &[u8], schedule: &[u8], out: &mut [u8], at: usize) -> usize
     ensures { λ r. ⌜ Prints at (now (out .entry)) (lastOf (simulated (now (set .entry)) (now (map .entry)) (now (schedule .entry)) 1536)) r (now (out .exit)) ⌝ }
 {
-    let mut trace = [0u8; 1536];
+    let mut trace = [0u8; Machine::TRACE];
     let answer = simulation::simulate(set, map, schedule, &mut trace);
     match answer {
         RunAnswer::Ran { steps, end } => last(out, at, end),
@@ -77,8 +80,8 @@ fn finish(set: &[u8], map: &[u8], schedule: &[u8], out: &mut [u8], at: usize) ->
 fn stop(set: &[u8], map: &[u8], schedule: &[u8], number: u8, out: &mut [u8], at: usize) -> usize
     ensures { λ r. ⌜ Prints at (now (out .entry)) (cond (eqb number 14) (refusedLine 14) (lastOf (simulated (now (set .entry)) (now (map .entry)) (now (schedule .entry)) 1536))) r (now (out .exit)) ⌝ }
 {
-    if number == 14 {
-        return refusal(out, at, 14);
+    if number == refusals::LACKS_CELL {
+        return refusal(out, at, refusals::LACKS_CELL);
     }
     finish(set, map, schedule, out, at)
 }
@@ -88,17 +91,17 @@ fn run(set: &[u8], map: &[u8], out: &mut [u8]) -> usize
     requires { ⌜ accepts (now set) (now map) ≡ true ⌝ }
     ensures { λ r. ⌜ Stands (listingFrom (setOf (now (set .entry))) (begin (now (map .entry))) noWrite 64) (now (out .entry)) r (now (out .exit)) ⌝ }
 {
-    let mut schedule = [0u8; 64];
-    let mut trace = [0u8; 1536];
+    let mut schedule = [0u8; Machine::STEPS];
+    let mut trace = [0u8; Machine::TRACE];
     let mut at: usize = 0;
     let mut k: usize = 0;
-    while k < 64 {
+    while k < Machine::STEPS {
         schedule[k] = next(set, map, schedule, k);
         let answer = simulation::simulate(set, map, &schedule[..k + 1], &mut trace);
         match answer {
             RunAnswer::Ran { steps, end } => {
-                let from = 24 * k;
-                let to = from + 24;
+                let from = Machine::STEP * k;
+                let to = from + Machine::STEP;
                 at = line(out, at, &trace[from..to]);
                 k += 1;
             }

@@ -6,7 +6,9 @@ use crate::output::item;
 use crate::output::number;
 use crate::output::put;
 use machine::End;
+use machine::offsets;
 use records::Statement;
+use records::instructions;
 use records::instructions::is_bare;
 
 // The words of the instructions are printed by four functions: the check of a `match` over byte strings grows
@@ -18,8 +20,8 @@ fn access_word(out: &mut [u8], at: usize, n: u8) -> usize
     ensures { λ r. ⌜ Prints at (now (out .entry)) (nameOf n) r (now (out .exit)) ⌝ }
 {
     match n {
-        0 => put(out, at, b"LOAD"),
-        1 => put(out, at, b"STORE"),
+        instructions::LOAD => put(out, at, b"LOAD"),
+        instructions::STORE => put(out, at, b"STORE"),
         _ => put(out, at, b"FENCE"),
     }
 }
@@ -30,11 +32,11 @@ fn arithmetic_word(out: &mut [u8], at: usize, n: u8) -> usize
     ensures { λ r. ⌜ Prints at (now (out .entry)) (nameOf n) r (now (out .exit)) ⌝ }
 {
     match n {
-        3 => put(out, at, b"ADD"),
-        4 => put(out, at, b"ADDI"),
-        5 => put(out, at, b"SUB"),
-        6 => put(out, at, b"SUBI"),
-        7 => put(out, at, b"MUL"),
+        instructions::ADD => put(out, at, b"ADD"),
+        instructions::ADDI => put(out, at, b"ADDI"),
+        instructions::SUB => put(out, at, b"SUB"),
+        instructions::SUBI => put(out, at, b"SUBI"),
+        instructions::MUL => put(out, at, b"MUL"),
         _ => put(out, at, b"MULI"),
     }
 }
@@ -45,11 +47,11 @@ fn jump_word(out: &mut [u8], at: usize, n: u8) -> usize
     ensures { λ r. ⌜ Prints at (now (out .entry)) (nameOf n) r (now (out .exit)) ⌝ }
 {
     match n {
-        9 => put(out, at, b"JMP"),
-        10 => put(out, at, b"JZ"),
-        11 => put(out, at, b"JNZ"),
-        12 => put(out, at, b"JS"),
-        13 => put(out, at, b"JNS"),
+        instructions::JMP => put(out, at, b"JMP"),
+        instructions::JZ => put(out, at, b"JZ"),
+        instructions::JNZ => put(out, at, b"JNZ"),
+        instructions::JS => put(out, at, b"JS"),
+        instructions::JNS => put(out, at, b"JNS"),
         _ => put(out, at, b"JNZNS"),
     }
 }
@@ -60,12 +62,12 @@ fn other_word(out: &mut [u8], at: usize, n: u8) -> usize
     ensures { λ r. ⌜ Prints at (now (out .entry)) (nameOf n) r (now (out .exit)) ⌝ }
 {
     match n {
-        15 => put(out, at, b"MEM"),
-        16 => put(out, at, b"CAS"),
-        17 => put(out, at, b"HALT"),
-        18 => put(out, at, b"EXIT"),
-        19 => put(out, at, b"CHECK"),
-        20 => put(out, at, b"FLUSH"),
+        instructions::MEM => put(out, at, b"MEM"),
+        instructions::CAS => put(out, at, b"CAS"),
+        instructions::HALT => put(out, at, b"HALT"),
+        instructions::EXIT => put(out, at, b"EXIT"),
+        instructions::CHECK => put(out, at, b"CHECK"),
+        Statement::INSTRUCTIONS => put(out, at, b"FLUSH"),
         _ => put(out, at, b""),
     }
 }
@@ -74,13 +76,13 @@ fn other_word(out: &mut [u8], at: usize, n: u8) -> usize
 fn name(out: &mut [u8], at: usize, n: u8) -> usize
     ensures { λ r. ⌜ Prints at (now (out .entry)) (nameOf n) r (now (out .exit)) ⌝ }
 {
-    if n < 3 {
+    if n < instructions::ADD {
         return access_word(out, at, n);
     }
-    if n < 9 {
+    if n < instructions::JMP {
         return arithmetic_word(out, at, n);
     }
-    if n < 15 {
+    if n < instructions::MEM {
         return jump_word(out, at, n);
     }
     other_word(out, at, n)
@@ -113,14 +115,14 @@ fn word(out: &mut [u8], at: usize, n: u8) -> usize
 fn act(out: &mut [u8], at: usize, step: &[u8]) -> usize
     ensures { λ r. ⌜ Prints at (now (out .entry)) (actAt (now (step .entry))) r (now (out .exit)) ⌝ }
 {
-    let n = base::byte_at(step, 1);
+    let n = base::byte_at(step, offsets::NUMBER);
     let i = Statement {
         number: n,
-        mode: base::byte_at(step, 6),
-        argument: base::word_at(step, 4),
+        mode: base::byte_at(step, offsets::MODE),
+        argument: base::word_at(step, offsets::ARGUMENT),
     };
-    let thread = item(out, at, base::byte_at(step, 0) as u16);
-    let pc = item(out, thread, base::word_at(step, 2));
+    let thread = item(out, at, base::byte_at(step, offsets::THREAD) as u16);
+    let pc = item(out, thread, base::word_at(step, offsets::PC));
     let named = word(out, pc, n);
     let next = argument(out, named, i);
     put(out, next, b" ")
@@ -130,11 +132,11 @@ fn act(out: &mut [u8], at: usize, step: &[u8]) -> usize
 fn registers(out: &mut [u8], at: usize, step: &[u8]) -> usize
     ensures { λ r. ⌜ Prints at (now (out .entry)) (registersAt (now (step .entry))) r (now (out .exit)) ⌝ }
 {
-    let accu = item(out, at, base::word_at(step, 8));
-    let mem = item(out, accu, base::word_at(step, 10));
-    let adr = item(out, mem, base::word_at(step, 12));
-    let val = item(out, adr, base::word_at(step, 14));
-    item(out, val, base::byte_at(step, 7) as u16)
+    let accu = item(out, at, base::word_at(step, offsets::ACCU));
+    let mem = item(out, accu, base::word_at(step, offsets::MEM));
+    let adr = item(out, mem, base::word_at(step, offsets::ADR));
+    let val = item(out, adr, base::word_at(step, offsets::VAL));
+    item(out, val, base::byte_at(step, offsets::FULL) as u16)
 }
 
 // Prints address and value of a written cell, between their brackets.
@@ -152,8 +154,9 @@ fn pair(out: &mut [u8], at: usize, address: u16, value: u16) -> usize
 fn cell(out: &mut [u8], at: usize, step: &[u8]) -> usize
     ensures { λ r. ⌜ Prints at (now (out .entry)) (cellShown (now (step .entry))) r (now (out .exit)) ⌝ }
 {
-    if base::byte_at(step, 16) == 1 {
-        return pair(out, at, base::word_at(step, 18), base::word_at(step, 20));
+    if base::byte_at(step, offsets::WROTE) == 1 {
+        let address = base::word_at(step, offsets::ADDRESS);
+        return pair(out, at, address, base::word_at(step, offsets::VALUE));
     }
     put(out, at, b"{}")
 }

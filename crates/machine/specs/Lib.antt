@@ -2,5 +2,6 @@
 pub mod Held
 pub mod Machine
 pub mod Maps
+pub mod Offsets
 pub mod Runs
 pub mod Traces

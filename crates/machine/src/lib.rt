@@ -2,6 +2,7 @@
 pub mod checkpoints;
 pub mod choices;
 pub mod memory;
+pub mod offsets;
 pub mod operands;
 pub mod registers;
 

@@ -1,4 +1,4 @@
--- The twenty instructions by number, word and class (document 01, the table of "Machine"). Assumes nothing.
+-- The twenty instructions by number, word and class (document 01, the table of "Machine"). A reader of the calls believes this. Assumes nothing.
 use Prim.Native.Nat.{ℕ}
 use mathlib.Core.Bool.{Bool, cond, _||_}
 use mathlib.Core.List.{List, [], _∷_}

@@ -1,4 +1,4 @@
--- Map records: the cells that they give, and which maps are accepted (document 01, "Records"). Assumes nothing.
+-- Map records: the cells that they give, and which maps are accepted (document 01, "Records"). A reader of the calls believes this. Assumes nothing.
 use Prim.Native.Nat.{ℕ, _+_, _-_, _*_, _/_, _%_}
 use mathlib.Core.Bool.{Bool, true, cond, _&&_}
 use mathlib.Core.List.{List}

@@ -28,6 +28,8 @@ pub struct Layout {
 impl Statement {
     // How many instructions there are; as a number it names none.
     pub const INSTRUCTIONS: u8 = 20;
+    // Bytes of a statement record.
+    pub const SIZE: usize = 8;
 }
 
 impl Layout {
@@ -37,8 +39,14 @@ impl Layout {
     pub const STATEMENTS: u16 = 32;
     // The most statements of a set.
     pub const RECORDS: usize = 128;
+    // Bytes of the longest set.
+    pub const SET: usize = Statement::SIZE * Layout::RECORDS;
     // The most cells of a set's map.
     pub const MAP_CELLS: usize = 128;
+    // Bytes of a map cell.
+    pub const CELL: usize = 4;
+    // Bytes of the longest map of a set.
+    pub const MAP: usize = Layout::CELL * Layout::MAP_CELLS;
     // The most different checkpoints of a set.
     pub const CHECKPOINTS: u8 = 8;
 }
@@ -55,7 +63,7 @@ fn word(s: &[u8], at: usize) -> u16
 pub fn statement_at(set: &[u8], k: u32) -> Statement
     ensures { λ r. ⌜ r ≡ statementAt (now (set .entry)) k ⌝ }
 {
-    let at = 8 * (k as usize);
+    let at = Statement::SIZE * (k as usize);
     // One test for the whole statement, so that its argument is read at once.
     if at + 5 < set.len() {
         return Statement {

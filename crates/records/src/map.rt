@@ -2,20 +2,21 @@
 ghost use mathlib.Core.Path.{_≡_};
 ghost use Prim.Native.Nat.{_<_};
 ghost use Rattle.records.specs.Maps.{cells, addressAt, valueAt, ascendsAt, mapAccepted};
+use crate::Layout;
 use crate::word;
 
 // The address of cell k; a byte past the end is 0.
 pub fn address_at(map: &[u8], k: u32) -> u16
     ensures { λ r. ⌜ r ≡ addressAt (now (map .entry)) k ⌝ }
 {
-    base::word_at(map, 4 * (k as usize))
+    base::word_at(map, Layout::CELL * (k as usize))
 }
 
 // The value of cell k; a byte past the end is 0.
 pub fn value_at(map: &[u8], k: u32) -> u16
     ensures { λ r. ⌜ r ≡ valueAt (now (map .entry)) k ⌝ }
 {
-    base::word_at(map, 4 * (k as usize) + 2)
+    base::word_at(map, Layout::CELL * (k as usize) + 2)
 }
 
 // Whether cell k's address is above that of the cell before it.
@@ -26,7 +27,7 @@ fn ascends(map: &[u8], k: usize) -> bool
     if k == 0 {
         return true;
     }
-    if word(map, 4 * k) <= word(map, 4 * (k - 1)) {
+    if word(map, Layout::CELL * k) <= word(map, Layout::CELL * (k - 1)) {
         return false;
     }
     true
@@ -36,8 +37,8 @@ fn ascends(map: &[u8], k: usize) -> bool
 pub fn map_accepted(map: &[u8], limit: usize) -> bool
     ensures { λ r. ⌜ r ≡ mapAccepted limit (now (map .entry)) ⌝ }
 {
-    let n = map.len() / 4;
-    if map.len() % 4 != 0 {
+    let n = map.len() / Layout::CELL;
+    if map.len() % Layout::CELL != 0 {
         return false;
     }
     if limit < n {

@@ -20,13 +20,13 @@ fn follows(set: &[u8], k: usize) -> bool
     requires { ⌜ k < records (now set) ⌝ }
     ensures { λ r. ⌜ r ≡ follows (now (set .entry)) k ⌝ }
 {
-    let at = 8 * k;
+    let at = Statement::SIZE * k;
     let thread = set[at];
     let pc = word(set, at + 6);
     if k == 0 {
         return (thread == 0) & (pc == 0);
     }
-    let last = 8 * (k - 1);
+    let last = Statement::SIZE * (k - 1);
     let before = set[last];
     if thread == before {
         // Wider than a word, so that the sum does not wrap.
@@ -40,7 +40,7 @@ fn argument_fits(set: &[u8], k: usize, count: u16) -> bool
     requires { ⌜ (k < records (now set)) × (count ≡ countOf (now set) (threadAt (now set) k)) ⌝ }
     ensures { λ r. ⌜ r ≡ argumentFits (now (set .entry)) k ⌝ }
 {
-    let at = 8 * k;
+    let at = Statement::SIZE * k;
     let number = set[at + 1];
     let argument = word(set, at + 4);
     if is_bare(number) {
@@ -59,7 +59,7 @@ fn record_fits(set: &[u8], k: usize, counts: [u16; 4]) -> bool
     requires { ⌜ (k < records (now set)) × (counts ≡ countsOf (now set)) ⌝ }
     ensures { λ r. ⌜ r ≡ recordFits (now (set .entry)) k ⌝ }
 {
-    let at = 8 * k;
+    let at = Statement::SIZE * k;
     let thread = set[at] as usize;
     if Layout::THREADS <= thread {
         return false;
@@ -80,7 +80,7 @@ fn records_fit(set: &[u8], counts: [u16; 4]) -> bool
     requires { ⌜ counts ≡ countsOf (now set) ⌝ }
     ensures { λ r. ⌜ r ≡ every (records (now (set .entry))) (λ k. follows (now (set .entry)) k && recordFits (now (set .entry)) k) ⌝ }
 {
-    let n = set.len() / 8;
+    let n = set.len() / Statement::SIZE;
     let mut k = 0;
     while k < n {
         if !(follows(set, k) & record_fits(set, k, counts)) {
@@ -96,7 +96,7 @@ fn checks(set: &[u8], c: u16, k: usize) -> bool
     requires { ⌜ k < records (now set) ⌝ }
     ensures { λ r. ⌜ r ≡ checksAt (now (set .entry)) c k ⌝ }
 {
-    let at = 8 * k;
+    let at = Statement::SIZE * k;
     (set[at + 1] == CHECK) & (word(set, at + 4) == c)
 }
 
@@ -120,7 +120,7 @@ fn opens(set: &[u8], k: usize) -> bool
     requires { ⌜ k < records (now set) ⌝ }
     ensures { λ r. ⌜ r ≡ opensAt (now (set .entry)) k ⌝ }
 {
-    let at = 8 * k;
+    let at = Statement::SIZE * k;
     if set[at + 1] != CHECK {
         return false;
     }
@@ -131,7 +131,7 @@ fn opens(set: &[u8], k: usize) -> bool
 pub fn few_checkpoints(set: &[u8]) -> bool
     ensures { λ r. ⌜ r ≡ leb (number (records (now (set .entry))) (opensAt (now (set .entry)))) 8 ⌝ }
 {
-    let n = set.len() / 8;
+    let n = set.len() / Statement::SIZE;
     let mut found: u8 = 0;
     let mut k = 0;
     while k < n {
@@ -151,14 +151,14 @@ fn counts_of(set: &[u8]) -> [u16; 4]
     requires { ⌜ records (now set) ≤ 128 ⌝ }
     ensures { λ r. ⌜ r ≡ countsOf (now (set .entry)) ⌝ }
 {
-    let n = set.len() / 8;
+    let n = set.len() / Statement::SIZE;
     let mut first: u16 = 0;
     let mut second: u16 = 0;
     let mut third: u16 = 0;
     let mut fourth: u16 = 0;
     let mut k = 0;
     while k < n {
-        let thread = set[8 * k];
+        let thread = set[Statement::SIZE * k];
         first += (thread == 0) as u16;
         second += (thread == 1) as u16;
         third += (thread == 2) as u16;
@@ -173,8 +173,8 @@ fn accepted(set: &[u8], counts: [u16; 4]) -> bool
     requires { ⌜ counts ≡ countsOf (now set) ⌝ }
     ensures { λ r. ⌜ r ≡ setAccepted (now (set .entry)) ⌝ }
 {
-    let n = set.len() / 8;
-    if set.len() % 8 != 0 {
+    let n = set.len() / Statement::SIZE;
+    if set.len() % Statement::SIZE != 0 {
         return false;
     }
     if n == 0 {
@@ -183,7 +183,7 @@ fn accepted(set: &[u8], counts: [u16; 4]) -> bool
     if !records_fit(set, counts) {
         return false;
     }
-    if !is_last(set[8 * (n - 1) + 1]) {
+    if !is_last(set[Statement::SIZE * (n - 1) + 1]) {
         return false;
     }
     few_checkpoints(set)
@@ -193,7 +193,7 @@ fn accepted(set: &[u8], counts: [u16; 4]) -> bool
 pub fn layout(set: &[u8]) -> Layout
     ensures { λ r. ⌜ r ≡ layoutOf (now (set .entry)) ⌝ }
 {
-    let n = set.len() / 8;
+    let n = set.len() / Statement::SIZE;
     // A set of more records is refused before any of them is read.
     if n <= Layout::RECORDS {
         let counts = counts_of(set);
@@ -202,7 +202,7 @@ pub fn layout(set: &[u8]) -> Layout
             let third = second + counts[1];
             let fourth = third + counts[2];
             return Layout {
-                threads: set[8 * (n - 1)] + 1,
+                threads: set[Statement::SIZE * (n - 1)] + 1,
                 starts: [0, second, third, fourth],
                 counts,
             };

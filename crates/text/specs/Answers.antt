@@ -1,4 +1,5 @@
--- What reading a set text answers, and the lent outputs afterwards (document 01, "Numbered refusals"). Assumes nothing.
+-- What reading a set text answers, and the lent outputs afterwards (document 01, "Numbered refusals").
+-- A reader of the calls believes this. Assumes nothing.
 use Prim.Native.Nat.{ℕ, zero, suc, _+_, _*_}
 use mathlib.Core.Bool.{Bool, true, false, cond, not, _&&_, _||_}
 use mathlib.Core.List.{List, [], _∷_}

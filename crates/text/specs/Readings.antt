@@ -1,4 +1,4 @@
--- What reading a line does to what is kept of the lines before it. Assumes nothing.
+-- What reading a line does to what is kept of the lines before it. This serves the code; no call's promise needs it. Assumes nothing.
 use Prim.Native.Nat.{ℕ, _+_, _-_, _*_, _≤_, _<_, min}
 use mathlib.Core.Path.{_≡_}
 use mathlib.Core.Bool.{Bool, true, false, cond, not, _&&_, _||_}

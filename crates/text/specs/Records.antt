@@ -1,4 +1,4 @@
--- The records that a set text gives (document 01, "Set text" and "Records"). Assumes nothing.
+-- The records that a set text gives (document 01, "Set text" and "Records"). A reader of the calls believes this. Assumes nothing.
 use Prim.Native.Nat.{ℕ, zero, suc, _+_}
 use mathlib.Core.Bool.{Bool, cond, not}
 use mathlib.Core.List.{List, [], _∷_, _++_}

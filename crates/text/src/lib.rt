@@ -13,6 +13,10 @@ ghost use Rattle.text.specs.Answers.{mapFits, outputBy, answer as answer
 ghost use Rattle.text.specs.Readings.{Sound, ThreadsStand, CellsStand, threadsRefusal, Judges, Few, roomed, setPart, mapPart};
 ghost use Rattle.text.specs.Records.{mapBytes};
 ghost use Rattle.text.specs.Sections.{Threads};
+use records::Layout;
+use records::Statement;
+use records::refusals;
+use text_drafts::DRAFT;
 
 // What reading answers.
 pub enum ReadAnswer {
@@ -32,12 +36,16 @@ pub struct Reading {
 }
 
 impl Reading {
-    // The most threads of a set.
-    pub const THREADS: u16 = 4;
-    // The most statements of a thread.
-    pub const STATEMENTS: u16 = 32;
-    // The most cells of a text's map.
-    pub const CELLS: u16 = 128;
+    // The most bytes of a text.
+    pub const TEXT: usize = 16384;
+    // Document 01's limits of a set and its map, as numbers of this struct's fields.
+    pub const THREADS: u16 = Layout::THREADS as u16;
+
+    pub const STATEMENTS: u16 = Layout::STATEMENTS;
+
+    pub const CELLS: u16 = Layout::MAP_CELLS as u16;
+    // The count that stands for more cells than that.
+    pub const MORE_CELLS: u16 = Reading::CELLS + 1;
 }
 
 // A refusal that concerns no line.
@@ -58,11 +66,11 @@ fn threads_refusal(draft: &[u8], r: Reading) -> u8
             if threads::labels_fit(draft, r.ended, counts) {
                 return 0;
             }
-            return 6;
+            return refusals::LABEL;
         }
-        return 5;
+        return refusals::STATEMENTS;
     }
-    4
+    refusals::THREADS
 }
 
 // Whether 8 refuses the map, 0 where it does not; then its records are in work memory.
@@ -73,13 +81,13 @@ fn map_refusal(keys: &[u32], r: Reading, map: &mut [u8]) -> u8
 {
     let n = r.cells as usize;
     if Reading::CELLS < r.cells {
-        return 8;
+        return refusals::MAP;
     }
     map::write(keys, n, map);
     if map::fits(map, n) {
         return 0;
     }
-    8
+    refusals::MAP
 }
 
 // The checks of the whole text but that of room, with the records written into work memory.
@@ -94,7 +102,7 @@ fn judge(draft: &[u8], keys: &[u32], r: Reading, set: &mut [u8], map: &mut [u8])
     let counts = r.counts;
     let statements = threads::assemble(draft, r.ended, counts, set);
     if !threads::checkpoints_fit(set, statements) {
-        return refused(7);
+        return refused(refusals::CHECKPOINTS);
     }
     let last = map_refusal(keys, r, map);
     if last != 0 {
@@ -124,8 +132,8 @@ fn finish(
             statements,
             cells: count,
         } => {
-            let size = 8 * (statements as usize);
-            let length = 4 * (count as usize);
+            let size = Statement::SIZE * (statements as usize);
+            let length = Layout::CELL * (count as usize);
             let room = (size <= set.len()) & (length <= map.len());
             if room {
                 base::place(set, 0, &records[..size]);
@@ -135,7 +143,7 @@ fn finish(
                     cells: count,
                 };
             }
-            refused(11)
+            refused(refusals::ROOM)
         }
         ReadAnswer::Refused { number, place } => ReadAnswer::Refused { number, place },
     }
@@ -147,8 +155,8 @@ pub fn read(text: &[u8], set: &mut [u8], map: &mut [u8]) -> ReadAnswer
         × (now (set .exit) ≡ setOutput r (now (text .entry)) (now (set .entry)))
         × (now (map .exit) ≡ mapOutput r (now (text .entry)) (now (map .entry))) ⌝ }
 {
-    let mut draft = [0u8; 4608];
-    let mut keys = [0u32; 128];
+    let mut draft = [0u8; DRAFT];
+    let mut keys = [0u32; Layout::MAP_CELLS];
     let r = sections::read(text, &mut draft, &mut keys);
     if r.refusal != 0 {
         return ReadAnswer::Refused {
@@ -156,8 +164,8 @@ pub fn read(text: &[u8], set: &mut [u8], map: &mut [u8]) -> ReadAnswer
             place: r.line,
         };
     }
-    let mut records = [0u8; 1024];
-    let mut cells = [0u8; 512];
+    let mut records = [0u8; Layout::SET];
+    let mut cells = [0u8; Layout::MAP];
     let answer = judge(&draft, &keys, r, &mut records, &mut cells);
     finish(answer, &records, &cells, set, map)
 }

@@ -8,8 +8,11 @@ ghost use Rattle.text.specs.Readings.{Adds, Closes, States, Takes, Reads
 ghost use Rattle.text.specs.Sections.{halt as haltOf, dots};
 use crate::Reading;
 use crate::map;
+use records::Layout;
 use records::instructions::HALT;
 use records::instructions::is_last;
+use records::refusals;
+use text_drafts::DRAFT;
 use text_lines::Form;
 use text_lines::Stated;
 
@@ -86,8 +89,14 @@ fn take(r: Reading, draft: &mut [u8], x: Stated) -> Reading
     let form = x.form;
     match form {
         Form::Empty => Reading { refusal: 0, ..r },
-        Form::Malformed => Reading { refusal: 2, ..r },
-        Form::Large => Reading { refusal: 3, ..r },
+        Form::Malformed => Reading {
+            refusal: refusals::MALFORMED,
+            ..r
+        },
+        Form::Large => Reading {
+            refusal: refusals::NUMBER,
+            ..r
+        },
         Form::Good => {
             let s = add(r, draft, x);
             Reading { refusal: 0, ..s }
@@ -166,7 +175,9 @@ pub fn read(text: &[u8], draft: &mut [u8], keys: &mut [u32]) -> Reading
     ensures { λ r. ⌜ (16384 < length (now (text .entry)) → (r .refusal ≡ 1) × (r .line ≡ 0))
         × (length (now (text .entry)) ≤ 16384 → length (now (draft .entry)) ≡ 4608 → length (now (keys .entry)) ≡ 128 → ReadsLines (now (text .entry)) r (now (draft .exit)) (now (keys .exit))) ⌝ }
 {
-    let fit = (text.len() <= 16384) & (draft.len() == 4608) & (keys.len() == 128);
+    let fit = (text.len() <= Reading::TEXT)
+        & (draft.len() == DRAFT)
+        & (keys.len() == Layout::MAP_CELLS);
     if fit {
         return read_lines(text, draft, keys);
     }
@@ -175,7 +186,7 @@ pub fn read(text: &[u8], draft: &mut [u8], keys: &mut [u32]) -> Reading
         ended: 0,
         counts: [0; 4],
         cells: 0,
-        refusal: 1,
+        refusal: refusals::TEXT_LENGTH,
         line: 0,
     }
 }

@@ -9,6 +9,8 @@ ghost use Rattle.text.specs.Answers.{doubledAt, targetFits, threadFits, 
 ghost use Rattle.text_drafts.specs.Blocks.{blockAt};
 ghost use Rattle.text.specs.Drafts.{drafted, threadsIn, fourFit};
 ghost use Rattle.text.specs.Records.{joined, isNamed, argumentOf, statementBytes, setBytes, statements};
+use crate::Reading;
+use records::Layout;
 use records::instructions::is_jump;
 use text_lines::Stated;
 
@@ -166,7 +168,7 @@ pub fn assemble(draft: &[u8], ended: u16, counts: [u16; 4], set: &mut [u8]) -> u
         (r ≡ statements (threadsIn (now (draft .entry)) ended counts)) × (r ≤ 128) × (take (8 * r) (now (set .exit)) ≡ setBytes (threadsIn (now (draft .entry)) ended counts)))
         × (length (now (set .exit)) ≡ length (now (set .entry))) ⌝ }
 {
-    let fit = (ended <= 4) & counts_fit(counts) & (1024 <= set.len());
+    let fit = (ended <= Reading::THREADS) & counts_fit(counts) & (Layout::SET <= set.len());
     if fit {
         return write_threads(draft, ended, counts, set);
     }

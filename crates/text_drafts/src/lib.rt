@@ -5,8 +5,23 @@ ghost use mathlib.Core.Path.{_≡_};
 ghost use Prim.Native.Nat.{_+_, _*_};
 ghost use lib.ListN.{length, drop, take, getD};
 ghost use Rattle.base.specs.Bytes.{same, wordAt};
-ghost use Rattle.text_drafts.specs.Blocks.{stored};
+ghost use Rattle.text_drafts.specs.Blocks.{blockLength, stored};
+use records::Layout;
 use text_lines::Stated;
+
+// Bytes of a block, and where its parts stand; its instruction number comes first.
+pub const BLOCK: usize = 36;
+
+const MODE: usize = 1;
+
+const ARGUMENT: usize = 2;
+
+const LABEL: usize = 4;
+
+const TARGET: usize = 20;
+
+// Bytes of a draft: a block for each statement of a set.
+pub const DRAFT: usize = BLOCK * Layout::RECORDS;
 
 // The part of s from index i on, n bytes or as many as there are.
 fn part(s: &[u8], i: usize, n: usize) -> &[u8]
@@ -27,7 +42,7 @@ pub fn count(counts: [u16; 4], t: u16) -> u16
     ensures { λ r. ⌜ r ≡ getD counts t 0 ⌝ }
 {
     let thread = t as usize;
-    if thread < 4 {
+    if thread < Layout::THREADS {
         return counts[thread];
     }
     0
@@ -37,49 +52,49 @@ pub fn count(counts: [u16; 4], t: u16) -> u16
 pub fn block(t: u16, p: u16) -> u32
     ensures { λ r. ⌜ r ≡ 32 * t + p ⌝ }
 {
-    32 * (t as u32) + (p as u32)
+    (Layout::STATEMENTS as u32) * (t as u32) + (p as u32)
 }
 
 // The label of block k.
 pub fn label(draft: &[u8], k: u32) -> &[u8]
-    ensures { λ r. ⌜ now r ≡ take 16 (drop (36 * k + 4) (now (draft .entry))) ⌝ }
+    ensures { λ r. ⌜ now r ≡ take 16 (drop (blockLength * k + 4) (now (draft .entry))) ⌝ }
 {
-    part(draft, 36 * (k as usize) + 4, 16)
+    part(draft, BLOCK * (k as usize) + LABEL, Stated::LABEL)
 }
 
 // The target of block k.
 pub fn target(draft: &[u8], k: u32) -> &[u8]
-    ensures { λ r. ⌜ now r ≡ take 16 (drop (36 * k + 20) (now (draft .entry))) ⌝ }
+    ensures { λ r. ⌜ now r ≡ take 16 (drop (blockLength * k + 20) (now (draft .entry))) ⌝ }
 {
-    part(draft, 36 * (k as usize) + 20, 16)
+    part(draft, BLOCK * (k as usize) + TARGET, Stated::LABEL)
 }
 
 // The instruction number of block k.
 pub fn number(draft: &[u8], k: u32) -> u8
-    ensures { λ r. ⌜ r ≡ getD (now (draft .entry)) (36 * k) 0 ⌝ }
+    ensures { λ r. ⌜ r ≡ getD (now (draft .entry)) (blockLength * k) 0 ⌝ }
 {
-    base::byte_at(draft, 36 * (k as usize))
+    base::byte_at(draft, BLOCK * (k as usize))
 }
 
 // The mode of block k.
 pub fn mode(draft: &[u8], k: u32) -> u8
-    ensures { λ r. ⌜ r ≡ getD (now (draft .entry)) (36 * k + 1) 0 ⌝ }
+    ensures { λ r. ⌜ r ≡ getD (now (draft .entry)) (blockLength * k + 1) 0 ⌝ }
 {
-    base::byte_at(draft, 36 * (k as usize) + 1)
+    base::byte_at(draft, BLOCK * (k as usize) + MODE)
 }
 
 // The argument of block k.
 pub fn argument(draft: &[u8], k: u32) -> u16
-    ensures { λ r. ⌜ r ≡ wordAt (now (draft .entry)) (36 * k + 2) ⌝ }
+    ensures { λ r. ⌜ r ≡ wordAt (now (draft .entry)) (blockLength * k + 2) ⌝ }
 {
-    base::word_at(draft, 36 * (k as usize) + 2)
+    base::word_at(draft, BLOCK * (k as usize) + ARGUMENT)
 }
 
 // Puts a statement into block k, if there is room.
 pub fn put(draft: &mut [u8], k: u32, x: Stated)
     ensures { λ _. ⌜ (now (draft .exit) ≡ stored (now (draft .entry)) k x) × (length (x .label) ≡ 16) × (length (x .target) ≡ 16) ⌝ }
 {
-    let at = 36 * (k as usize);
+    let at = BLOCK * (k as usize);
     let label = x.label;
     let target = x.target;
     let head = [
@@ -89,8 +104,8 @@ pub fn put(draft: &mut [u8], k: u32, x: Stated)
         (x.argument / 256) as u8,
     ];
     base::place(draft, at, &head);
-    base::place(draft, at + 4, &label);
-    base::place(draft, at + 20, &target);
+    base::place(draft, at + LABEL, &label);
+    base::place(draft, at + TARGET, &target);
 }
 
 // Whether two labels of sixteen bytes are the same. Sixteen tests without a branch are one comparison of the machine.

@@ -1,4 +1,4 @@
--- The bytes of a set text: blanks, digits, letters, and runs of them (document 01, "Set text"). Assumes nothing.
+-- The bytes of a set text: blanks, digits, letters, and runs of them (document 01, "Set text"). A reader of the calls believes this. Assumes nothing.
 use Prim.Native.Nat.{ℕ, zero, suc, _+_, _-_, _*_}
 use mathlib.Core.Bool.{Bool, true, false, cond, not, _&&_, _||_}
 use mathlib.Core.List.{List, [], _∷_}

@@ -1,4 +1,4 @@
--- The lines of a set text, and what each may hold (document 01, "Set text"). Assumes nothing.
+-- The lines of a set text, and what each may hold (document 01, "Set text"). A reader of the calls believes this. Assumes nothing.
 use Prim.Native.Nat.{ℕ, zero, suc, _+_}
 use mathlib.Core.Bool.{Bool, true, false, cond, not, _&&_, _||_}
 use mathlib.Core.List.{List, [], _∷_}

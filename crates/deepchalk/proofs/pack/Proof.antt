@@ -1,14 +1,15 @@
 -- `deepchalk::pack` meets its contract. Assumes nothing.
-use Prim.Native.Nat.{ℕ, _+_, _*_}
-use native.Mathlib.Nat.{zero-add}
-use mathlib.Core.Path.{ap, _∙_, sym}
+use Rattle.deepchalk.specs.Packed.{bit8, bit16, bit32, endNumber, endCode, packed}
 use Rattle.machine.specs.declared.End.{End}
-use Rattle.deepchalk.specs.Packed.{endNumber, endCode, packed}
+use mathlib.Core.Path.{ap, _∙_, sym}
+use native.Mathlib.Nat.{zero-add}
+use Prim.Native.Nat.{ℕ, _+_, _*_}
 use borrow.Author.Needs.{needs}
 use Rattle.deepchalk.proofs.pack.Statement.{statement}
 use Rattle.deepchalk.proofs.pack.Tie as tie
 use Rattle.deepchalk.proofs.pack.Reads as reads
 use Rattle.deepchalk.proofs.pack.Lts as lts
+use Rattle.deepchalk.proofs.pack_refusal.Reads as pack-refusal-reads
 
 enum-known-answer : tie.Need-enum-known-answer
 enum-known-answer c = search needs
@@ -40,42 +41,36 @@ add-result-2 c = search needs
 enum-told-2 : tie.Need-enum-told-2
 enum-told-2 c = search needs
 
+mul-result-2 : tie.Need-mul-result-2
+mul-result-2 c = search needs
+
 add-result-3 : tie.Need-add-result-3
 add-result-3 c = search needs
 
 enum-known-answer-2 : tie.Need-enum-known-answer-2
 enum-known-answer-2 c = search needs
 
-cast-result-2 : tie.Need-cast-result-2
-cast-result-2 c = search needs
-
-cast-result-3 : tie.Need-cast-result-3
-cast-result-3 c = search needs
-
-mul-result-2 : tie.Need-mul-result-2
-mul-result-2 c = search needs
-
-add-result-4 : tie.Need-add-result-4
-add-result-4 c = search needs
+pack-refusal-requires : tie.Need-pack-refusal-requires
+pack-refusal-requires c κs = search needs
 
 returns : tie.Need-returns
 returns c =
     let steps = c .before .before .before .before .answer .given .0 .0 in
-    ap (λ (n : ℕ). n + 4294967296 * steps) (sym (zero-add (65536 * c .before .end .given .0 .0)))
-    ∙ sym (ap packed (c .before .before .before .before .answer .given .1) ∙ ap (λ (e : End). 256 * endNumber e + 65536 * endCode e + 4294967296 * steps) (c .before .end .given .1))
+    ap (λ (n : ℕ). n + bit32 * steps) (sym (zero-add (bit16 * c .before .end .given .0 .0)))
+    ∙ sym (ap packed (c .before .before .before .before .answer .given .1) ∙ ap (λ (e : End). bit8 * endNumber e + bit16 * endCode e + bit32 * steps) (c .before .end .given .1))
 
 returns-2 : tie.Need-returns-2
 returns-2 c =
     let steps = c .before .before .before .answer .given .0 .0 in
-    sym (ap packed (c .before .before .before .answer .given .1) ∙ ap (λ (e : End). 256 * endNumber e + 65536 * endCode e + 4294967296 * steps) (c .enum-told .given .1))
+    sym (ap packed (c .before .before .before .answer .given .1) ∙ ap (λ (e : End). bit8 * endNumber e + bit16 * endCode e + bit32 * steps) (c .enum-told .given .1))
 
 returns-3 : tie.Need-returns-3
 returns-3 c =
     let steps = c .before .before .before .answer .given .0 .0 in
-    sym (ap packed (c .before .before .before .answer .given .1) ∙ ap (λ (e : End). 256 * endNumber e + 65536 * endCode e + 4294967296 * steps) (c .enum-told2 .given .1))
+    sym (ap packed (c .before .before .before .answer .given .1) ∙ ap (λ (e : End). bit8 * endNumber e + bit16 * endCode e + bit32 * steps) (c .enum-told2 .given .1))
 
 returns-4 : tie.Need-returns-4
-returns-4 c = sym (ap packed (c .before .answer2 .given .1))
+returns-4 c = c .pack-refusal .ensures ∙ sym (ap packed (c .before .before .answer2 .given .1))
 
 pub pack-spec : {M : Type 1} → statement M
 pack-spec =
@@ -91,12 +86,10 @@ pack-spec =
     enum-told
     add-result-2
     enum-told-2
+    mul-result-2
     add-result-3
     enum-known-answer-2
-    cast-result-2
-    cast-result-3
-    mul-result-2
-    add-result-4
+    pack-refusal-requires
     returns
     returns-2
     returns-3

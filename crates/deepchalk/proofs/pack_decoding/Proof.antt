@@ -1,11 +1,12 @@
 -- `deepchalk::pack_decoding` meets its contract. Assumes nothing.
-use mathlib.Core.Path.{ap, sym}
 use Rattle.deepchalk.specs.Packed.{packedDecoding}
+use mathlib.Core.Path.{ap, _∙_, sym}
 use borrow.Author.Needs.{needs}
 use Rattle.deepchalk.proofs.pack_decoding.Statement.{statement}
 use Rattle.deepchalk.proofs.pack_decoding.Tie as tie
 use Rattle.deepchalk.proofs.pack_decoding.Reads as reads
 use Rattle.deepchalk.proofs.pack_decoding.Lts as lts
+use Rattle.deepchalk.proofs.pack_refusal.Reads as pack-refusal-reads
 
 enum-known-answer : tie.Need-enum-known-answer
 enum-known-answer c = search needs
@@ -28,23 +29,14 @@ add-result c = search needs
 enum-known-answer-2 : tie.Need-enum-known-answer-2
 enum-known-answer-2 c = search needs
 
-cast-result-3 : tie.Need-cast-result-3
-cast-result-3 c = search needs
-
-cast-result-4 : tie.Need-cast-result-4
-cast-result-4 c = search needs
-
-mul-result-3 : tie.Need-mul-result-3
-mul-result-3 c = search needs
-
-add-result-2 : tie.Need-add-result-2
-add-result-2 c = search needs
+pack-refusal-requires : tie.Need-pack-refusal-requires
+pack-refusal-requires c κs = search needs
 
 returns : tie.Need-returns
 returns c = sym (ap packedDecoding (c .before .answer .given .1))
 
 returns-2 : tie.Need-returns-2
-returns-2 c = sym (ap packedDecoding (c .before .answer2 .given .1))
+returns-2 c = c .pack-refusal .ensures ∙ sym (ap packedDecoding (c .before .before .answer2 .given .1))
 
 pub pack-decoding-spec : {M : Type 1} → statement M
 pack-decoding-spec =
@@ -57,9 +49,6 @@ pack-decoding-spec =
     mul-result-2
     add-result
     enum-known-answer-2
-    cast-result-3
-    cast-result-4
-    mul-result-3
-    add-result-2
+    pack-refusal-requires
     returns
     returns-2)

@@ -1,9 +1,12 @@
 -- `deepchalk::pack_table` meets its contract. Assumes nothing.
-use mathlib.Core.Path.{ap, sym}
-use borrow.Author.Needs.{needs}
 use Rattle.deepchalk.specs.Packed.{packedTable}
+use mathlib.Core.Path.{ap, _∙_, sym}
+use borrow.Author.Needs.{needs}
 use Rattle.deepchalk.proofs.pack_table.Statement.{statement}
 use Rattle.deepchalk.proofs.pack_table.Tie as tie
+use Rattle.deepchalk.proofs.pack_table.Reads as reads
+use Rattle.deepchalk.proofs.pack_table.Lts as lts
+use Rattle.deepchalk.proofs.pack_refusal.Reads as pack-refusal-reads
 
 enum-known-answer : tie.Need-enum-known-answer
 enum-known-answer c = search needs
@@ -17,23 +20,14 @@ mul-result c = search needs
 enum-known-answer-2 : tie.Need-enum-known-answer-2
 enum-known-answer-2 c = search needs
 
-cast-result-2 : tie.Need-cast-result-2
-cast-result-2 c = search needs
-
-cast-result-3 : tie.Need-cast-result-3
-cast-result-3 c = search needs
-
-mul-result-2 : tie.Need-mul-result-2
-mul-result-2 c = search needs
-
-add-result : tie.Need-add-result
-add-result c = search needs
+pack-refusal-requires : tie.Need-pack-refusal-requires
+pack-refusal-requires c κs = search needs
 
 returns : tie.Need-returns
 returns c = sym (ap packedTable (c .before .answer .given .1))
 
 returns-2 : tie.Need-returns-2
-returns-2 c = sym (ap packedTable (c .before .answer2 .given .1))
+returns-2 c = c .pack-refusal .ensures ∙ sym (ap packedTable (c .before .before .answer2 .given .1))
 
 pub pack-table-spec : {M : Type 1} → statement M
 pack-table-spec =
@@ -43,9 +37,6 @@ pack-table-spec =
     cast-result
     mul-result
     enum-known-answer-2
-    cast-result-2
-    cast-result-3
-    mul-result-2
-    add-result
+    pack-refusal-requires
     returns
     returns-2)

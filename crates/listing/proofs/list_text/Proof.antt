@@ -1,7 +1,7 @@
 -- `listing::list_text` meets its contract. Assumes nothing.
 use Rattle.listing.specs.Texts.{listingBy, listingOf}
 use Rattle.listing.proofs.Records.{set-taken, map-taken}
-use Rattle.listing_output.specs.Outputs.{count, printed}
+use Rattle.listing_output.specs.Printed.{count, printed}
 use Rattle.listing_output.specs.Listings.{listing}
 use Rattle.text.specs.declared.ReadAnswer.{ReadAnswer}
 use Rattle.text.proofs.Answered.{read-counts}
