@@ -432,9 +432,9 @@ fn part_at(cases: &[u8], at: usize) -> Part
     }
 }
 
-// Shows how many runs of a set lead to the outcome that is asked for, if one is.
-fn show_asked(cases: &[u8], name: Part, set: Part, map: Part, asked: Part)
-    requires { ⌜ Inside (now cases) name × Inside (now cases) set × Inside (now cases) map × Inside (now cases) asked ⌝ }
+// Shows what a part of a case asks for, if it is there: how many of all runs of the set lead to an outcome, or the run of a schedule.
+fn show_part(cases: &[u8], name: Part, set: Part, map: Part, part: Part, all_runs: bool)
+    requires { ⌜ Inside (now cases) name × Inside (now cases) set × Inside (now cases) map × Inside (now cases) part ⌝ }
 {
     let name_start = name.start;
     let name_end = name.end;
@@ -442,37 +442,19 @@ fn show_asked(cases: &[u8], name: Part, set: Part, map: Part, asked: Part)
     let set_end = set.end;
     let map_start = map.start;
     let map_end = map.end;
-    let start = asked.start;
-    let end = asked.end;
-    if start < end {
-        show_litmus(
-            &cases[name_start..name_end],
-            &cases[set_start..set_end],
-            &cases[map_start..map_end],
-            &cases[start..end],
-        );
+    let start = part.start;
+    let end = part.end;
+    if end <= start {
+        return;
     }
-}
-
-// Shows a run, if there is a schedule.
-fn show_run(cases: &[u8], name: Part, set: Part, map: Part, schedule: Part)
-    requires { ⌜ Inside (now cases) name × Inside (now cases) set × Inside (now cases) map × Inside (now cases) schedule ⌝ }
-{
-    let name_start = name.start;
-    let name_end = name.end;
-    let set_start = set.start;
-    let set_end = set.end;
-    let map_start = map.start;
-    let map_end = map.end;
-    let start = schedule.start;
-    let end = schedule.end;
-    if start < end {
-        show(
-            &cases[name_start..name_end],
-            &cases[set_start..set_end],
-            &cases[map_start..map_end],
-            &cases[start..end],
-        );
+    let named = &cases[name_start..name_end];
+    let records = &cases[set_start..set_end];
+    let cells = &cases[map_start..map_end];
+    let asked = &cases[start..end];
+    if all_runs {
+        show_litmus(named, records, cells, asked);
+    } else {
+        show(named, records, cells, asked);
     }
 }
 
@@ -486,8 +468,8 @@ fn show_case(cases: &[u8], at: usize) -> usize
     let asked = part_at(cases, map.end);
     let short = part_at(cases, asked.end);
     let schedule = part_at(cases, short.end);
-    show_asked(cases, name, set, map, asked);
-    show_run(cases, short, set, map, schedule);
+    show_part(cases, name, set, map, asked, true);
+    show_part(cases, short, set, map, schedule, false);
     schedule.end
 }
 
