@@ -4,4 +4,3 @@ pub mod Groups
 pub mod Loads
 pub mod Runs
 pub mod Permitted
-pub mod Settled

@@ -3,7 +3,7 @@
 use Prim.Native.Nat.{ℕ, zero, suc, _+_, _-_, _*_, _≤_, _<_}
 use mathlib.Core.Path.{_≡_, refl, ap, ap₂, sym, _∙_, subst, subst⁻¹}
 use mathlib.Core.Bool.{Bool, true, false, cond, not, _||_}
-use mathlib.Core.List.{List, [], _∷_}
+use mathlib.Core.List.{List, [], _∷_, _++_}
 use native.Mathlib.Omega.{arith}
 use native.Mathlib.Decide.{decLt}
 use lib.Dec.{eqb, ltb}
@@ -202,6 +202,12 @@ pub length-choices : (bytes : List ℕ) → length (choices bytes) ≡ length by
 unfolding choices
 length-choices [] = refl
 length-choices (k ∷ bytes) = ap suc (length-choices bytes)
+
+-- one byte more
+pub choices-more : (bytes : List ℕ) (k : ℕ) → choices (bytes ++ (k ∷ [])) ≡ choices bytes ++ (choiceOf k ∷ [])
+unfolding choices
+choices-more [] k = refl
+choices-more (b ∷ bytes) k = ap (λ (run : List Choice). choiceOf b ∷ run) (choices-more bytes k)
 
 pub length-schedule : (run : List Choice) → length (schedule run) ≡ length run
 unfolding schedule

@@ -1,4 +1,4 @@
--- The machine of document 01: its state and one step, runs and their ends, runs over a map, and traces.
+-- The machine of document 01: its state and one step, runs and their ends, runs over a map, and traces. `Held` serves the code.
 pub mod Held
 pub mod Machine
 pub mod Maps

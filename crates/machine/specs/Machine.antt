@@ -1,5 +1,5 @@
--- The machine (document 01, "Machine"): its state, which choices are permitted, and one step. The step rule that every crate stands on.
--- Memory gives every address a word. Assumes nothing.
+-- The machine (document 01, "Machine"): its state, which choices are permitted, and one step. The step rule that every crate stands on. Memory gives
+-- every address a word. A reader of the calls believes this. Assumes nothing.
 use Prim.Native.Nat.{ℕ, suc}
 use mathlib.Core.Bool.{Bool, true, false, cond, not, _&&_, _||_}
 use mathlib.Core.List.{List, [], _∷_, _++_}
@@ -30,6 +30,7 @@ pub record State : Type 0 where
 abbrev pub fresh : Thread
 fresh = record { accu = 0; mem = 0; adr = 0; val = 0; full = false; pc = 0; halted = false }
 
+-- no mark
 abbrev pub unmarked : Mark
 unmarked = record { on = false; checkpoint = 0 }
 
@@ -39,6 +40,7 @@ start first = record { threads = λ t. fresh; marks = λ t. unmarked; memory = f
 
 -- ---- the store buffer; beside these a flush's write and the trace step name adr, val and full
 
+-- the buffer holds no store
 abbrev pub isEmpty : Thread → Bool
 isEmpty x = not (x .full)
 
@@ -60,15 +62,19 @@ flushed x = record { accu = x .accu; mem = x .mem; adr = x .adr; val = x .val; f
 
 -- ---- other registers
 
+-- the registers with accu v
 abbrev pub withAccu : ℕ → Thread → Thread
 withAccu v x = record { accu = v; mem = x .mem; adr = x .adr; val = x .val; full = x .full; pc = x .pc; halted = x .halted }
 
+-- the registers with mem v
 abbrev pub withMem : ℕ → Thread → Thread
 withMem v x = record { accu = x .accu; mem = v; adr = x .adr; val = x .val; full = x .full; pc = x .pc; halted = x .halted }
 
+-- the registers with pc p
 abbrev pub withPc : ℕ → Thread → Thread
 withPc p x = record { accu = x .accu; mem = x .mem; adr = x .adr; val = x .val; full = x .full; pc = p; halted = x .halted }
 
+-- the registers of a thread that has halted
 abbrev pub withHalt : Thread → Thread
 withHalt x = record { accu = x .accu; mem = x .mem; adr = x .adr; val = x .val; full = x .full; pc = x .pc; halted = true }
 
@@ -157,6 +163,7 @@ isCheck S t c p = eqb (S .statement t p .number) CHECK && eqb (S .statement t p 
 unfoldable pub contains : Set → ℕ → ℕ → Bool
 contains S t c = some (S .count t) (isCheck S t c)
 
+-- the mark is one at checkpoint c
 abbrev pub markedAt : Mark → ℕ → Bool
 markedAt m c = m .on && eqb (m .checkpoint) c
 
@@ -212,15 +219,18 @@ leavesMark S s (Flush t) = false
 unfoldable pub cleared : Set → (ℕ → Mark) → ℕ → Mark
 cleared S marks u = cond (marks u .on && opened S marks (marks u .checkpoint)) unmarked (marks u)
 
+-- the marks after a step
 abbrev pub marksAfter : Set → State → Choice → ℕ → Mark
 marksAfter S s c u =
     cond (leavesMark S s c && eqb u (actor c))
     (record { on = true; checkpoint = current S s (actor c) .argument })
     (cleared S (s .marks) u)
 
+-- no cell written
 abbrev pub noWrite : Written
 noWrite = record { done = false; address = 0; value = 0 }
 
+-- v written at address a
 abbrev pub wrote : (a v : ℕ) → Written
 wrote a v = record { done = true; address = a; value = v }
 
@@ -232,6 +242,7 @@ written S s (Execute t) =
     noWrite
 written S s (Flush t) = wrote (s .threads t .adr) (s .threads t .val)
 
+-- the memory once the write is made, if there is one
 abbrev pub memoryAfter : Written → (ℕ → ℕ) → ℕ → ℕ
 memoryAfter w memory a = cond (w .done && eqb (w .address) a) (w .value) (memory a)
 
@@ -244,6 +255,7 @@ exits S s (Flush t) = false
 abbrev pub allHalted : Set → (ℕ → Thread) → Bool
 allHalted S threads = every (S .threads) (λ t. threads t .halted)
 
+-- the state after a step
 unfoldable pub step : Set → State → Choice → State
 step S s c = record {
   threads = threadsAfter S s c;

@@ -1,4 +1,5 @@
--- Runs and their ends (document 01, "Machine"), and the choices that a schedule names ("Records"). Assumes nothing.
+-- Runs and their ends (document 01, "Machine"), and the choices that a schedule names ("Records"). A reader of the calls believes this. Assumes
+-- nothing.
 use Prim.Native.Nat.{ℕ, _-_}
 use mathlib.Core.Bool.{Bool, true, cond, not, _&&_, _||_}
 use mathlib.Core.List.{List, [], _∷_}
@@ -11,10 +12,15 @@ use Rattle.machine.specs.declared.Choice.the-variants.{Execute, Flush}
 use Rattle.machine.specs.declared.End.{End}
 use Rattle.machine.specs.declared.End.the-variants.{Code, Stuck, Open}
 
+-- the most steps of a schedule and of a trace
+abbrev pub mostSteps : ℕ
+mostSteps = 64
+
 -- Schedule byte: t executes thread t, 128 + t flushes it; any other byte is a choice not permitted.
 unfoldable pub choiceOf : ℕ → Choice
 choiceOf k = cond (ltb k 128) (Execute k) (Flush (k - 128))
 
+-- the choices of a schedule, byte by byte
 unfoldable pub choices : List ℕ → List Choice
 choices [] = []
 choices (k ∷ schedule) = choiceOf k ∷ choices schedule

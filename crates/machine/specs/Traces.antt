@@ -1,4 +1,4 @@
--- Trace steps and the trace of a run (document 01, "Records"). Assumes nothing.
+-- Trace steps and the trace of a run (document 01, "Records"). A reader of the calls believes this. Assumes nothing.
 use Prim.Native.Nat.{ℕ}
 use mathlib.Core.Bool.{Bool, cond}
 use mathlib.Core.List.{List, [], _∷_, _++_}
@@ -8,12 +8,13 @@ use Rattle.base.specs.Bytes.{word}
 use Rattle.records.specs.Instructions.{instructions}
 use Rattle.records.specs.Sets.{Set}
 use Rattle.records.specs.declared.Statement.{Statement}
-use Rattle.machine.specs.Machine.{State, current, actor, step, written, noWrite}
+use Rattle.machine.specs.Machine.{State, current, actor, step, written}
 use Rattle.machine.specs.declared.Choice.{Choice}
 use Rattle.machine.specs.declared.Choice.the-variants.{Execute, Flush}
 use Rattle.machine.specs.declared.Thread.{Thread}
 use Rattle.machine.specs.declared.Written.{Written}
 
+-- 1 or 0
 abbrev pub bit : Bool → ℕ
 bit b = cond b 1 0
 

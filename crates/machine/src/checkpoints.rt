@@ -22,7 +22,7 @@ fn checks(i: Statement, c: u16) -> bool
 }
 
 // Whether thread t contains CHECK c.
-pub fn contains(set: &[u8], layout: Layout, t: u8, c: u16) -> bool
+fn contains(set: &[u8], layout: Layout, t: u8, c: u16) -> bool
     ensures { λ r. ⌜ r ≡ containsOf (setBy (now (set .entry)) layout) t c ⌝ }
 {
     let n = records::count(layout, t);
@@ -49,11 +49,11 @@ fn marked_at(m: Mark, c: u16) -> bool
 }
 
 // Thread t's mark.
-fn mark_of(marks: [Mark; 4], t: u8) -> Mark
+fn mark_of(marks: [Mark; Layout::THREADS], t: u8) -> Mark
     ensures { λ r. ⌜ r ≡ getD marks t unmarked ⌝ }
 {
     let thread = t as usize;
-    if thread < 4 {
+    if thread < Layout::THREADS {
         return marks[thread];
     }
     Mark {
@@ -73,7 +73,7 @@ fn shuts(set: &[u8], layout: Layout, m: Mark, t: u8, c: u16) -> bool
 }
 
 // Whether checkpoint c is open: every thread containing CHECK c is marked there.
-pub fn opened(set: &[u8], layout: Layout, marks: [Mark; 4], c: u16) -> bool
+pub fn opened(set: &[u8], layout: Layout, marks: [Mark; Layout::THREADS], c: u16) -> bool
     ensures { λ r. ⌜ r ≡ openedOf (setBy (now (set .entry)) layout) (λ t. getD marks t unmarked) c ⌝ }
 {
     let mut t: u8 = 0;
@@ -87,7 +87,7 @@ pub fn opened(set: &[u8], layout: Layout, marks: [Mark; 4], c: u16) -> bool
 }
 
 // Whether a mark is at an open checkpoint.
-fn clears(set: &[u8], layout: Layout, marks: [Mark; 4], m: Mark) -> bool
+fn clears(set: &[u8], layout: Layout, marks: [Mark; Layout::THREADS], m: Mark) -> bool
     ensures { λ r. ⌜ r ≡ (m .on && openedOf (setBy (now (set .entry)) layout) (λ t. getD marks t unmarked) (m .checkpoint)) ⌝ }
 {
     if m.on {
@@ -100,7 +100,7 @@ fn clears(set: &[u8], layout: Layout, marks: [Mark; 4], m: Mark) -> bool
 fn clears_too(
     set: &[u8],
     layout: Layout,
-    marks: [Mark; 4],
+    marks: [Mark; Layout::THREADS],
     m: Mark,
     other: Mark,
     known: bool,
@@ -131,7 +131,7 @@ fn kept(cleared: bool, m: Mark) -> Mark
 }
 
 // The marks once those of open checkpoints are cleared.
-pub fn clear(set: &[u8], layout: Layout, marks: [Mark; 4]) -> [Mark; 4]
+pub fn clear(set: &[u8], layout: Layout, marks: [Mark; Layout::THREADS]) -> [Mark; Layout::THREADS]
     ensures { λ r. ⌜ (λ t. getD r t unmarked) ≡ clearedOf (setBy (now (set .entry)) layout) (λ t. getD marks t unmarked) ⌝ }
 {
     let a = clears(set, layout, marks, marks[0]);

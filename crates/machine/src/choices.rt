@@ -31,7 +31,7 @@ pub fn needs_empty(n: u8) -> bool
 pub fn may(
     set: &[u8],
     layout: Layout,
-    marks: [Mark; 4],
+    marks: [Mark; Layout::THREADS],
     mark: Mark,
     i: Statement,
     x: Thread,
@@ -69,7 +69,7 @@ pub fn permits(set: &[u8], layout: Layout, m: Machine, choice: Choice) -> bool
     ensures { λ r. ⌜ ((memory : ℕ → ℕ) → r ≡ (leb (layout .threads) 4 && permitted (setBy (now (set .entry)) layout) (stateOf m memory) choice)) ⌝ }
 {
     let t = actor(choice);
-    if 4 < layout.threads {
+    if Machine::THREADS < layout.threads {
         return false;
     }
     if layout.threads <= t {

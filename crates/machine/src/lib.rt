@@ -6,10 +6,9 @@ pub mod offsets;
 pub mod operands;
 pub mod registers;
 
-pub use checkpoints::contains;
 ghost use mathlib.Core.Path.{_≡_};
 ghost use Rattle.machine.specs.Machine.{fresh};
-use records::Statement;
+use records::Layout;
 
 // A thread's registers, words first: a gap between fields would be copied with them.
 pub struct Thread {
@@ -43,8 +42,8 @@ pub struct Written {
 
 // The machine apart from its memory.
 pub struct Machine {
-    pub threads: [Thread; 4],
-    pub marks: [Mark; 4],
+    pub threads: [Thread; Layout::THREADS],
+    pub marks: [Mark; Layout::THREADS],
     pub ended: bool,
     pub code: u16,
 }
@@ -64,17 +63,6 @@ pub struct Read {
     pub second: u16,
 }
 
-// What a step gave: its outcome; the statement executed, none in a flush; the acting thread's registers afterwards;
-// the filled count; what was written and read.
-pub struct Stepped {
-    pub outcome: Outcome,
-    pub statement: Statement,
-    pub thread: Thread,
-    pub filled: usize,
-    pub wrote: Written,
-    pub read: Read,
-}
-
 // How a run stands: ended with a code, stuck, or open.
 pub enum End {
     Code(u16),
@@ -89,6 +77,9 @@ pub enum RunAnswer {
 }
 
 impl Machine {
+    // Threads that it holds.
+    pub const THREADS: u8 = 4;
+
     // Steps that a schedule or a trace may have.
     pub const STEPS: usize = 64;
 

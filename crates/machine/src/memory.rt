@@ -9,6 +9,9 @@ ghost use Rattle.base.specs.Below.{some};
 ghost use Rattle.records.specs.Maps.{cellAt};
 ghost use Rattle.machine.specs.Held.{memoryIn, knownIn};
 
+// Cells that are passed over at a time.
+const GROUP: usize = 16;
+
 // A word that a statement takes: whether it is known, its value (0 where it is not), and whether it was read from its cell.
 pub struct Cell {
     pub known: bool,
@@ -44,14 +47,14 @@ fn cell_from(addresses: &[u16], from: usize, a: u16) -> usize
     i
 }
 
-// The index of the first cell at address a, or how many cells there are. Sixteen at a time are passed over.
+// The index of the first cell at address a, or how many cells there are. A group at a time is passed over.
 pub fn cell_at(addresses: &[u16], a: u16) -> usize
     ensures { λ r. ⌜ r ≡ cellAt (λ k. getD (now (addresses .entry)) k 0) (length (now (addresses .entry))) a ⌝ }
 {
     let mut i: usize = 0;
-    let mut groups = addresses.len() / 16;
+    let mut groups = addresses.len() / GROUP;
     while 0 < groups {
-        let end = i + 16;
+        let end = i + GROUP;
         if among(&addresses[i..end], a) {
             return cell_from(addresses, i, a);
         }

@@ -23,6 +23,9 @@ use records::instructions::STORE;
 use records::instructions::SUB;
 use records::instructions::SUBI;
 
+// The least word whose top bit is set.
+const TOP_BIT: u16 = 32768;
+
 // Whether the jump numbered n is taken.
 pub fn jumps(n: u8, accu: u16) -> bool
     ensures { λ r. ⌜ r ≡ jumpsOf n accu ⌝ }
@@ -31,9 +34,9 @@ pub fn jumps(n: u8, accu: u16) -> bool
         JMP => true,
         JZ => accu == 0,
         JNZ => accu != 0,
-        JS => 32768 <= accu,
-        JNS => accu < 32768,
-        JNZNS => { if accu < 32768 { accu != 0 } else { false } }
+        JS => TOP_BIT <= accu,
+        JNS => accu < TOP_BIT,
+        JNZNS => { if accu < TOP_BIT { accu != 0 } else { false } }
         _ => false,
     }
 }

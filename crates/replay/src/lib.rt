@@ -7,6 +7,7 @@ ghost use Rattle.replay.specs.Replay.{limitedTrace, replayed};
 use machine::Machine;
 use machine::RunAnswer;
 use records::Layout;
+use records::refusals;
 
 // A refusal whose place is 0.
 fn refused(number: u8) -> RunAnswer
@@ -20,16 +21,14 @@ fn accepted(set: &[u8], layout: Layout, map: &[u8], trace: &[u8]) -> RunAnswer
     requires { ⌜ (layout .threads ≤ 4) × (cells (now map) ≤ 256) ⌝ }
     ensures { λ r. ⌜ r ≡ limitedTrace (setBy (now (set .entry)) layout) (now (map .entry)) (now (trace .entry)) ⌝ }
 {
-    let whole = trace.len() % 24;
+    let whole = trace.len() % Machine::STEP;
     if whole != 0 {
-        return refused(17);
+        return refused(refusals::LENGTH);
     }
-    if Machine::STEPS < trace.len() / 24 {
-        return refused(17);
+    if Machine::STEPS < trace.len() / Machine::STEP {
+        return refused(refusals::LENGTH);
     }
-    // Replay has no output: the bytes of its steps fit nowhere.
-    let mut nowhere = [0u8; 1];
-    step::walk(set, layout, map, true, trace, &mut nowhere)
+    step::retrace(set, layout, map, trace)
 }
 
 // Replays a trace over a set and a map.
@@ -38,10 +37,10 @@ pub fn replay(set: &[u8], map: &[u8], trace: &[u8]) -> RunAnswer
 {
     let layout = records::set::layout(set);
     if layout.threads == 0 {
-        return refused(9);
+        return refused(refusals::RECORDS);
     }
-    if records::map::map_accepted(map, 256) {
+    if records::map::map_accepted(map, Machine::MAP_CELLS) {
         return accepted(set, layout, map, trace);
     }
-    refused(9)
+    refused(refusals::RECORDS)
 }

@@ -6,7 +6,7 @@ use native.Mathlib.Omega.{arith}
 use lib.ListN.{length, take}
 use Rattle.base.specs.Bytes.{placed}
 use Rattle.base.proofs.Bytes.{placed-over, over-none}
-use Rattle.step.specs.Walks.{Begins}
+use Rattle.step.specs.Runs.{Begins}
 use Rattle.simulation.specs.Simulation.{bytesOut, outputOver}
 use Rattle.machine.specs.declared.RunAnswer.{RunAnswer}
 use Rattle.machine.specs.declared.RunAnswer.the-variants.{Ran, Refused}

@@ -1,30 +1,31 @@
--- Simulation by a given schedule (document 01): its answer for every input, and the lent output afterwards. Assumes nothing.
+-- Simulation by a given schedule (document 01): its answer for every input, and the lent output afterwards. A reader of the calls believes this.
+-- Assumes nothing.
 use Prim.Native.Nat.{ℕ, _*_}
-use mathlib.Core.Bool.{Bool, cond, _&&_}
+use mathlib.Core.Bool.{cond, _&&_}
 use mathlib.Core.List.{List}
 use lib.Dec.{ltb}
 use lib.ListN.{length}
 use Rattle.base.specs.Bytes.{over}
-use Rattle.records.specs.Maps.{mapAccepted, mapValue}
+use Rattle.records.specs.Maps.{mapAccepted, mapValue, runCells}
 use Rattle.records.specs.Sets.{Set, setOf, setAccepted}
 use Rattle.machine.specs.Machine.{start, noWrite}
 use Rattle.machine.specs.Maps.{begin, follow}
-use Rattle.machine.specs.Runs.{choices}
-use Rattle.machine.specs.Traces.{trace}
+use Rattle.machine.specs.Runs.{choices, mostSteps}
+use Rattle.machine.specs.Traces.{stepLength, trace}
 use Rattle.machine.specs.declared.RunAnswer.{RunAnswer}
 use Rattle.machine.specs.declared.RunAnswer.the-variants.{Ran, Refused}
 
 -- 17, a schedule above 64 steps; 11, an output below 24 bytes a step; then the steps: 12 and 14 in each.
 unfoldable pub limited : Set → (map schedule : List ℕ) (room : ℕ) → RunAnswer
 limited S map schedule room =
-    cond (ltb 64 (length schedule)) (Refused 17 0)
-    (cond (ltb room (24 * length schedule)) (Refused 11 0)
+    cond (ltb mostSteps (length schedule)) (Refused 17 0)
+    (cond (ltb room (stepLength * length schedule)) (Refused 11 0)
     (follow S (begin map) 0 (choices schedule)))
 
 -- 9 comes first.
 unfoldable pub simulated : (set map schedule : List ℕ) (room : ℕ) → RunAnswer
 simulated set map schedule room =
-    cond (setAccepted set && mapAccepted 256 map) (limited (setOf set) map schedule room) (Refused 9 0)
+    cond (setAccepted set && mapAccepted runCells map) (limited (setOf set) map schedule room) (Refused 9 0)
 
 -- the trace of the schedule's run over the map
 unfoldable pub scheduleTrace : (set map schedule : List ℕ) → List ℕ
@@ -35,6 +36,7 @@ abbrev pub outputOver : RunAnswer → (trace out : List ℕ) → List ℕ
 outputOver (Ran steps end) trace out = over trace out
 outputOver (Refused number place) trace out = out
 
+-- the output after an answer to a call
 abbrev pub traceOutput : RunAnswer → (set map schedule out : List ℕ) → List ℕ
 traceOutput answer set map schedule out = outputOver answer (scheduleTrace set map schedule) out
 

@@ -11,6 +11,7 @@ ghost use Rattle.simulation.specs.Simulation.{limited, outputOver, simul
 use machine::Machine;
 use machine::RunAnswer;
 use records::Layout;
+use records::refusals;
 
 // How many of a run's bytes are written to the output: none where it is refused.
 fn bytes_out(answer: RunAnswer, bytes: usize) -> usize
@@ -34,20 +35,20 @@ fn accepted(set: &[u8], layout: Layout, map: &[u8], schedule: &[u8], trace: &mut
     let n = schedule.len();
     if Machine::STEPS < n {
         return RunAnswer::Refused {
-            number: 17,
+            number: refusals::LENGTH,
             place: 0,
         };
     }
-    if trace.len() < 24 * n {
+    if trace.len() < Machine::STEP * n {
         return RunAnswer::Refused {
-            number: 11,
+            number: refusals::ROOM,
             place: 0,
         };
     }
     // The run is judged before a byte goes to the output.
-    let mut bytes = [0u8; 1536];
-    let answer = step::walk(set, layout, map, false, schedule, &mut bytes);
-    let size = bytes_out(answer, 24 * n);
+    let mut bytes = [0u8; Machine::TRACE];
+    let answer = step::follow(set, layout, map, schedule, &mut bytes);
+    let size = bytes_out(answer, Machine::STEP * n);
     base::place(trace, 0, &bytes[..size]);
     answer
 }
@@ -60,15 +61,15 @@ pub fn simulate(set: &[u8], map: &[u8], schedule: &[u8], trace: &mut [u8]) -> Ru
     let layout = records::set::layout(set);
     if layout.threads == 0 {
         return RunAnswer::Refused {
-            number: 9,
+            number: refusals::RECORDS,
             place: 0,
         };
     }
-    if records::map::map_accepted(map, 256) {
+    if records::map::map_accepted(map, Machine::MAP_CELLS) {
         return accepted(set, layout, map, schedule, trace);
     }
     RunAnswer::Refused {
-        number: 9,
+        number: refusals::RECORDS,
         place: 0,
     }
 }

@@ -1,5 +1,5 @@
 -- One turn of the loop: what the definitions say of the next step, and what the step's answer makes of the machine. Assumes nothing.
-use Prim.Native.Nat.{ℕ, zero, suc, _+_, _-_, _*_, _/_, _%_, _≤_, _<_}
+use Prim.Native.Nat.{ℕ, zero, suc, _+_, _-_, _*_, _%_, _≤_, _<_}
 use mathlib.Core.Path.{_≡_, refl, ap, ap₂, sym, subst, subst⁻¹, _∙_}
 use mathlib.Core.Bool.{Bool, true, false, cond, not, _&&_, _||_}
 use mathlib.Core.List.{List, [], _∷_, _++_, append-assoc}
@@ -7,10 +7,10 @@ use native.Mathlib.Numerals.{add-one}
 use native.Mathlib.Omega.{arith}
 use borrow.Author.Tests.{le-leb, lt-ltb, ltb-true, eqb-true}
 use lib.Dec.{eqb, leb, ltb}
-use lib.ListN.{length, getD, set, take, drop, drop-of-length-le}
+use lib.ListN.{length, getD, set, take, drop}
 use lib.Seq.{drop-cons, take-at, take-nil, length-take-le}
 use Rattle.base.specs.Below.{every}
-use Rattle.base.specs.Bytes.{placed}
+use Rattle.base.specs.Bytes.{placed, same}
 use Rattle.base.proofs.Bytes.{take-placed}
 use Rattle.base.proofs.Choice.{chosen, passed, and-true}
 use Rattle.records.specs.Instructions.{EXIT}
@@ -20,8 +20,10 @@ use Rattle.records.specs.declared.Layout.{Layout}
 use Rattle.records.specs.declared.Statement.{Statement}
 use Rattle.machine.proofs.Four.{stored}
 use Rattle.machine.proofs.Runs.{length-traceStep, takes-actor, taken-takes}
-use Rattle.machine.proofs.Settled.{outcome-by, written-by, shown-by, stateBy, stepped, quiet-state}
-use Rattle.machine.specs.Held.{stateOf, memoryOf, knownOf, heldOf, canStep, waits, statementBy, threadBy, writtenBy, outcomeBy, quiet, marksSettled, threadsSettled, onTaken, Advances}
+use Rattle.step.proofs.Settled.{outcome-by, written-by, shown-by, stateBy, stepped, quiet-state}
+use Rattle.machine.specs.Held.{stateOf, memoryOf, knownOf, heldOf}
+use Rattle.step.specs.Acting.{canStep, waits, statementBy, threadBy, writtenBy, outcomeBy, quiet, marksSettled, threadsSettled, Advances}
+use Rattle.step.specs.Step.{onTaken}
 use Rattle.machine.specs.Machine.{State, fresh, unmarked, actor, start, step, written, noWrite, memoryAfter, reads}
 use Rattle.machine.specs.Maps.{Held, begin, outcome, advanced, knowsAll, knownAfter, onOutcome, follow}
 use Rattle.machine.specs.Runs.{choiceOf, choices, takes, somePermitted, endOf}
@@ -33,12 +35,13 @@ use Rattle.machine.specs.declared.Machine.{Machine}
 use Rattle.machine.specs.declared.Mark.{Mark}
 use Rattle.machine.specs.declared.Outcome.{Outcome}
 use Rattle.machine.specs.declared.Outcome.the-variants.{Taken, NotPermitted, Lacking}
-use Rattle.machine.specs.declared.Stepped.{Stepped}
+use Rattle.step.specs.declared.acting.Stepped.{Stepped}
 use Rattle.machine.specs.declared.Thread.{Thread}
 use Rattle.machine.specs.declared.Written.{Written}
 use Rattle.machine.specs.declared.End.the-variants.{Code, Stuck, Open}
 use Rattle.step.specs.Ends.{endFor}
-use Rattle.step.specs.Walks.{stepsOf, made, agrees, stepRefusal, onRefusal, walked, walkedOver, Begins}
+use Rattle.step.specs.Runs.{Begins}
+use Rattle.step.specs.Walks.{made, agrees, stepRefusal, onRefusal, walked}
 
 -- ---- refusals
 
@@ -285,35 +288,6 @@ module _ (S : Set) (schedule : List ℕ) (i : ℕ) (l : i < length schedule) (c 
       ∙ sym (append-assoc (take (24 * i) bytes) (traceStep S s w c) _)
       ∙ ap (λ (t : List ℕ). t ++ trace S (step S s c) (written S s c) (choices (drop (i + 1) schedule)))
       (sym (take-placed bytes (24 * i) (traceStep S s w c) (omega arith)) ∙ ap (λ (k : ℕ). take k (placed bytes (24 * i) (traceStep S s w c))) m)
-
--- ---- a whole schedule
-
-agreed-outcome : (o : Outcome) (i : ℕ) (r : RunAnswer) → onRefusal (stepRefusal o true) i r ≡ onOutcome o i r
-agreed-outcome Taken i r = refl
-agreed-outcome NotPermitted i r = refl
-agreed-outcome Lacking i r = refl
-
--- the loop over a schedule follows its choices
-pub walked-follow : (S : Set) (schedule : List ℕ) (h : Held) (w : Written) (i n : ℕ) → i + n ≡ length schedule →
-    walked S false schedule h w i n ≡ follow S h i (choices (drop i schedule))
-unfolding walked follow choices
-walked-follow S schedule h w i zero e =
-    let l : length schedule ≤ i = omega arith in
-    sym (ap (λ (ks : List ℕ). follow S h i (choices ks)) (drop-of-length-le schedule l))
-walked-follow S schedule h w i (suc n) e =
-    let c = choiceOf (getD schedule i 0) in
-    let l : i < length schedule = omega arith in
-    let p : suc i + n ≡ length schedule = omega arith in
-    agreed-outcome (outcome S h c) i (walked S false schedule (advanced S h c) (written S (h .state) c) (suc i) n)
-    ∙ ap (onOutcome (outcome S h c) i) (walked-follow S schedule (advanced S h c) (written S (h .state) c) (suc i) n p ∙ ap (λ (k : ℕ). follow S (advanced S h c) k (choices (drop k schedule))) (sym (add-one i)))
-    ∙ sym (follow-next S schedule i l c refl h)
-
--- within the limits the loop runs
-pub runs-over : (S : Set) (map : List ℕ) (replaying : Bool) (input : List ℕ) (room : ℕ) → S .threads ≤ 4 → cells map ≤ 256 → stepsOf replaying (length input) ≤ 64 →
-    (replaying || leb (stepsOf replaying (length input)) (room / 24)) ≡ true →
-    walkedOver S map replaying input room ≡ walked S replaying input (begin map) noWrite 0 (stepsOf replaying (length input))
-unfolding walkedOver
-runs-over S map replaying input room p q r t = chosen _ _ (and-true (and-true (and-true (le-leb _ _ p) (le-leb (cells map) 256 q)) (le-leb _ _ r)) t)
 
 -- ---- the start over a map
 

@@ -1,4 +1,5 @@
--- The end of a run on any layout; more than four threads are never permitted a choice. Assumes nothing.
+-- The end of a run on any layout; more than four threads are never permitted a choice. This serves the code; no call's promise needs it. Assumes
+-- nothing.
 use mathlib.Core.Bool.{cond, _&&_}
 use lib.Dec.{leb}
 use Rattle.records.specs.Sets.{Set}

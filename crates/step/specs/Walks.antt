@@ -1,37 +1,36 @@
--- A run by a schedule or along a trace, as one loop makes both. Assumes nothing.
+-- A run by a schedule or along a trace, as one loop makes both. This serves the code; no call's promise needs it. Assumes nothing.
 use Prim.Native.Nat.{ℕ, zero, suc, _*_, _/_}
-use mathlib.Core.Path.{_≡_}
 use mathlib.Core.Bool.{Bool, true, cond, _&&_, _||_}
 use mathlib.Core.List.{List, []}
-use lib.Dec.{eqb, leb}
+use lib.Dec.{leb}
 use lib.ListN.{length, getD, take, drop}
 use Rattle.base.specs.Bytes.{same}
-use Rattle.records.specs.Maps.{cells}
 use Rattle.records.specs.Sets.{Set}
 use Rattle.machine.specs.Machine.{State, written, noWrite}
 use Rattle.machine.specs.Maps.{Held, begin, outcome, advanced}
 use Rattle.machine.specs.Runs.{choiceOf, choices, endOf}
-use Rattle.machine.specs.Traces.{traceStep, trace, stepChoice}
+use Rattle.machine.specs.Traces.{stepLength, traceStep, trace, stepChoice}
 use Rattle.machine.specs.declared.RunAnswer.{RunAnswer}
 use Rattle.machine.specs.declared.RunAnswer.the-variants.{Ran, Refused}
 use Rattle.machine.specs.declared.Choice.{Choice}
 use Rattle.machine.specs.declared.Outcome.{Outcome}
 use Rattle.machine.specs.declared.Outcome.the-variants.{Taken, NotPermitted, Lacking}
 use Rattle.machine.specs.declared.Written.{Written}
+use Rattle.step.specs.Runs.{limits}
 
 -- ---- the input: a trace where it is replayed, else a schedule
 
 -- how many steps an input of this length has
 abbrev pub stepsOf : Bool → ℕ → ℕ
-stepsOf replaying n = cond replaying (n / 24) n
+stepsOf replaying n = cond replaying (n / stepLength) n
 
 -- the choice of step i
 abbrev pub made : Bool → List ℕ → ℕ → Choice
-made replaying input i = cond replaying (stepChoice (drop (24 * i) input)) (choiceOf (getD input i 0))
+made replaying input i = cond replaying (stepChoice (drop (stepLength * i) input)) (choiceOf (getD input i 0))
 
 -- step i of a trace has these bytes; a schedule says nothing of them
 abbrev pub agrees : Bool → List ℕ → ℕ → List ℕ → Bool
-agrees replaying input i bytes = cond replaying (same (take 24 (drop (24 * i) input)) bytes) true
+agrees replaying input i bytes = cond replaying (same (take stepLength (drop (stepLength * i) input)) bytes) true
 
 -- ---- the steps
 
@@ -56,26 +55,17 @@ walked S replaying input h w i (suc k) =
 
 -- ---- the call
 
--- at most 4 threads, 256 cells and 64 steps, and room for a schedule's trace
-abbrev pub within : Set → Bool → (cells count room : ℕ) → Bool
-within S replaying cells count room = leb (S .threads) 4 && leb cells 256 && leb count 64 && (replaying || leb count (room / 24))
+-- within the limits, with room for a schedule's trace
+abbrev pub within : Set → (map : List ℕ) → Bool → (count room : ℕ) → Bool
+within S map replaying count room = limits S map count && (replaying || leb count (room / stepLength))
 
 -- from the start over a map; 17 past the limits
 unfoldable pub walkedOver : Set → (map : List ℕ) → Bool → (input : List ℕ) (room : ℕ) → RunAnswer
 walkedOver S map replaying input room =
-    cond (within S replaying (cells map) (stepsOf replaying (length input)) room)
+    cond (within S map replaying (stepsOf replaying (length input)) room)
     (walked S replaying input (begin map) noWrite 0 (stepsOf replaying (length input)))
     (Refused 17 0)
 
 -- the trace that a schedule gives from a state; none is asked where one is replayed
 abbrev pub traced : Set → Bool → State → List ℕ → List ℕ
 traced S replaying s input = cond replaying [] (trace S s noWrite (choices input))
-
--- what an answer leaves of a trace: all of it where it ran, and the records up to a step that lacks a first cell
-abbrev pub shownBy : RunAnswer → List ℕ → List ℕ
-shownBy (Ran steps end) trace = trace
-shownBy (Refused number place) trace = cond (eqb number 14) (take (24 * suc place) trace) []
-
--- bytes begin with it
-abbrev pub Begins : RunAnswer → (trace bytes : List ℕ) → Type 0
-Begins answer trace bytes = take (length (shownBy answer trace)) bytes ≡ shownBy answer trace

@@ -7,15 +7,16 @@ ghost use lib.Dec.{eqb, ltb};
 ghost use lib.ListN.{length, getD};
 ghost use Rattle.base.specs.Below.{every};
 ghost use Rattle.records.specs.Instructions.{CAS as cas, EXIT as exit};
-ghost use Rattle.records.specs.Sets.{setBy};
-ghost use Rattle.machine.specs.Held.{noRead, memoryOf, memoryIn, knownOf, knownIn, marksSettled, quiet as quietOf, canStep, waits, cellsOf, threadBy, threadFrom, statementBy, writtenBy, readsBy, notTaken, Advances};
-ghost use Rattle.machine.specs.Machine.{fresh, unmarked, row as rowOf, nextPc, withPc, memoryAfter, wrote as wroteOf, address, cellsRead, executed as executedOf, casMatches, noWrite, flushed};
+ghost use Rattle.records.specs.Sets.{Set, setBy};
+ghost use Rattle.machine.specs.Held.{noRead, memoryOf, memoryIn, knownOf, knownIn, cellsOf};
+ghost use Rattle.step.specs.Acting.{marksSettled, quiet as quietOf, canStep, waits, threadBy, threadFrom, PcFits, Operands, statementBy, writtenBy, readsBy, notTaken, Advances};
+ghost use Rattle.machine.specs.Machine.{State, actor, acted as actedOf, fresh, unmarked, row as rowOf, nextPc, withPc, memoryAfter, wrote as wroteOf, address, cellsRead, executed as executedOf, casMatches, noWrite, flushed};
 ghost use Rattle.machine.specs.Maps.{knowsAll, knownAfter};
 use machine::Choice;
+use machine::Machine;
 use machine::Mark;
 use machine::Outcome;
 use machine::Read;
-use machine::Stepped;
 use machine::Thread;
 use machine::Written;
 use machine::checkpoints;
@@ -31,9 +32,20 @@ use records::instructions::CHECK;
 use records::instructions::EXIT;
 use records::instructions::HALT;
 
+// What a step gave: its outcome; the statement executed, none in a flush; the acting thread's registers afterwards;
+// the filled count; what was written and read.
+pub struct Stepped {
+    pub outcome: Outcome,
+    pub statement: Statement,
+    pub thread: Thread,
+    pub filled: usize,
+    pub wrote: Written,
+    pub read: Read,
+}
+
 // The pc after a statement.
 fn next_pc(i: Statement, x: Thread) -> u16
-    requires { ⌜ (i .number < 20 → x .pc < 65535) ⌝ }
+    requires { ⌜ PcFits i x ⌝ }
     ensures { λ r. ⌜ r ≡ nextPc i x ⌝ }
 {
     if Statement::INSTRUCTIONS <= i.number {
@@ -53,7 +65,7 @@ fn next_pc(i: Statement, x: Thread) -> u16
 
 // The registers after a statement.
 fn executed(i: Statement, o: Operand, x: Thread) -> Thread
-    requires { ⌜ (i .number < 20 → x .pc < 65535) ⌝ }
+    requires { ⌜ PcFits i x ⌝ }
     ensures { λ r. ⌜ r ≡ withPc (nextPc i x) (rowOf (i .number) (i .argument) (o .address) (o .word) x) ⌝ }
 {
     let pc = next_pc(i, x);
@@ -76,7 +88,7 @@ fn all_halted(n: u8, first: bool, second: bool, third: bool, fourth: bool) -> bo
 }
 
 // Whether the machine has ended after statement i, which left these threads.
-pub fn ended_after(n: u8, threads: [Thread; 4], i: Statement, ended: bool) -> bool
+pub fn ended_after(n: u8, threads: [Thread; Layout::THREADS], i: Statement, ended: bool) -> bool
     ensures { λ r. ⌜ r ≡ (ended || eqb (i .number) exit || every n (λ t. getD threads t fresh .halted)) ⌝ }
 {
     let halted = all_halted(
@@ -91,7 +103,7 @@ pub fn ended_after(n: u8, threads: [Thread; 4], i: Statement, ended: bool) -> bo
 
 // Whether a taken step changes neither marks nor end: no thread is marked, and its statement i with the registers y afterwards
 // neither checks, exits nor halts.
-pub fn quiet(marks: [Mark; 4], i: Statement, y: Thread) -> bool
+pub fn quiet(marks: [Mark; Layout::THREADS], i: Statement, y: Thread) -> bool
     ensures { λ r. ⌜ r ≡ quietOf (λ t. getD marks t unmarked) i y ⌝ }
 {
     let marked = marks[0].on | marks[1].on | marks[2].on | marks[3].on;
@@ -109,7 +121,13 @@ pub fn code_after(i: Statement, code: u16) -> u16
 }
 
 // The marks after statement i of thread t, one of four: open checkpoints' are cleared, and a CHECK of one that is not open leaves its own.
-fn marks_settled(set: &[u8], layout: Layout, marks: [Mark; 4], t: u8, i: Statement) -> [Mark; 4]
+fn marks_settled(
+    set: &[u8],
+    layout: Layout,
+    marks: [Mark; Layout::THREADS],
+    t: u8,
+    i: Statement,
+) -> [Mark; Layout::THREADS]
     requires { ⌜ t < 4 ⌝ }
     ensures { λ r. ⌜ (λ u. getD r u unmarked) ≡ marksSettled (setBy (now (set .entry)) layout) (λ v. getD marks v unmarked) t i ⌝ }
 {
@@ -128,10 +146,16 @@ fn marks_settled(set: &[u8], layout: Layout, marks: [Mark; 4], t: u8, i: Stateme
 }
 
 // The marks after statement i of thread t; as they were where it is not one of four.
-pub fn marks_after(set: &[u8], layout: Layout, marks: [Mark; 4], t: u8, i: Statement) -> [Mark; 4]
+pub fn marks_after(
+    set: &[u8],
+    layout: Layout,
+    marks: [Mark; Layout::THREADS],
+    t: u8,
+    i: Statement,
+) -> [Mark; Layout::THREADS]
     ensures { λ r. ⌜ (λ u. getD r u unmarked) ≡ cond (ltb t 4) (marksSettled (setBy (now (set .entry)) layout) (λ v. getD marks v unmarked) t i) (λ v. getD marks v unmarked) ⌝ }
 {
-    if t < 4 {
+    if t < Machine::THREADS {
         return marks_settled(set, layout, marks, t, i);
     }
     marks
@@ -187,7 +211,7 @@ pub struct Effect {
 
 // The registers after a choice.
 fn acted(x: Thread, choice: Choice, i: Statement, o: Operand) -> Thread
-    requires { ⌜ (i .number < 20 → x .pc < 65535) ⌝ }
+    requires { ⌜ PcFits i x ⌝ }
     ensures { λ r. ⌜ r ≡ threadFrom choice i (o .address) (o .word) x ⌝ }
 {
     match choice {
@@ -196,18 +220,18 @@ fn acted(x: Thread, choice: Choice, i: Statement, o: Operand) -> Thread
     }
 }
 
-// Updates the acting thread's registers by its choice.
+// Updates the acting thread's registers: to those after the machine's step, in every state where it has these registers and takes this operand.
 fn update(x: &mut Thread, choice: Choice, i: Statement, o: Operand)
-    requires { ⌜ (i .number < 20 → now x .pc < 65535) ⌝ }
-    ensures { λ _. ⌜ now (x .exit) ≡ threadFrom choice i (o .address) (o .word) (now (x .entry)) ⌝ }
+    requires { ⌜ PcFits i (now x) ⌝ }
+    ensures { λ _. ⌜ ((S : Set) (s : State) → now (x .entry) ≡ s .threads (actor choice) → Operands S s choice i (o .address) (o .word) → now (x .exit) ≡ actedOf S s choice) ⌝ }
 {
     *x = acted(*x, choice, i, o);
 }
 
 // A copy of the acting thread's registers, lent to `update`: a thread is not lent out of the array of a machine.
 fn updated(x: Thread, choice: Choice, i: Statement, o: Operand) -> Thread
-    requires { ⌜ (i .number < 20 → x .pc < 65535) ⌝ }
-    ensures { λ y. ⌜ y ≡ threadFrom choice i (o .address) (o .word) x ⌝ }
+    requires { ⌜ PcFits i x ⌝ }
+    ensures { λ y. ⌜ ((S : Set) (s : State) → x ≡ s .threads (actor choice) → Operands S s choice i (o .address) (o .word) → y ≡ actedOf S s choice) ⌝ }
 {
     let mut y = x;
     update(&mut y, choice, i, o);
@@ -216,7 +240,7 @@ fn updated(x: Thread, choice: Choice, i: Statement, o: Operand) -> Thread
 
 // What thread t's executing of statement i does.
 fn executing(t: u8, i: Statement, x: Thread, addresses: &[u16], values: &[u16]) -> Effect
-    requires { ⌜ (i .number < 20 → x .pc < 65535) ⌝ }
+    requires { ⌜ PcFits i x ⌝ }
     ensures { λ r. ⌜ (r .known ≡ knowsAll (knownIn (now (addresses .entry))) (cellsRead i x (memoryIn (now (addresses .entry)) (now (values .entry)))))
         × (r .thread ≡ executedOf i (memoryIn (now (addresses .entry)) (now (values .entry))) x)
         × (r .wrote ≡ cond (casMatches i x (memoryIn (now (addresses .entry)) (now (values .entry)))) (wroteOf (address i x (memoryIn (now (addresses .entry)) (now (values .entry)))) (x .accu)) noWrite)
@@ -247,7 +271,7 @@ fn executing(t: u8, i: Statement, x: Thread, addresses: &[u16], values: &[u16]) 
 
 // What thread t's flushing does; it takes nothing.
 fn flushing(t: u8, i: Statement, x: Thread) -> Effect
-    requires { ⌜ (i .number < 20 → x .pc < 65535) ⌝ }
+    requires { ⌜ PcFits i x ⌝ }
     ensures { λ r. ⌜ (r .known ≡ true) × (r .thread ≡ flushed x) × (r .wrote ≡ wroteOf (x .adr) (x .val)) × (r .read ≡ noRead) ⌝ }
 {
     let o = operands::none();
@@ -268,7 +292,7 @@ fn flushing(t: u8, i: Statement, x: Thread) -> Effect
 
 // What a choice does.
 fn effect_of(choice: Choice, i: Statement, x: Thread, addresses: &[u16], values: &[u16]) -> Effect
-    requires { ⌜ (i .number < 20 → x .pc < 65535) ⌝ }
+    requires { ⌜ PcFits i x ⌝ }
     ensures { λ r. ⌜ (r .known ≡ knowsAll (knownIn (now (addresses .entry))) (readsBy choice i x (memoryIn (now (addresses .entry)) (now (values .entry)))))
         × (r .thread ≡ threadBy choice i x (memoryIn (now (addresses .entry)) (now (values .entry))))
         × (r .wrote ≡ writtenBy choice i x (memoryIn (now (addresses .entry)) (now (values .entry))))
@@ -325,7 +349,7 @@ fn not_taken(outcome: Outcome, statement: Statement, filled: usize) -> Stepped
 pub fn advance(
     set: &[u8],
     layout: Layout,
-    marks: [Mark; 4],
+    marks: [Mark; Layout::THREADS],
     mark: Mark,
     ended: bool,
     x: Thread,

@@ -3,15 +3,11 @@ use denote.Ref.{now}
 use lib.ListN.{length}
 use lib.Dec.{eqb, leb}
 use Prim.Native.Nat.{_/_, _%_}
-use mathlib.Core.Path.{refl, sym, _∙_}
-use mathlib.Core.Bool.{true}
+use mathlib.Core.Path.{sym, _∙_}
 use borrow.Author.Needs.{needs}
 use borrow.Author.Tests.{eq-eqb, ne-eqb, le-leb, lt-leb}
 use Rattle.replay.specs.Replay.{limitedTrace}
-use Rattle.replay.proofs.Judged.{walked-retrace}
-use Rattle.machine.specs.Maps.{begin}
-use Rattle.machine.specs.Machine.{noWrite}
-use Rattle.step.proofs.Steps.{runs-over}
+use Rattle.step.proofs.Runs.{retraced-within}
 use Rattle.records.specs.Sets.{setBy}
 use Rattle.base.proofs.Choice.{chosen, passed, and-true, and-false, and-right-false}
 use Rattle.replay.proofs.accepted.Statement.{statement}
@@ -19,7 +15,7 @@ use Rattle.replay.proofs.accepted.Tie as tie
 use Rattle.replay.proofs.accepted.Reads as reads
 use Rattle.replay.proofs.accepted.Lts as lts
 use Rattle.replay.proofs.refused.Reads as refused-reads
-use Rattle.step.proofs.walk.Reads as walk-reads
+use Rattle.step.proofs.retrace.Reads as retrace-reads
 
 refused-requires : tie.Need-refused-requires
 refused-requires c κs = search needs
@@ -39,24 +35,19 @@ returns-2 c =
     let t = now (c .before .before .before .before .before .before .args .trace) in
     c .refused2 .ensures ∙ sym (passed _ _ (and-right-false (eqb (length t % 24) 0) (lt-leb _ _ (c .before .if2 .taken))))
 
-slice-aggregate-walk : tie.Need-slice-aggregate-walk
-slice-aggregate-walk c = search needs
-
-walk-requires : tie.Need-walk-requires
-walk-requires c κs = search needs
+retrace-requires : tie.Need-retrace-requires
+retrace-requires c κs = search needs
 
 returns-3 : tie.Need-returns-3
 unfolding limitedTrace
 returns-3 c =
-    let w = c .before in
-    let s = w .before .before .before .before .before .before .before in
+    let w = c in
+    let s = w .before .before .before .before .before .before in
     let a = s .args in
     let S = setBy (now (a .set)) (a .layout) in
-    let few = w .before .before .if2 .left in
-    w .walk .ensures .0
-    ∙ runs-over S (now (a .map)) true (now (a .trace)) _ (s .pre .0) (s .pre .1) few refl
-    ∙ walked-retrace S (now (a .trace)) (begin (now (a .map))) noWrite 0 (length (now (a .trace)) / 24)
-    ∙ sym (chosen _ _ (and-true (eq-eqb _ _ (w .before .before .before .if1 .left)) (le-leb _ _ few)))
+    let few = w .before .if2 .left in
+    w .retrace .ensures ∙ retraced-within S (now (a .map)) (s .pre .0) (s .pre .1) (now (a .trace)) few
+    ∙ sym (chosen _ _ (and-true (eq-eqb _ _ (w .before .before .if1 .left)) (le-leb _ _ few)))
 
 pub accepted-spec : {M : Type 1} → statement M
 accepted-spec =
@@ -66,6 +57,5 @@ accepted-spec =
     returns
     refused-requires-2
     returns-2
-    slice-aggregate-walk
-    walk-requires
+    retrace-requires
     returns-3)

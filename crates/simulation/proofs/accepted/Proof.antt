@@ -5,18 +5,16 @@ use lib.ListN.{length, take}
 use Prim.Native.Nat.{ℕ, _*_, _≤_}
 use native.Mathlib.Omega.{arith}
 use mathlib.Core.Path.{_≡_, refl, sym, ap, _∙_}
-use mathlib.Core.Bool.{false}
 use mathlib.Core.List.{List}
 use borrow.Author.Needs.{needs}
-use borrow.Author.Tests.{lt-ltb, le-ltb, le-leb}
+use borrow.Author.Tests.{lt-ltb, le-ltb}
 use Rattle.simulation.proofs.Written.{out-most, put-out}
 use Rattle.simulation.specs.Simulation.{limited}
 use Rattle.machine.specs.Traces.{trace}
 use Rattle.machine.specs.Runs.{choices}
-use Rattle.machine.specs.Maps.{begin}
 use Rattle.machine.specs.Machine.{start, noWrite}
 use Rattle.machine.proofs.Runs.{length-trace, length-choices}
-use Rattle.step.proofs.Steps.{runs-over, walked-follow}
+use Rattle.step.proofs.Runs.{followed-within}
 use Rattle.records.specs.Sets.{Set, setBy}
 use Rattle.records.specs.Maps.{mapValue}
 use Rattle.base.proofs.Choice.{chosen, passed}
@@ -26,47 +24,49 @@ use Rattle.simulation.proofs.accepted.Tie as tie
 use Rattle.simulation.proofs.accepted.Reads as reads
 use Rattle.simulation.proofs.accepted.Lts as lts
 use Rattle.base.proofs.place.Reads as place-reads
-use Rattle.step.proofs.walk.Reads as walk-reads
+use Rattle.step.proofs.follow.Reads as follow-reads
 use Rattle.simulation.proofs.bytes_out.Reads as bytes-out-reads
 
 -- ---- after the run
 
-abbrev set-of : tie.After-walk → Set
-set-of r = setBy (now (r .before .before .before .before .before .before .before .before .args .set)) (r .before .before .before .before .before .before .before .before .args .layout)
+abbrev start-of : tie.After-follow → tie.Start
+start-of r = r .before .before .before .before .before .before .before .before
 
-abbrev map-of : tie.After-walk → List ℕ
-map-of r = now (r .before .before .before .before .before .before .before .before .args .map)
+abbrev set-of : tie.After-follow → Set
+set-of r = setBy (now (start-of r .args .set)) (start-of r .args .layout)
 
-abbrev schedule-of : tie.After-walk → List ℕ
-schedule-of r = now (r .before .before .before .before .before .before .before .before .args .schedule)
+abbrev map-of : tie.After-follow → List ℕ
+map-of r = now (start-of r .args .map)
 
-abbrev out-of : tie.After-walk → List ℕ
-out-of r = now (r .before .before .before .before .before .before .before .before .args .trace)
+abbrev schedule-of : tie.After-follow → List ℕ
+schedule-of r = now (start-of r .args .schedule)
 
-abbrev bytes-of : tie.After-walk → List ℕ
-bytes-of r = r .walk .last .1 .1 .1 .1 .1 .0
+abbrev out-of : tie.After-follow → List ℕ
+out-of r = now (start-of r .args .trace)
 
-short : (r : tie.After-walk) → length (schedule-of r) ≤ 64
+abbrev bytes-of : tie.After-follow → List ℕ
+bytes-of r = r .follow .last .1 .1 .1 .1 .0
+
+short : (r : tie.After-follow) → length (schedule-of r) ≤ 64
 short r = r .before .before .before .if1 .left
 
 -- past the refusals the run decides
-decided : (r : tie.After-walk) → limited (set-of r) (map-of r) (schedule-of r) (length (out-of r)) ≡ r .walk .result
+decided : (r : tie.After-follow) → limited (set-of r) (map-of r) (schedule-of r) (length (out-of r)) ≡ r .follow .result
 unfolding limited
 decided r =
     passed _ _ (le-ltb _ _ (short r)) ∙ passed _ _ (le-ltb _ _ (r .before .before .if2 .left))
-    ∙ sym (r .walk .ensures .0
-    ∙ runs-over (set-of r) (map-of r) false (schedule-of r) _ (r .before .before .before .before .before .before .before .before .pre .0) (r .before .before .before .before .before .before .before .before .pre .1) (short r) (le-leb (length (schedule-of r)) 64 (short r))
-    ∙ walked-follow (set-of r) (schedule-of r) (begin (map-of r)) noWrite 0 (length (schedule-of r)) (omega arith))
+    ∙ sym (r .follow .ensures .0
+    ∙ followed-within (set-of r) (map-of r) (start-of r .pre .0) (start-of r .pre .1) (schedule-of r) 1536 (short r) (short r))
 
-abbrev output-of : tie.After-walk → List ℕ
+abbrev output-of : tie.After-follow → List ℕ
 output-of r = trace (set-of r) (start (mapValue (map-of r))) noWrite (choices (schedule-of r))
 
-output-length : (r : tie.After-walk) → length (output-of r) ≡ 24 * length (schedule-of r)
+output-length : (r : tie.After-follow) → length (output-of r) ≡ 24 * length (schedule-of r)
 output-length r = length-trace (set-of r) _ noWrite (choices (schedule-of r)) ∙ ap (λ (n : ℕ). 24 * n) (length-choices (schedule-of r))
 
 -- what is written lies within the bytes
 sized : (c : tie.After-bytes-out) → let r = c .before .before in c .bytes-out .result ≤ 24 * length (schedule-of r)
-sized c = let r = c .before .before in omega (arith, c .bytes-out .ensures, out-most (r .walk .result) (24 * length (schedule-of r)))
+sized c = let r = c .before .before in omega (arith, c .bytes-out .ensures, out-most (r .follow .result) (24 * length (schedule-of r)))
 
 returns : tie.Need-returns
 unfolding limited
@@ -79,10 +79,10 @@ returns-2 : tie.Need-returns-2
 unfolding limited
 returns-2 c = (sym (passed _ _ (le-ltb _ _ (c .before .if1 .left)) ∙ chosen _ _ (lt-ltb _ _ (c .if2 .taken))), refl)
 
-slice-aggregate-walk : tie.Need-slice-aggregate-walk
-slice-aggregate-walk c = search needs
+slice-aggregate-follow : tie.Need-slice-aggregate-follow
+slice-aggregate-follow c = search needs
 
-walk-requires : tie.Need-walk-requires
+walk-requires : tie.Need-follow-requires
 walk-requires c κs = search needs
 
 mul-bytes-out : tie.Need-mul-bytes-out
@@ -98,7 +98,7 @@ slice-aggregate-place : tie.Need-slice-aggregate-place
 slice-aggregate-place c =
     let o = c .before .before in
     let r = o .before .before in
-    sym (length-take-le (o .bytes-out .result) (bytes-of r) (omega (arith, r .walk .kept .1 .1 .1 .1 .1 .0, sized o, short r)))
+    sym (length-take-le (o .bytes-out .result) (bytes-of r) (omega (arith, r .follow .kept .1 .1 .1 .1 .0, sized o, short r)))
 
 place-requires : tie.Need-place-requires
 place-requires c κs = search needs
@@ -113,7 +113,7 @@ returns-3 c =
       sym (decided r),
       c .before .before .place .ensures
           ∙ ap (λ (k : ℕ). placed (out-of r) 0 (take k (bytes-of r))) (o .bytes-out .ensures)
-          ∙ put-out (r .walk .result) (bytes-of r) (output-of r) (out-of r) (24 * length (schedule-of r)) (output-length r) (r .before .before .if2 .left) (r .walk .ensures .1),
+          ∙ put-out (r .follow .result) (bytes-of r) (output-of r) (out-of r) (24 * length (schedule-of r)) (output-length r) (r .before .before .if2 .left) (r .follow .ensures .1),
     )
 
 pub accepted-spec : {M : Type 1} → statement M
@@ -123,7 +123,7 @@ accepted-spec =
     returns
     mul-if2
     returns-2
-    slice-aggregate-walk
+    slice-aggregate-follow
     walk-requires
     mul-bytes-out
     bytes-out-requires

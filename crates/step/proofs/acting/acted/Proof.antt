@@ -1,6 +1,6 @@
 -- `step::acting::acted` meets its contract. Assumes nothing.
 use mathlib.Core.Path.{sym, ap, _∙_}
-use Rattle.machine.specs.Held.{threadFrom}
+use Rattle.step.specs.Acting.{threadFrom}
 use Rattle.machine.specs.declared.Choice.{Choice}
 use borrow.Author.Needs.{needs}
 use Rattle.step.proofs.acting.acted.Statement.{statement}

@@ -13,7 +13,8 @@ use Rattle.base.proofs.Choice.{chosen, passed, and-true, and-false, and-left, a
 use Rattle.records.specs.Sets.{Set, setBy, statementAt, nothing}
 use Rattle.records.specs.declared.Layout.{Layout}
 use Rattle.records.specs.declared.Statement.{Statement}
-use Rattle.machine.specs.Held.{memoryOf, memoryIn, knownOf, knownIn, canStep, waits, permittedBy, threadBy, statementBy, writtenBy, readsBy, outcomeBy}
+use Rattle.machine.specs.Held.{memoryOf, memoryIn, knownOf, knownIn, permittedBy}
+use Rattle.step.specs.Acting.{canStep, waits, threadBy, statementBy, writtenBy, readsBy, outcomeBy}
 use Rattle.machine.specs.Machine.{unmarked, actor, memoryAfter}
 use Rattle.machine.specs.Maps.{knowsAll, knownAfter}
 use Rattle.machine.specs.declared.Choice.{Choice}
@@ -23,7 +24,7 @@ use Rattle.machine.specs.declared.Outcome.the-variants.{Taken, NotPermitted, La
 use Rattle.machine.specs.declared.Thread.{Thread}
 use Rattle.machine.specs.declared.Written.{Written}
 use Rattle.step.proofs.Cells.{prefix-memory, prefix-known}
-use Rattle.machine.proofs.Settled.{unmoved}
+use Rattle.step.proofs.Settled.{unmoved}
 use borrow.Author.Needs.{needs}
 use Rattle.step.proofs.acting.advance.Statement.{statement}
 use Rattle.step.proofs.acting.advance.Tie as tie

@@ -1,7 +1,8 @@
 -- `step::acting::effect_of` meets its contract. Assumes nothing.
 use denote.Ref.{now}
 use mathlib.Core.Path.{sym, ap, _∙_}
-use Rattle.machine.specs.Held.{memoryIn, knownIn, cellsOf, readsBy, threadBy, writtenBy}
+use Rattle.machine.specs.Held.{memoryIn, knownIn, cellsOf}
+use Rattle.step.specs.Acting.{readsBy, threadBy, writtenBy}
 use Rattle.machine.specs.Maps.{knowsAll}
 use Rattle.machine.specs.declared.Choice.{Choice}
 use borrow.Author.Needs.{needs}

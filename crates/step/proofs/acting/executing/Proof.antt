@@ -2,14 +2,15 @@
 use denote.Ref.{now}
 use Prim.Native.Nat.{ℕ}
 use lib.Dec.{eqb}
-use mathlib.Core.Path.{_≡_, sym, ap, ap₂, _∙_}
+use mathlib.Core.Path.{_≡_, refl, sym, ap, _∙_}
 use mathlib.Core.Bool.{true, cond, _&&_}
 use Rattle.base.proofs.Choice.{chosen, passed}
 use Rattle.records.specs.Instructions.{CAS}
 use Rattle.records.specs.declared.Statement.{Statement}
 use Rattle.machine.specs.Held.{memoryIn}
-use Rattle.machine.specs.Machine.{row, nextPc, withPc, executed, casMatches, wrote, noWrite, address}
+use Rattle.machine.specs.Machine.{acted, executed, casMatches, wrote, noWrite, address}
 use Rattle.machine.specs.declared.Thread.{Thread}
+use Rattle.step.proofs.Settled.{setWith, stateWith}
 use borrow.Author.Needs.{needs}
 use Rattle.step.proofs.acting.executing.Statement.{statement}
 use Rattle.step.proofs.acting.executing.Tie as tie
@@ -31,12 +32,12 @@ thread-of c = c .before .before .before .args .x
 -- the registers afterwards
 registers : (c : tie.After-updated) →
     c .updated .result ≡ executed (statement-of (c .before)) (memory-of (c .before)) (thread-of (c .before))
-unfolding executed
+unfolding acted
 registers c =
     let i = statement-of (c .before) in
     let x = thread-of (c .before) in
     let o = c .before .operands .ensures in
-    c .updated .ensures ∙ ap₂ (λ (a w : ℕ). withPc (nextPc i x) (row (i .number) (i .argument) a w x)) (o .1) (o .2)
+    c .updated .ensures (setWith i) (stateWith x (memory-of (c .before))) refl (refl, o .1, o .2)
 
 -- whether a CAS matches
 cas : (c : tie.After-matches) →

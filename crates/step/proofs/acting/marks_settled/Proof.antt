@@ -1,6 +1,6 @@
 -- `step::acting::marks_settled` meets its contract. Assumes nothing.
 use Rattle.machine.proofs.Four.{stored}
-use Rattle.machine.proofs.Settled.{marks-cleared, marks-left}
+use Rattle.step.proofs.Settled.{marks-cleared, marks-left}
 use Rattle.base.proofs.Choice.{and-true, and-false, and-right-false}
 use Rattle.records.specs.Sets.{setBy}
 use Rattle.machine.specs.Machine.{unmarked, opened}

@@ -1,6 +1,6 @@
 -- `step::acting::statement_of` meets its contract. Assumes nothing.
 use Rattle.machine.specs.declared.Choice.{Choice}
-use Rattle.machine.specs.Held.{statementBy}
+use Rattle.step.specs.Acting.{statementBy}
 use Rattle.records.specs.Sets.{setBy}
 use mathlib.Core.Path.{sym, ap, _∙_}
 use denote.Ref.{now}

@@ -1,2 +1,0 @@
--- Laws of a replayed step.
-pub mod Judged
