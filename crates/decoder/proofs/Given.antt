@@ -1,6 +1,6 @@
 -- What the search for first cells gives for a run within its limits. Assumes nothing.
-use Prim.Native.Nat.{ℕ, _+_, _*_, _/_, _≤_}
-use mathlib.Core.Path.{_≡_, ap, sym, _∙_}
+use Prim.Native.Nat.{ℕ, _*_, _/_, _≤_}
+use mathlib.Core.Path.{_≡_, ap, _∙_}
 use mathlib.Core.Bool.{true, _&&_}
 use mathlib.Core.List.{List}
 use native.Mathlib.Omega.{arith}
@@ -9,7 +9,7 @@ use lib.ListN.{length}
 use Rattle.base.specs.Below.{number}
 use Rattle.base.specs.Bytes.{over}
 use Rattle.base.proofs.Choice.{chosen, and-true}
-use Rattle.records.specs.Maps.{cells}
+use Rattle.records.specs.Maps.{mapAccepted}
 use Rattle.records.specs.Sets.{Set}
 use Rattle.machine.specs.Machine.{start, noWrite}
 use Rattle.machine.specs.Runs.{choices, isRun}
@@ -21,7 +21,7 @@ use Rattle.first_cells.specs.declared.Found.{Found}
 -- a set's map, and a run of at most 64 steps
 pub record Asked (S : Set) (map : List ℕ) (first : ℕ → ℕ) (schedule : List ℕ) : Type 0 where
   pub fewThreads : S .threads ≤ 4
-  pub fewCells : cells map ≤ 128
+  pub accepted : mapAccepted 128 map ≡ true
   pub fewSteps : length schedule ≤ 64
   pub runs : isRun S (start first) (choices schedule) ≡ true
 
@@ -37,7 +37,7 @@ module _ (S : Set) (map : List ℕ) (first : ℕ → ℕ) (schedule before after
   ran : (fits S map schedule (length before) (length cellsBefore) && isRun S (start first) (choices schedule)) ≡ true
   ran =
       let few : length schedule ≤ length before / 24 = omega arith in
-      and-true (and-true (and-true (and-true (and-true (le-leb (S .threads) 4 (asked .fewThreads)) (le-leb (cells map) 128 (asked .fewCells)))
+      and-true (and-true (and-true (and-true (and-true (le-leb (S .threads) 4 (asked .fewThreads)) (asked .accepted))
       (le-leb (length schedule) 64 (asked .fewSteps))) (le-leb (length schedule) (length before / 24) few)) (le-leb 1024 (length cellsBefore) mapRoom)) (asked .runs)
 
   abbrev whole : Found

@@ -9,6 +9,7 @@ use borrow.Author.Tests.{lt-ltb, le-ltb, ltb-true, ltb-false}
 use lib.Dec.{eqb, ltb}
 use lib.ListN.{length, getD, take, set}
 use lib.Seq.{take-suc-set}
+use Rattle.machine.proofs.Runs.{choices-more}
 use Rattle.base.specs.Below.{some, least}
 use Rattle.base.proofs.Below.{least-ext}
 use Rattle.base.proofs.Choice.{chosen, passed, and-true, or-true, or-false, or-right-true}
@@ -33,11 +34,6 @@ some-least test (suc n) = go (some-least test n) (ltb (least n test) n) refl (te
         or-right-true (some n test) q ∙ sym (ap (λ (i : ℕ). ltb i (suc n)) (passed _ _ p ∙ chosen _ _ q) ∙ lt-ltb n (suc n) (omega arith))
     go before false p false q =
         or-false (before ∙ p) q ∙ sym (ap (λ (i : ℕ). ltb i (suc n)) (passed _ _ p ∙ passed _ _ q) ∙ le-ltb (suc n) (suc n) (omega arith))
-
-choices-more : (bytes : List ℕ) (k : ℕ) → choices (bytes ++ (k ∷ [])) ≡ choices bytes ++ (choiceOf k ∷ [])
-unfolding choices
-choices-more [] k = refl
-choices-more (b ∷ bytes) k = ap (λ (run : List Choice). choiceOf b ∷ run) (choices-more bytes k)
 
 module _ (threads bound : ℕ) (model : List ℕ) where
   abbrev given : Assignment

@@ -1,7 +1,7 @@
 -- A model that no constraint or goal refuses decodes to a run that fails, so what the search for its first cells gives is the decoding.
 -- Assumes nothing.
 use Prim.Native.Nat.{ℕ, suc, _+_, _≤_}
-use mathlib.Core.Path.{_≡_, refl, ap, ap₂, sym, _∙_}
+use mathlib.Core.Path.{_≡_, refl, ap, ap₂, sym, fun-ext, _∙_}
 use mathlib.Core.Bool.{Bool, true, false, cond, not, _&&_, _||_}
 use mathlib.Core.List.{List, [], _∷_}
 use native.Mathlib.Omega.{arith}
@@ -9,11 +9,10 @@ use lib.ListN.{length}
 use Rattle.base.specs.Below.{number}
 use Rattle.base.specs.Bytes.{over}
 use Rattle.base.proofs.Choice.{chosen, passed, and-true}
-use Rattle.records.specs.Maps.{cells, mapped, mapValue}
+use Rattle.records.specs.Maps.{mapped, mapValue}
 use Rattle.records.specs.Sets.{setOf, setBy, layoutOf}
 use Rattle.records.specs.declared.Layout.{Layout}
 use Rattle.records.proofs.Layouts.{set-read, few-threads}
-use Rattle.records.proofs.Maps.{few-cells}
 use Rattle.machine.specs.Machine.{start, noWrite}
 use Rattle.machine.specs.Runs.{choices, isRun}
 use Rattle.machine.specs.Traces.{trace}
@@ -25,19 +24,17 @@ use Rattle.encoding.proofs.Bytes.{Bytes as Below}
 use Rattle.decoding.specs.Decodings.{runOf, readsFirst, cellsBelow, decodedTrace, decodedMap}
 use Rattle.decoding.specs.Models.{listedCells, modelFits, assigned, firstFalse}
 use Rattle.decoding.proofs.Cells.{cells-count}
+use Rattle.decoding.proofs.Maps.{agrees-value}
+use Rattle.first_cells.specs.Firsts.{firstMemory}
+use Rattle.first_cells.proofs.Order.{memory-map, memory-first}
 use Rattle.decoder.proofs.Given.{Asked, Given}
 use Rattle.first_cells.specs.declared.Found.{Found}
 use Rattle.claims.specs.Models.{Decodes}
 use Rattle.claims.specs.Runs.{AreBytes}
-use Rattle.claims.proofs.Models.{demandThree}
+use Rattle.claims.proofs.Models.{demandThree, bytes-of}
 use Rattle.decoder.specs.Answers.{falseRecord, decoded}
 use Rattle.decoder.specs.declared.DecodeAnswer.the-variants.{Decoded}
 use Rattle.decoder.proofs.Sized.{Sized}
-
--- a list whose numbers are all below 256 is made of bytes
-bytes-of : (xs : List ℕ) → Below xs → AreBytes xs
-bytes-of [] f = tt
-bytes-of (x ∷ xs) f = (f 0, bytes-of xs (λ i. f (suc i)))
 
 -- where no constraint or goal is 0 all are 1
 all-met : (values : ℕ → Value) (n : ℕ) (table : List Formula) → n + length table ≤ firstFalse values n table → met values table ≡ true
@@ -81,6 +78,17 @@ module _ (set map : List ℕ) (bound n : ℕ) (s : Sized set map bound n) (setBy
       abbrev cellsOf : ℕ → ℕ
       cellsOf = mapValue (listedCells (setOf set .threads) bound model)
 
+      -- the model's memory agrees with the map
+      pub memory-there : firstMemory map (listedCells (setOf set .threads) bound model) ≡ cellsOf
+      unfolding assigned
+      memory-there = fun-ext (λ a. go a (mapped map a) refl)
+        where
+          go : (a : ℕ) (b : Bool) → mapped map a ≡ b → firstMemory map (listedCells (setOf set .threads) bound model) a ≡ cellsOf a
+          go a true e =
+              memory-map map (listedCells (setOf set .threads) bound model) a e
+              ∙ sym (agrees-value map cellsOf (model-decodes .fails .agrees) a e)
+          go a false e = memory-first map (listedCells (setOf set .threads) bound model) a e
+
       set-there : setBy set layout ≡ setOf set
       set-there = set-read set layout l (s .accepted)
 
@@ -91,7 +99,7 @@ module _ (set map : List ℕ) (bound n : ℕ) (s : Sized set map bound n) (setBy
       unfolding assigned
       asked = record {
         fewThreads = few-threads set layout l (s .accepted);
-        fewCells = few-cells 128 map (s .mapped);
+        accepted = s .mapped;
         fewSteps = omega (arith, schedule-long, s .fewSteps);
         runs = (λ i. isRun (set-there i) (start cellsOf) (run i)) ∙ model-decodes .fails .fails .permitted;
       }

@@ -1,18 +1,20 @@
--- The model check and decoding (document 01, "Records", refusals 9, 10, 15, 11 and 16): their answers for every input, and the lent
--- memory afterwards. Assumes nothing.
+-- The model check and decoding (document 01, "Records", refusals 9, 10, 15, 11 and 16): their answers for every input, and the lent memory
+-- afterwards. A reader of the calls believes this. Assumes nothing.
 use Prim.Native.Nat.{ℕ, _*_}
 use mathlib.Core.Bool.{Bool, cond, _&&_, _||_}
 use mathlib.Core.List.{List}
 use lib.Dec.{eqb, ltb, leb}
 use lib.ListN.{length, replicate}
+use Rattle.encoder.specs.Answers.{boundFits}
 use Rattle.base.specs.Bytes.{over}
-use Rattle.records.specs.Maps.{cells, mapAccepted}
+use Rattle.records.specs.Maps.{cells, mapAccepted, setCells}
 use Rattle.records.specs.Sets.{setOf, setAccepted}
+use Rattle.machine.specs.Traces.{stepLength}
 use Rattle.table.specs.Values.{Assignment, valuesOf}
 use Rattle.table.specs.declared.Formula.{Formula}
 use Rattle.encoding.specs.Encodings.{tableOf}
-use Rattle.decoding.specs.Decodings.{runOf, decodedTrace, decodedMap}
-use Rattle.decoding.specs.Models.{modelFits, assigned, firstFalse}
+use Rattle.decoding.specs.Decodings.{runOf, decodedTrace, decodedMap, longestMap}
+use Rattle.decoding.specs.Models.{modelFits, assigned, firstFalse, workLength}
 use Rattle.decoder.specs.declared.CheckAnswer.{CheckAnswer}
 use Rattle.decoder.specs.declared.CheckAnswer.the-variants.{Accepted, Refused}
 use Rattle.decoder.specs.declared.DecodeAnswer.{DecodeAnswer}
@@ -32,14 +34,14 @@ judged index size = cond (ltb index size) (Refused 16 index) Accepted
 unfoldable pub modelAnswer : (set map : List ℕ) (bound : ℕ) (model : List ℕ) (room : ℕ) → CheckAnswer
 modelAnswer set map bound model room =
     cond (modelFits (setOf set .threads) bound model)
-    (cond (ltb room (32 * length (tableOf set map bound))) (Refused 11 0)
+    (cond (ltb room (workLength * length (tableOf set map bound))) (Refused 11 0)
     (judged (falseRecord (assigned (setOf set .threads) bound model) (tableOf set map bound)) (length (tableOf set map bound))))
     (Refused 15 0)
 
 -- 9 and 10 come first.
 unfoldable pub checkAnswer : (set map : List ℕ) (bound : ℕ) (model : List ℕ) (room : ℕ) → CheckAnswer
 checkAnswer set map bound model room =
-    cond (setAccepted set && mapAccepted 128 map) (cond (ltb 0 bound && leb bound 64) (modelAnswer set map bound model room) (Refused 10 0)) (Refused 9 0)
+    cond (setAccepted set && mapAccepted setCells map) (cond (boundFits bound) (modelAnswer set map bound model room) (Refused 10 0)) (Refused 9 0)
 
 -- Past 11 the whole of the work memory is 0, on 16 too; refused by 11 or an earlier check it is as it was.
 abbrev pub workAfter : CheckAnswer → List ℕ → List ℕ
@@ -54,7 +56,7 @@ decoded set map bound g = Decoded (length (runOf (setOf set .threads) bound g)) 
 
 -- 11: work memory below 32 bytes a record, or a trace output below 24 bytes a step of the bound, or a map output below 256 cells
 abbrev pub tooShort : (size bound room traceRoom mapRoom : ℕ) → Bool
-tooShort size bound room traceRoom mapRoom = ltb room (32 * size) || ltb traceRoom (24 * bound) || ltb mapRoom 1024
+tooShort size bound room traceRoom mapRoom = ltb room (workLength * size) || ltb traceRoom (stepLength * bound) || ltb mapRoom longestMap
 
 -- 15, 11 and 16 as in the model check
 unfoldable pub modelDecoding : (set map : List ℕ) (bound : ℕ) (model : List ℕ) (room traceRoom mapRoom : ℕ) → DecodeAnswer
@@ -69,8 +71,8 @@ modelDecoding set map bound model room traceRoom mapRoom =
 -- 9 and 10 come first.
 unfoldable pub decodeAnswer : (set map : List ℕ) (bound : ℕ) (model : List ℕ) (room traceRoom mapRoom : ℕ) → DecodeAnswer
 decodeAnswer set map bound model room traceRoom mapRoom =
-    cond (setAccepted set && mapAccepted 128 map)
-    (cond (ltb 0 bound && leb bound 64) (modelDecoding set map bound model room traceRoom mapRoom) (Undecoded 10 0))
+    cond (setAccepted set && mapAccepted setCells map)
+    (cond (boundFits bound) (modelDecoding set map bound model room traceRoom mapRoom) (Undecoded 10 0))
     (Undecoded 9 0)
 
 -- the work memory as the model check leaves it
@@ -78,11 +80,12 @@ abbrev pub workLeft : DecodeAnswer → List ℕ → List ℕ
 workLeft (Decoded steps count) work = replicate (length work) 0
 workLeft (Undecoded number place) work = cond (eqb number 16) (replicate (length work) 0) work
 
--- the outputs afterwards: the trace and the map over their starts, and as they were where the call is refused
+-- the trace output afterwards: the trace over its start, and as it was where the call is refused
 abbrev pub traceLeft : DecodeAnswer → (set : List ℕ) (bound : ℕ) (model trace : List ℕ) → List ℕ
 traceLeft (Decoded steps count) set bound model trace = over (decodedTrace set bound (assigned (setOf set .threads) bound model)) trace
 traceLeft (Undecoded number place) set bound model trace = trace
 
+-- the map output afterwards, in the same way
 abbrev pub mapLeft : DecodeAnswer → (set map : List ℕ) (bound : ℕ) (model found : List ℕ) → List ℕ
 mapLeft (Decoded steps count) set map bound model found = over (decodedMap set map bound (assigned (setOf set .threads) bound model)) found
 mapLeft (Undecoded number place) set map bound model found = found

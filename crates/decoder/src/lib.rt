@@ -8,13 +8,21 @@ ghost use Rattle.base.specs.Below.{every, least};
 ghost use Rattle.base.specs.Bytes.{over};
 ghost use Rattle.records.specs.Sets.{setOf, layoutOf};
 ghost use Rattle.machine.specs.Runs.{choiceOf, choices};
+ghost use Rattle.machine.specs.Traces.{stepLength};
 ghost use Rattle.encoding.specs.Encodings.{tableOf};
-ghost use Rattle.decoding.specs.Decodings.{choiceNumber, runOf, decodedTrace, decodedMap};
-ghost use Rattle.decoding.specs.Models.{modelFits, assigned};
+ghost use Rattle.decoding.specs.Decodings.{choiceNumber, runOf, decodedTrace, decodedMap, longestMap};
+ghost use Rattle.decoding.specs.Models.{modelFits, assigned, workLength};
 ghost use Rattle.encoder.specs.Answers.{sizeAnswer};
 ghost use Rattle.encoder.specs.declared.TableAnswer.the-variants.{Encoded};
 ghost use Rattle.decoder.specs.Answers.{falseRecord, modelAnswer, checkAnswer, workAfter, decoded, modelDecoding, decodeAnswer, workLeft, traceLeft, mapLeft};
+use decoding::MAP_BYTES;
+use decoding::MODEL_CELLS;
+use decoding::WORK;
+use machine::Machine;
 use records::Layout;
+use records::refusals::MODEL;
+use records::refusals::NOT_SATISFIED;
+use records::refusals::ROOM;
 
 // What the model check gives: the model is accepted, or the refusal with its number and place.
 pub enum CheckAnswer {
@@ -52,7 +60,7 @@ fn model_fits(model: &[u8], threads: u8, bound: u8) -> bool
         return false;
     }
     if are_bits(model, bits) {
-        return records::map::map_accepted(&model[bits..], 256);
+        return records::map::map_accepted(&model[bits..], MODEL_CELLS);
     }
     false
 }
@@ -79,7 +87,7 @@ fn false_record(
     work: &mut [u8],
 ) -> u32
     requires { ⌜ (sizeAnswer (now set) (now map) bound ≡ Encoded n) × (threads ≡ setOf (now set) .threads)
-        × (modelFits threads bound (now model) ≡ true) × (32 * n ≤ length (now work)) ⌝ }
+        × (modelFits threads bound (now model) ≡ true) × (workLength * n ≤ length (now work)) ⌝ }
     ensures { λ r. ⌜ (r ≡ falseRecord (assigned threads bound (now (model .entry))) (tableOf (now (set .entry)) (now (map .entry)) bound))
         × (now (work .exit) ≡ replicate (length (now (work .entry))) 0) ⌝ }
 {
@@ -107,20 +115,20 @@ fn judge(
 {
     if !model_fits(model, threads, bound as u8) {
         return CheckAnswer::Refused {
-            number: 15,
+            number: MODEL,
             place: 0,
         };
     }
-    if work.len() < 32 * (n as usize) {
+    if work.len() < WORK * (n as usize) {
         return CheckAnswer::Refused {
-            number: 11,
+            number: ROOM,
             place: 0,
         };
     }
     let index = false_record(set, map, bound, model, threads, n, work);
     if index < n {
         return CheckAnswer::Refused {
-            number: 16,
+            number: NOT_SATISFIED,
             place: index,
         };
     }
@@ -206,7 +214,7 @@ fn show(
 ) -> DecodeAnswer
     requires { ⌜ (sizeAnswer (now set) (now map) bound ≡ Encoded n) × (layout ≡ layoutOf (now set))
         × (modelFits (layout .threads) bound (now model) ≡ true) × (n ≤ falseRecord (assigned (layout .threads) bound (now model)) (tableOf (now set) (now map) bound))
-        × (24 * bound ≤ length (now trace)) × (1024 ≤ length (now found)) ⌝ }
+        × (stepLength * bound ≤ length (now trace)) × (longestMap ≤ length (now found)) ⌝ }
     ensures { λ r. ⌜ (r ≡ decoded (now (set .entry)) (now (map .entry)) bound (assigned (setOf (now (set .entry)) .threads) bound (now (model .entry))))
         × (now (trace .exit) ≡ over (decodedTrace (now (set .entry)) bound (assigned (setOf (now (set .entry)) .threads) bound (now (model .entry)))) (now (trace .entry)))
         × (now (found .exit) ≡ over (decodedMap (now (set .entry)) (now (map .entry)) bound (assigned (setOf (now (set .entry)) .threads) bound (now (model .entry)))) (now (found .entry))) ⌝ }
@@ -214,7 +222,7 @@ fn show(
     let threads = layout.threads;
     let steps = bound as u8;
     let bits = 2 * (threads as usize) * (steps as usize);
-    let mut schedule = [0u8; 64];
+    let mut schedule = [0u8; Machine::STEPS];
     let count = schedule_of(model, threads, steps, &mut schedule);
     let given = first_cells::first_cells(
         set,
@@ -231,7 +239,7 @@ fn show(
     }
 }
 
-// DecodeAnswer once 9 and 10 are passed, with the number of the table's records.
+// The decoding once 9 and 10 are passed, with the number of the table's records.
 fn judge_run(
     set: &[u8],
     map: &[u8],
@@ -253,23 +261,23 @@ fn judge_run(
     let steps = bound as u8;
     if !model_fits(model, threads, steps) {
         return DecodeAnswer::Refused {
-            number: 15,
+            number: MODEL,
             place: 0,
         };
     }
-    let short = (work.len() < 32 * (n as usize))
-        | (trace.len() < 24 * (steps as usize))
-        | (found.len() < 1024);
+    let short = (work.len() < WORK * (n as usize))
+        | (trace.len() < Machine::STEP * (steps as usize))
+        | (found.len() < MAP_BYTES);
     if short {
         return DecodeAnswer::Refused {
-            number: 11,
+            number: ROOM,
             place: 0,
         };
     }
     let index = false_record(set, map, bound, model, threads, n, work);
     if index < n {
         return DecodeAnswer::Refused {
-            number: 16,
+            number: NOT_SATISFIED,
             place: index,
         };
     }

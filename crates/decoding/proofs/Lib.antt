@@ -4,5 +4,6 @@ pub mod Below
 pub mod Cells
 pub mod FirstReads
 pub mod Followed
+pub mod Lookups
 pub mod Maps
 pub mod Runs

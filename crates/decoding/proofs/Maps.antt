@@ -6,22 +6,21 @@ use mathlib.Core.List.{List}
 use native.Mathlib.Omega.{arith}
 use lib.Dec.{eqb}
 use borrow.Author.Tests.{ltb-true, lt-ltb, eqb-true, eq-eqb, ne-eqb}
-use Rattle.base.proofs.Below.{least-passes, least-hit}
+use Rattle.base.proofs.Below.{least-passes, least-hit, least-none}
 use Rattle.base.proofs.Choice.{chosen, passed, cond-both, refuted}
 use Rattle.records.specs.Maps.{cells, addressAt, valueAt, cellAt, mapAccepted, mapped, mapValue}
 use Rattle.records.proofs.Maps.{ascending}
 use Rattle.encoding.proofs.Bytes.{Bytes, word-below}
-use Rattle.decoding.proofs.Below.{least-none}
 
 module _ (map : List ℕ) where
   -- where the map has a cell at address a
   abbrev at : ℕ → ℕ
   at a = cellAt (addressAt map) (cells map) a
 
-  found-inside : (a : ℕ) → mapped map a ≡ true → at a < cells map
+  pub found-inside : (a : ℕ) → mapped map a ≡ true → at a < cells map
   found-inside a e = ltb-true (at a) (cells map) e
 
-  found-address : (a : ℕ) → mapped map a ≡ true → addressAt map (at a) ≡ a
+  pub found-address : (a : ℕ) → mapped map a ≡ true → addressAt map (at a) ≡ a
   found-address a e = eqb-true (addressAt map (at a)) a (least-passes (λ j. eqb (addressAt map j) a) (cells map) (found-inside a e))
 
   -- a memory that has each cell's value at its address has the map's values

@@ -9,7 +9,7 @@ use lib.Dec.{ltb}
 use lib.ListN.{length}
 use borrow.Author.Tests.{ltb-false, lt-ltb, le-ltb, eq-eqb, ne-eqb}
 use Rattle.base.specs.Below.{some, least}
-use Rattle.base.proofs.Below.{some-at, least-hit}
+use Rattle.base.proofs.Below.{some-at, least-hit, least-none}
 use Rattle.base.proofs.Choice.{chosen, passed, refuted, clash}
 use Rattle.records.specs.Sets.{Set}
 use Rattle.machine.specs.Machine.{State, actor, step}
@@ -21,7 +21,6 @@ use Rattle.table.specs.Values.{Assignment}
 use Rattle.encoding.specs.Assignments.{named, bitsOf, assignmentOf}
 use Rattle.encoding.proofs.Tests.{some-passes}
 use Rattle.decoding.specs.Decodings.{bitAt, choiceNumber, runFrom, runOf}
-use Rattle.decoding.proofs.Below.{least-none}
 
 module _ (threads : ℕ) (g : Assignment) where
   -- the place of a choice's bit in a step

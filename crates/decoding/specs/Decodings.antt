@@ -1,6 +1,7 @@
--- What decoding makes of an assignment: its run, the run's trace, and the map (document 01, "Records"). Assumes nothing.
+-- What decoding makes of an assignment: its run, the run's trace, and the map (document 01, "Records"). A reader of the calls believes this. Assumes
+-- nothing.
 use Prim.Native.Nat.{ℕ, zero, suc, _+_, _-_}
-use mathlib.Core.Bool.{Bool, true, false, cond, not, _&&_, _||_}
+use mathlib.Core.Bool.{Bool, false, cond, not, _&&_, _||_}
 use mathlib.Core.List.{List, [], _∷_, _++_}
 use lib.Dec.{eqb, ltb}
 use Rattle.base.specs.Below.{some, least}
@@ -21,6 +22,7 @@ use Rattle.encoding.specs.Checkpoints.{member}
 abbrev pub bitAt : (threads : ℕ) → Assignment → (k j : ℕ) → Bool
 bitAt threads g k j = cond (ltb j threads) (g .choice k 0 j) (g .choice k 1 (j - threads))
 
+-- choice j of a step
 abbrev pub choiceNumber : (threads j : ℕ) → Choice
 choiceNumber threads j = cond (ltb j threads) (Execute j) (Flush (j - threads))
 
@@ -32,11 +34,13 @@ runFrom threads g k (suc n) =
     (choiceNumber threads (least (threads + threads) (bitAt threads g k)) ∷ runFrom threads g (suc k) n)
     []
 
+-- the run of an assignment
 abbrev pub runOf : (threads bound : ℕ) → Assignment → List Choice
 runOf threads bound g = runFrom threads g 0 bound
 
 -- ---- the trace
 
+-- the trace of that run
 unfoldable pub decodedTrace : (set : List ℕ) (bound : ℕ) → Assignment → List ℕ
 decodedTrace set bound g = trace (setOf set) (start (g .first)) noWrite (runOf (setOf set .threads) bound g)
 
@@ -55,6 +59,10 @@ readsFirst S s (c ∷ run) a = member a (reads S s c) || not (writes (written S 
 unfoldable pub cellsBelow : (ℕ → Bool) → (ℕ → ℕ) → ℕ → List ℕ
 cellsBelow test memory zero = []
 cellsBelow test memory (suc a) = cellsBelow test memory a ++ cond (test a) (word a (word (memory a) [])) []
+
+-- the bytes of the longest map, one of 256 cells
+abbrev pub longestMap : ℕ
+longestMap = 1024
 
 -- a map: the set's cells and every first cell read, with first values
 unfoldable pub decodedMap : (set map : List ℕ) (bound : ℕ) → Assignment → List ℕ

@@ -1,24 +1,16 @@
 -- Search by halves among cells whose addresses ascend: what a look at one cell says of the others. Assumes nothing.
-use Prim.Native.Nat.{ℕ, zero, suc, _+_, _≤_, _<_}
-use mathlib.Core.Path.{_≡_, refl, ap, _∙_}
-use mathlib.Core.Bool.{Bool, true, false, cond}
+use Prim.Native.Nat.{ℕ, _+_, _≤_, _<_}
+use mathlib.Core.Path.{_≡_, ap, _∙_}
+use mathlib.Core.Bool.{Bool, true, cond}
 use mathlib.Core.List.{List}
 use native.Mathlib.Decide.{ℕ-discrete}
-use native.Mathlib.Numerals.{add-one}
 use native.Mathlib.Omega.{arith}
 use borrow.Author.Tests.{eq-eqb, ne-eqb, lt-ltb, le-ltb}
 use lib.Dec.{eqb, ltb}
-use Rattle.base.specs.Below.{least}
-use Rattle.base.proofs.Below.{least-more, least-hit}
+use Rattle.base.proofs.Below.{least-hit, least-none}
 use Rattle.base.proofs.Choice.{chosen, passed}
 use Rattle.records.specs.Maps.{cells, addressAt, valueAt, mapValue, mapAccepted}
 use Rattle.records.proofs.Maps.{ascending}
-
--- where none passes, the least is the bound
-none-passes : (test : ℕ → Bool) (n : ℕ) → ((i : ℕ) → i < n → test i ≡ false) → least n test ≡ n
-unfolding least
-none-passes test zero f = refl
-none-passes test (suc n) f = let e : least (n + 1) test ≡ n + 1 = least-more test n (none-passes test n (λ i h. f i (omega arith))) (f n (omega arith)) in rw add-one at e
 
 module _ (bytes : List ℕ) (x : ℕ) where
   abbrev at : ℕ → Bool
@@ -30,14 +22,14 @@ module _ (bytes : List ℕ) (x : ℕ) where
   -- no cell is at x
   pub missing : ((j : ℕ) → j < cells bytes → addressAt bytes j ≡ x → ⊥) → mapValue bytes x ≡ 0
   missing f =
-      ap valueOfLeast (none-passes at (cells bytes) (λ j h. ne-eqb (addressAt bytes j) x (f j h)))
+      ap valueOfLeast (least-none at (cells bytes) (λ j h. ne-eqb (addressAt bytes j) x (f j h)))
       ∙ passed (valueAt bytes (cells bytes)) 0 (le-ltb (cells bytes) (cells bytes) (omega arith))
 
   module _ (ok : mapAccepted 256 bytes ≡ true) (i : ℕ) (h : i < cells bytes) where
     -- cell i is at x, so that none before it is
     pub found : addressAt bytes i ≡ x → mapValue bytes x ≡ valueAt bytes i
     found e =
-        ap valueOfLeast (least-hit at (cells bytes) i (none-passes at i (λ j l. ne-eqb (addressAt bytes j) x (before j l))) (eq-eqb (addressAt bytes i) x e) h)
+        ap valueOfLeast (least-hit at (cells bytes) i (least-none at i (λ j l. ne-eqb (addressAt bytes j) x (before j l))) (eq-eqb (addressAt bytes i) x e) h)
         ∙ chosen (valueAt bytes i) 0 (lt-ltb i (cells bytes) h)
       where
         before : (j : ℕ) → j < i → addressAt bytes j ≡ x → ⊥

@@ -1,28 +1,20 @@
 -- The records read back from a table's bytes are the table's, and storing a value leaves them and the other values. Assumes nothing.
 use Prim.Native.Nat.{ℕ, zero, suc, _+_, _*_, _/_, _%_, _≤_, _<_}
-use mathlib.Core.Path.{_≡_, refl, ap, ap₂, sym, _∙_}
+use mathlib.Core.Path.{_≡_, ap, ap₂, sym, _∙_}
 use mathlib.Core.List.{List, [], _∷_, _++_, append-assoc}
-use native.Mathlib.Nat.{div-div-eq-div-mul}
 use native.Mathlib.Omega.{arith}
 use lib.ListN.{length, getD, set, length-set}
 use lib.Seq.{getD-append-add, getD-set-same, getD-set-other}
 use Rattle.base.specs.Bytes.{wordAt}
 use Rattle.table.specs.Formulas.{formulaAt, formulaBytes, tableBytes}
 use Rattle.table.specs.declared.Formula.{Formula}
+use Rattle.table.proofs.Read.{read-long}
+use Rattle.table.proofs.Written.{formula-length}
 use Rattle.evaluation.specs.Evaluations.{stored}
 use Rattle.evaluation.proofs.Tables.{recordAt}
 use Rattle.evaluation.proofs.Views.{Small}
 
 -- ---- one record
-
-long-back : (n : ℕ) → n < 4294967296 → n % 256 + 256 * (n / 256 % 256) + 65536 * (n / 65536 % 256) + 16777216 * (n / 16777216 % 256) ≡ n
-long-back n h =
-    let p : n / 256 / 256 ≡ n / 65536 = div-div-eq-div-mul n 256 256 in
-    let q : n / 65536 / 256 ≡ n / 16777216 = div-div-eq-div-mul n 65536 256 in
-    sums n (n / 256) (n / 65536) (n / 16777216) h (sym p) (sym q) refl
-  where
-    sums : (n x y z : ℕ) → n < 4294967296 → y ≡ x / 256 → z ≡ y / 256 → x ≡ n / 256 → n % 256 + 256 * (x % 256) + 65536 * (y % 256) + 16777216 * (z % 256) ≡ n
-    sums n x y z h p q r = omega arith
 
 word-back : (n : ℕ) → n < 65536 → n % 256 + 256 * (n / 256 % 256) ≡ n
 word-back n h = omega arith
@@ -34,9 +26,9 @@ parsed f rest small =
       operation = f .operation;
       sort = f .sort;
       constant = word-back (f .constant) (small .smallConstant) z;
-      a = long-back (f .a) (small .smallA) z;
-      b = long-back (f .b) (small .smallB) z;
-      c = long-back (f .c) (small .smallC) z;
+      a = read-long (f .a) (small .smallA) z;
+      b = read-long (f .b) (small .smallB) z;
+      c = read-long (f .c) (small .smallC) z;
     }
 
 -- records whose bytes are the same are the same
@@ -67,10 +59,6 @@ alike s t i j e =
         let q : 16 * j + m ≡ 16 * j + k + l = omega arith in
         ap (λ (n : ℕ). getD s n 0) p ∙ (e m h ∙ ap (λ (n : ℕ). getD t n 0) q)
 
-sixteen : (f : Formula) → length (formulaBytes f) ≡ 16
-unfolding formulaBytes
-sixteen f = refl
-
 -- the record after one more
 shifted : (f : Formula) (rest : List ℕ) (j : ℕ) → formulaAt (formulaBytes f ++ rest) (suc j) ≡ formulaAt rest j
 shifted f rest j = alike (formulaBytes f ++ rest) rest (suc j) j (λ k h. there k)
@@ -78,7 +66,7 @@ shifted f rest j = alike (formulaBytes f ++ rest) rest (suc j) j (λ k h. there 
     there : (k : ℕ) → getD (formulaBytes f ++ rest) (16 * suc j + k) 0 ≡ getD rest (16 * j + k) 0
     there k =
         let p : 16 * suc j + k ≡ 16 + (16 * j + k) = omega arith in
-        ap (λ (n : ℕ). getD (formulaBytes f ++ rest) n 0) (p ∙ ap (λ (n : ℕ). n + (16 * j + k)) (sym (sixteen f)))
+        ap (λ (n : ℕ). getD (formulaBytes f ++ rest) n 0) (p ∙ ap (λ (n : ℕ). n + (16 * j + k)) (sym (formula-length f)))
         ∙ getD-append-add (formulaBytes f) rest (16 * j + k) 0
 
 -- ---- the table

@@ -11,7 +11,7 @@ use lib.ListN.{length, getD}
 use Rattle.base.proofs.Choice.{chosen, passed, and-true, and-false, and-right-false, and-left, and-right}
 use Rattle.table.specs.Formulas.{bitSort, memorySort, WRITE, IF}
 use Rattle.table.specs.Tables.{formed, allFormed}
-use Rattle.table.specs.Values.{Assignment, Value, memory, asBit, asWord, asMemory, changed, valueOf, valuesFrom}
+use Rattle.table.specs.Values.{Assignment, Value, asBit, asWord, asMemory, changed, valueOf, valuesFrom}
 use Rattle.table.specs.declared.Formula.{Formula}
 use Rattle.evaluation.specs.Evaluations.{noFormula, cellBack}
 use Rattle.evaluation.proofs.Backwards.{back-hit, back-first, back-on}

@@ -1,17 +1,17 @@
--- What evaluation does on bytes: a table of n records in the first 16 n, and a word for each record's value behind them. A bit's word
--- is 0 or 1; a memory, a constraint and the goal have 0. Assumes nothing.
+-- What evaluation does on bytes: a table of n records in the first 16 n, and a word for each record's value behind them. A bit's word is 0 or 1; a
+-- memory, a constraint and the goal have 0. This serves the code; no call's promise needs it. Assumes nothing.
 use Prim.Native.Nat.{ℕ, zero, suc, _+_, _*_, _/_, _%_}
 use mathlib.Core.Bool.{Bool, cond, not, _&&_, _||_}
 use mathlib.Core.List.{List}
 use lib.Dec.{eqb, ltb}
-use lib.ListN.{length, getD, set}
+use lib.ListN.{length, set}
 use Rattle.base.specs.Bytes.{wordAt}
 use Rattle.base.specs.Words.{plus, minus, times, topBit}
 use Rattle.records.specs.Maps.{mapValue}
 use Rattle.table.specs.Formulas.{formulaAt, CHOICE, CONSTANT, NOT, AND, OR, EQUAL, IF, PLUS, MINUS, TIMES, READ, WRITE, TOP}
 use Rattle.table.specs.Values.{Assignment, isDemand}
 use Rattle.table.specs.declared.Formula.{Formula}
-use Rattle.decoding.specs.Models.{assigned}
+use Rattle.decoding.specs.Models.{assigned, workLength}
 
 -- ---- records in bytes
 
@@ -19,6 +19,7 @@ use Rattle.decoding.specs.Models.{assigned}
 abbrev pub noFormula : Formula
 noFormula = record { operation = 0; sort = 0; constant = 0; a = 0; b = 0; c = 0 }
 
+-- record i of n
 abbrev pub formulaIn : List ℕ → ℕ → ℕ → Formula
 formulaIn s n i = cond (ltb i n) (formulaAt s i) noFormula
 
@@ -28,6 +29,7 @@ formulaIn s n i = cond (ltb i n) (formulaAt s i) noFormula
 abbrev pub valueIn : List ℕ → ℕ → ℕ → ℕ
 valueIn s n i = cond (ltb i n) (wordAt s (16 * n + 2 * i)) 0
 
+-- the bytes once the word of record i's value is v
 abbrev pub stored : List ℕ → ℕ → ℕ → ℕ → List ℕ
 stored s n i v = set (set s (16 * n + 2 * i) (v % 256)) (16 * n + 2 * i + 1) (v / 256)
 
@@ -75,9 +77,11 @@ unfoldable pub givenBy : (threads bound : ℕ) (bits cells : List ℕ) → Assig
 givenBy threads bound bits cells = record { choice = assigned threads bound bits .choice; first = mapValue cells }
 
 module _ (g : Assignment) (n : ℕ) where
+  -- the cell at address x of memory m
   abbrev pub cellIn : List ℕ → ℕ → ℕ → ℕ
   cellIn s m x = cellBack (g .first) (formulaIn s n) (valueIn s n) n m x
 
+  -- the word of a record's value
   abbrev pub wordIn : List ℕ → Formula → ℕ
   wordIn s f = wordOf g (valueIn s n) (cellIn s) (f .operation) (f .constant) (f .a) (f .b) (f .c)
 
@@ -90,4 +94,4 @@ module _ (g : Assignment) (n : ℕ) where
 
   -- the first constraint or goal that is 0, and n where there is none or the bytes are too few
   unfoldable pub falseIn : List ℕ → ℕ
-  falseIn s = cond (ltb (length s) (32 * n)) n (falseFrom 0 n s)
+  falseIn s = cond (ltb (length s) (workLength * n)) n (falseFrom 0 n s)

@@ -4,11 +4,31 @@ ghost use mathlib.Core.Bool.{true, cond};
 ghost use Prim.Native.Nat.{_+_, _*_, _≤_, _<_};
 ghost use lib.ListN.{length};
 ghost use Rattle.base.specs.Bytes.{wordAt};
-ghost use Rattle.records.specs.Maps.{mapValue, mapAccepted};
+ghost use Rattle.records.specs.Maps.{mapValue, mapAccepted, runCells};
 ghost use Rattle.table.specs.Formulas.{longAt};
-ghost use Rattle.decoding.specs.Models.{assigned};
+ghost use Rattle.decoding.specs.Models.{assigned, workLength};
 ghost use Rattle.evaluation.specs.Evaluations.{formulaIn, valueIn, stored, memoryBehind, cellBack, wordIn, isFalse, givenBy, falseIn};
+use decoding::MODEL_CELLS;
+use decoding::WORK;
 use table::Formula;
+use table::operations::AND;
+use table::operations::CHOICE;
+use table::operations::CONSTANT;
+use table::operations::CONSTRAINT;
+use table::operations::EQUAL;
+use table::operations::GOAL;
+use table::operations::IF;
+use table::operations::MINUS;
+use table::operations::NOT;
+use table::operations::OR;
+use table::operations::PLUS;
+use table::operations::READ;
+use table::operations::TIMES;
+use table::operations::TOP;
+use table::operations::WRITE;
+
+// Bytes of a formula record.
+const RECORD: usize = 16;
 
 // The word whose two bytes stand from index at on.
 fn word(s: &[u8], at: usize) -> u16
@@ -31,11 +51,11 @@ fn operand(s: &[u8], at: usize) -> u64
 
 // Record i, no operation past the last.
 fn formula(work: &[u8], n: u32, i: u64) -> Formula
-    requires { ⌜ 32 * n ≤ length (now work) ⌝ }
+    requires { ⌜ workLength * n ≤ length (now work) ⌝ }
     ensures { λ r. ⌜ r ≡ formulaIn (now (work .entry)) n i ⌝ }
 {
     if i < (n as u64) {
-        let at = 16 * (i as usize);
+        let at = RECORD * (i as usize);
         return Formula {
             operation: work[at],
             sort: work[at + 1],
@@ -57,21 +77,21 @@ fn formula(work: &[u8], n: u32, i: u64) -> Formula
 
 // The word of record i's value, 0 past the last.
 fn value(work: &[u8], n: u32, i: u64) -> u16
-    requires { ⌜ 32 * n ≤ length (now work) ⌝ }
+    requires { ⌜ workLength * n ≤ length (now work) ⌝ }
     ensures { λ r. ⌜ r ≡ valueIn (now (work .entry)) n i ⌝ }
 {
     if i < (n as u64) {
-        return word(work, 16 * (n as usize) + 2 * (i as usize));
+        return word(work, RECORD * (n as usize) + 2 * (i as usize));
     }
     0
 }
 
 // Stores the word of record i's value.
 fn store(work: &mut [u8], n: u32, i: u32, word: u16)
-    requires { ⌜ (32 * n ≤ length (now work)) × (i < n) ⌝ }
+    requires { ⌜ (workLength * n ≤ length (now work)) × (i < n) ⌝ }
     ensures { λ _. ⌜ now (work .exit) ≡ stored (now (work .entry)) n i word ⌝ }
 {
-    let at = 16 * (n as usize) + 2 * (i as usize);
+    let at = RECORD * (n as usize) + 2 * (i as usize);
     work[at] = (word % 256) as u8;
     work[at + 1] = (word / 256) as u8;
 }
@@ -94,7 +114,7 @@ fn choice(model: &[u8], threads: u8, bound: u8, k: u64, kind: u64, t: u64) -> bo
 
 // The first cell at address x where addresses ascend, by halves: a check of a model reads cells very often.
 fn search(cells: &[u8], x: u16) -> u16
-    requires { ⌜ mapAccepted 256 (now cells) ≡ true ⌝ }
+    requires { ⌜ mapAccepted runCells (now cells) ≡ true ⌝ }
     ensures { λ r. ⌜ r ≡ mapValue (now (cells .entry)) x ⌝ }
 {
     let mut low: usize = 0;
@@ -116,29 +136,22 @@ fn search(cells: &[u8], x: u16) -> u16
 
 // The first cell at address x: the model's, 0 where it is unlisted.
 fn first(cells: &[u8], ordered: bool, x: u16) -> u16
-    requires { ⌜ (ordered ≡ true → mapAccepted 256 (now cells) ≡ true) ⌝ }
+    requires { ⌜ (ordered ≡ true → mapAccepted runCells (now cells) ≡ true) ⌝ }
     ensures { λ r. ⌜ r ≡ mapValue (now (cells .entry)) x ⌝ }
 {
     if ordered {
         return search(cells, x);
     }
-    let n = cells.len() / 4;
-    let mut k: usize = 0;
-    while k < n {
-        if word(cells, 4 * k) == x {
-            return word(cells, 4 * k + 2);
-        }
-        k += 1;
-    }
-    0
+    let cell = decoding::cell_of(cells, x);
+    cell.value
 }
 
 // The memory behind a write, and the one that an if of memories chooses.
 fn behind(work: &[u8], n: u32, f: Formula) -> u64
-    requires { ⌜ 32 * n ≤ length (now work) ⌝ }
+    requires { ⌜ workLength * n ≤ length (now work) ⌝ }
     ensures { λ r. ⌜ r ≡ memoryBehind (valueIn (now (work .entry)) n) (f .operation) (f .a) (f .b) (f .c) ⌝ }
 {
-    if f.operation == 13 {
+    if f.operation == WRITE {
         return f.a;
     }
     if value(work, n, f.a) == 1 {
@@ -149,7 +162,7 @@ fn behind(work: &[u8], n: u32, f: Formula) -> u64
 
 // The cell at address x of memory m, from the last write back.
 fn read_back(work: &[u8], n: u32, cells: &[u8], ordered: bool, m: u64, x: u16) -> u16
-    requires { ⌜ (32 * n ≤ length (now work)) × (ordered ≡ true → mapAccepted 256 (now cells) ≡ true) ⌝ }
+    requires { ⌜ (workLength * n ≤ length (now work)) × (ordered ≡ true → mapAccepted runCells (now cells) ≡ true) ⌝ }
     ensures { λ r. ⌜ r ≡ cellBack (mapValue (now (cells .entry))) (formulaIn (now (work .entry)) n) (valueIn (now (work .entry)) n) n m x ⌝ }
 {
     let mut left = n;
@@ -157,10 +170,10 @@ fn read_back(work: &[u8], n: u32, cells: &[u8], ordered: bool, m: u64, x: u16) -
     while 0 < left {
         let f = formula(work, n, memory);
         let operation = f.operation;
-        if (operation == 13) & (x == value(work, n, f.b)) {
+        if (operation == WRITE) & (x == value(work, n, f.b)) {
             return value(work, n, f.c);
         }
-        if !((operation == 13) | (operation == 8)) {
+        if !((operation == WRITE) | (operation == IF)) {
             return first(cells, ordered, x);
         }
         memory = behind(work, n, f);
@@ -187,40 +200,40 @@ fn word_of(
     threads: u8,
     bound: u8,
 ) -> u16
-    requires { ⌜ (32 * n ≤ length (now work)) × (ordered ≡ true → mapAccepted 256 (now cells) ≡ true) ⌝ }
+    requires { ⌜ (workLength * n ≤ length (now work)) × (ordered ≡ true → mapAccepted runCells (now cells) ≡ true) ⌝ }
     ensures { λ r. ⌜ r ≡ wordIn (givenBy threads bound (now (model .entry)) (now (cells .entry))) n (now (work .entry)) f ⌝ }
 {
     let operation = f.operation;
     match operation {
-        1 => bit(choice(model, threads, bound, f.a, f.b, f.c)),
-        3 => f.constant,
-        4 => bit(value(work, n, f.a) == 0),
-        5 => bit((value(work, n, f.a) == 1) & (value(work, n, f.b) == 1)),
-        6 => bit((value(work, n, f.a) == 1) | (value(work, n, f.b) == 1)),
-        7 => bit(value(work, n, f.a) == value(work, n, f.b)),
-        8 => {
+        CHOICE => bit(choice(model, threads, bound, f.a, f.b, f.c)),
+        CONSTANT => f.constant,
+        NOT => bit(value(work, n, f.a) == 0),
+        AND => bit((value(work, n, f.a) == 1) & (value(work, n, f.b) == 1)),
+        OR => bit((value(work, n, f.a) == 1) | (value(work, n, f.b) == 1)),
+        EQUAL => bit(value(work, n, f.a) == value(work, n, f.b)),
+        IF => {
             if value(work, n, f.a) == 1 {
                 value(work, n, f.b)
             } else {
                 value(work, n, f.c)
             }
         }
-        9 => base::sum(value(work, n, f.a), value(work, n, f.b)),
-        10 => base::difference(value(work, n, f.a), value(work, n, f.b)),
-        11 => base::product(value(work, n, f.a), value(work, n, f.b)),
-        12 => read_back(work, n, cells, ordered, f.a, value(work, n, f.b)),
-        14 => bit(32768 <= value(work, n, f.a)),
+        PLUS => base::sum(value(work, n, f.a), value(work, n, f.b)),
+        MINUS => base::difference(value(work, n, f.a), value(work, n, f.b)),
+        TIMES => base::product(value(work, n, f.a), value(work, n, f.b)),
+        READ => read_back(work, n, cells, ordered, f.a, value(work, n, f.b)),
+        TOP => bit(32768 <= value(work, n, f.a)),
         _ => 0,
     }
 }
 
 // Whether a record is a constraint or goal that is 0.
 fn is_false(work: &[u8], n: u32, f: Formula) -> bool
-    requires { ⌜ 32 * n ≤ length (now work) ⌝ }
+    requires { ⌜ workLength * n ≤ length (now work) ⌝ }
     ensures { λ r. ⌜ r ≡ isFalse (valueIn (now (work .entry)) n) (f .operation) (f .a) ⌝ }
 {
     let operation = f.operation;
-    if (operation == 15) | (operation == 16) {
+    if (operation == CONSTRAINT) | (operation == GOAL) {
         return value(work, n, f.a) != 1;
     }
     false
@@ -231,11 +244,11 @@ fn is_false(work: &[u8], n: u32, f: Formula) -> bool
 pub fn evaluate(work: &mut [u8], n: u32, model: &[u8], cells: &[u8], threads: u8, bound: u8) -> u32
     ensures { λ r. ⌜ r ≡ falseIn (givenBy threads bound (now (model .entry)) (now (cells .entry))) n (now (work .entry)) ⌝ }
 {
-    if work.len() < 32 * (n as usize) {
+    if work.len() < WORK * (n as usize) {
         return n;
     }
     // asked once for all reads: the cells of an accepted model are in order
-    let ordered = records::map::map_accepted(cells, 256);
+    let ordered = records::map::map_accepted(cells, MODEL_CELLS);
     let mut i: u32 = 0;
     while i < n {
         let f = formula(work, n, i as u64);

@@ -1,7 +1,6 @@
 -- `decoder::clear` meets its contract. Assumes nothing.
 use Rattle.decoder.proofs.Cleared.{cleared-more}
 use lib.ListN.{length, drop, replicate, length-set, drop-of-length-le}
-use denote.Ref.{now}
 use native.Mathlib.Omega.{arith}
 use mathlib.Core.List.{List, _++_, append-nil}
 use mathlib.Core.Path.{_≡_, refl, ap, _∙_}

@@ -2,10 +2,10 @@
 use Rattle.encoding.proofs.Bytes.{Bytes}
 use Rattle.machine.specs.Runs.{choices}
 use Rattle.decoder.proofs.Sized.{Sized, sized}
-use Rattle.decoder.proofs.Shown.{asked, schedule-long, shown-answer, shown-trace, shown-map}
+use Rattle.decoder.proofs.Shown.{asked, memory-there, schedule-long, shown-answer, shown-trace, shown-map}
 use Rattle.decoder.proofs.Judged.{model-bits}
 use Rattle.decoder.specs.Answers.{falseRecord}
-use Rattle.first_cells.specs.Firsts.{foundBy, writtenBy, firstCell}
+use Rattle.first_cells.specs.Firsts.{firstMemory}
 use Rattle.decoder.proofs.Given.{Asked, Given, given as given-cells}
 use Rattle.decoding.specs.Models.{bits, listedCells, modelFits, assigned}
 use Rattle.decoding.specs.Decodings.{runOf}
@@ -104,6 +104,8 @@ returns c =
     let first : List ℕ = take (length model - count) (drop count model) in
     let there : first ≡ listedCells (setOf set .threads) bound model
     = take-all (length model - count) (drop count model) (let e = length-drop count model in omega arith) ∙ ap (λ (T : ℕ). listedCells T bound model) t in
+    let memory : firstMemory map first ≡ mapValue (listedCells (setOf set .threads) bound model)
+    = ap (firstMemory map) there ∙ memory-there set map bound (a .n) z setBytes mapBytes model modelBytes fits none layout (s .pre .1) schedule run in
     let long = schedule-long set map bound (a .n) z setBytes mapBytes model modelBytes fits none layout (s .pre .1) schedule run in
     let before = now (a .trace) in
     let after : List ℕ = x .first-cells .last .1 .1 .1 .1 .1 .0 in
@@ -111,9 +113,9 @@ returns c =
     let cellsAfter : List ℕ = x .first-cells .last .1 .1 .1 .1 .1 .1 .0 in
     let r = x .first-cells .result in
     let given : Given (setBy set layout) map (mapValue (listedCells (setOf set .threads) bound model)) schedule before after cellsBefore cellsAfter r
-    = subst (λ (xs : List ℕ). Given (setBy set layout) map (mapValue xs) schedule before after cellsBefore cellsAfter r) there
-    (given-cells (setBy set layout) map (mapValue first) schedule before after cellsBefore cellsAfter r
-    (subst⁻¹ (λ (xs : List ℕ). Asked (setBy set layout) map (mapValue xs) schedule) there
+    = subst (λ (m : ℕ → ℕ). Given (setBy set layout) map m schedule before after cellsBefore cellsAfter r) memory
+    (given-cells (setBy set layout) map (firstMemory map first) schedule before after cellsBefore cellsAfter r
+    (subst⁻¹ (λ (m : ℕ → ℕ). Asked (setBy set layout) map m schedule) memory
     (asked set map bound (a .n) z setBytes mapBytes model modelBytes fits none layout (s .pre .1) schedule run))
     (omega (arith, long, s .pre .4)) (s .pre .5)
     (x .first-cells .ensures .0) (x .first-cells .ensures .1) (x .first-cells .ensures .2)) in (
