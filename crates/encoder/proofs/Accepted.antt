@@ -7,7 +7,7 @@ use native.Mathlib.Decide.{decLt}
 use native.Mathlib.Omega.{arith}
 use borrow.Author.Tests.{lt-ltb, le-ltb, lt-leb, le-leb}
 use lib.Dec.{ltb, leb}
-use lib.ListN.{length, take, replicate, length-replicate}
+use lib.ListN.{take, replicate, length-replicate}
 use lib.Seq.{take-all}
 use Rattle.base.proofs.Choice.{chosen, passed, and-true, and-false, and-right-false}
 use Rattle.records.specs.Maps.{mapAccepted}
@@ -21,13 +21,16 @@ use Rattle.encoding.specs.Slots.{Slot}
 use Rattle.encoding.proofs.Begun.{start-below}
 use Rattle.encoding.proofs.Distinct.{first-checkpoints-differ}
 use Rattle.encoding.proofs.Listed.{few}
-use Rattle.set_index.specs.Tables.{Distinct}
+use Rattle.set_index.specs.ListTables.{Distinct, ListTable}
 use Rattle.encoder_slots.specs.Places.{size}
 use Rattle.set_index.specs.Points.{listed}
 use Rattle.set_index.specs.declared.points.Points.{Points}
 use Rattle.encoder_slots.proofs.Starts.{place-replicate}
 use Rattle.encoder.specs.Answers.{checked}
-use Rattle.encoder_slots.specs.Pieces.{Limits}
+use Rattle.encoder_slots.specs.Pieces.{Ready}
+use Rattle.encoder_slots.proofs.Idle.{idle-start}
+use Rattle.encoder_size.specs.Sizes.{Limits}
+use Rattle.set_index.specs.Members.{Members}
 use Rattle.encoder.specs.declared.TableAnswer.{TableAnswer}
 use Rattle.encoder.specs.declared.TableAnswer.the-variants.{Refused}
 
@@ -50,18 +53,23 @@ module _ (set : List ℕ) (layout : Layout) (points : Points) (ok : setAccepted 
   ]
 
   -- before a record is written every slot lies at its start
-  pub limits-start : Limits layout points (replicate size 0) 4
-  limits-start = record {
-    fourThreads = few-threads set layout l ok;
-    fewStatements = λ (t : ℕ). subst (λ (S : Set). S .count t ≤ 32) (sym read) (counts t);
-    fewPoints = let e = ap length points-are in let f = few set ok in omega arith;
-    allPlaces = length-replicate {A = ℕ} size 0;
-    below = λ (s : Slot). subst (λ (places : Slot → ℕ). places s < 4) (sym (place-replicate size)) (start-below s);
-  }
+  pub limits : Limits layout
+  limits = record { fourThreads = few-threads set layout l ok; fewStatements = λ (t : ℕ). subst (λ (S : Set). S .count t ≤ 32) (sym read) (counts t) }
 
   pub table-is : (map : List ℕ) (bound : ℕ) → encoded (setBy set layout) (listed points) map bound ≡ tableOf set map bound
   unfolding tableOf
   table-is map bound = λ i. encoded (read i) (points-are i) map bound
+
+-- ---- before the first step
+
+pub ready-start : {S : Set} {cs members lists : List ℕ} → Members S members → ListTable S cs lists → Ready S cs members lists (replicate size 0) 4
+ready-start {S} byClass byName = record {
+  byClass = byClass;
+  byName = byName;
+  allPlaces = length-replicate {A = ℕ} size 0;
+  below = λ (s : Slot). subst (λ (places : Slot → ℕ). places s < 4) (sym (place-replicate size)) (start-below s);
+  idle = idle-start S size;
+}
 
 -- ---- the refusals before the table
 

@@ -41,8 +41,3 @@ goal-written out n places after e =
     let one : n + 1 ≡ suc n = omega arith in
     e ∙ (written-3 out n _ _ _
     ∙ λ i. writtenAt out n (binaryFormula equal2 (places (only code)) (places word0) ∷ unaryFormula not1 n ∷ goal (one i) ∷ []))
-
-pub goal-writes : (out slots : List ℕ) (n : ℕ) (after : List ℕ) → after ≡ writtenAt out n (compiled same (placeOf slots) n (aims goalTree ∷ [])) →
-    Writes (aims goalTree ∷ []) out slots n after slots (n + 3)
-unfolding placesAfter nextAfter next
-goal-writes out slots n after e = record { written = e; places = refl; next = omega arith; slotsStay = refl }

@@ -12,11 +12,11 @@ use Rattle.records.specs.Sets.{Set}
 use Rattle.table.specs.declared.Formula.{Formula}
 use Rattle.table.specs.Formulas.{writtenAt}
 use Rattle.table.specs.Programs.{aims, choiceBit, leafFormula, upto, nextAfter, placesAfter, compiled}
-use Rattle.table.specs.Repeats.{movedBy, repeated, repeatedAt}
+use Rattle.table.specs.Repeats.{movedBy, repeated, repeatedAt, lastIndex}
 use Rattle.table.proofs.Numbered.{upto-length}
 use Rattle.table.proofs.Renamed.{renamed, AllBounded}
-use Rattle.table.proofs.Repeated.{InRange, AllInRange, all-repeated-renamed, part-written}
-use Rattle.table.proofs.Sequences.{compiled-++, compiled-length, next-++, program-grows}
+use Rattle.table.proofs.Repeated.{AllInRange, all-repeated-renamed, part-written}
+use Rattle.table.proofs.Sequences.{compiled-++, compiled-length, program-grows}
 use Rattle.table.proofs.Written.{written-++, written-length}
 use Rattle.encoding.specs.Encodings.{goalTree, firsts, encoded}
 use Rattle.encoding.specs.Slots.{Slot, same, code}
@@ -132,7 +132,7 @@ module _ (S : Set) (cs : List ℕ) (start : Slot → ℕ) (threads first stride 
 
     pub repeated-more : (begun after : List ℕ) → begun ≡ writtenAt now n (bits (suc i)) →
         after ≡ repeatedAt begun (n + (threads + threads)) (stride - (threads + threads)) first stride →
-        16 * (n + stride) ≤ length out → n + stride ≤ 2000000000 → Stepped S cs start first (suc (suc i)) out after (n + stride)
+        16 * (n + stride) ≤ length out → n + stride ≤ lastIndex → Stepped S cs start first (suc (suc i)) out after (n + stride)
     repeated-more begun after e f room small = record { written = bytes; next = index }
       where
         index : n + stride ≡ nextAfter same first (upto (step S cs) (suc (suc i)))
@@ -183,7 +183,7 @@ module _ (S : Set) (cs : List ℕ) (start : Slot → ℕ) (threads first stride 
   pub repeated-next : (k : ℕ) → 2 ≤ k → (out now begun after : List ℕ) (n : ℕ) → Stepped S cs start first k out now n →
       begun ≡ writtenAt now n (upto (λ j. leafFormula (cond (ltb j threads) (choiceBit k 0 j) (choiceBit k 1 (j - threads))) ∷ []) (threads + threads)) →
       after ≡ repeatedAt begun (n + 2 * threads) (stride - 2 * threads) first stride →
-      16 * (n + stride) ≤ length out → n + stride ≤ 2000000000 → Stepped S cs start first (k + 1) out after (n + stride)
+      16 * (n + stride) ≤ length out → n + stride ≤ lastIndex → Stepped S cs start first (k + 1) out after (n + stride)
   repeated-next zero h out now begun after n w e f room small = absurd (omega arith)
   repeated-next (suc zero) h out now begun after n w e f room small = absurd (omega arith)
   repeated-next (suc (suc k)) h out now begun after n w e f room small =

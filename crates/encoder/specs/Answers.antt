@@ -1,21 +1,26 @@
--- The encoder's two calls (document 01): their answers for every input, and the lent output afterwards. Assumes nothing.
+-- The encoder's two calls (document 01): their answers for every input, and the lent output afterwards. A reader of the calls believes this. Assumes
+-- nothing.
 use Prim.Native.Nat.{ℕ, _*_}
 use mathlib.Core.Bool.{Bool, cond, _&&_}
 use mathlib.Core.List.{List}
 use lib.Dec.{ltb, leb}
 use lib.ListN.{length}
 use Rattle.base.specs.Bytes.{over}
-use Rattle.records.specs.Maps.{mapAccepted}
+use Rattle.records.specs.Maps.{mapAccepted, setCells}
 use Rattle.records.specs.Sets.{setAccepted}
 use Rattle.table.specs.Formulas.{tableBytes}
 use Rattle.encoding.specs.Encodings.{tableOf}
 use Rattle.encoder.specs.declared.TableAnswer.{TableAnswer}
 use Rattle.encoder.specs.declared.TableAnswer.the-variants.{Encoded, Refused}
 
+-- a bound from 1 to 64
+abbrev pub boundFits : ℕ → Bool
+boundFits bound = ltb 0 bound && leb bound 64
+
 -- 9, set or map records not as document 01 has them; 10, a bound not 1 to 64; else what comes after
 abbrev pub checked : (set map : List ℕ) (bound : ℕ) → TableAnswer → TableAnswer
 checked set map bound rest =
-    cond (setAccepted set && mapAccepted 128 map) (cond (ltb 0 bound && leb bound 64) rest (Refused 10 0)) (Refused 9 0)
+    cond (setAccepted set && mapAccepted setCells map) (cond (boundFits bound) rest (Refused 10 0)) (Refused 9 0)
 
 -- how many records the table has
 unfoldable pub sizeAnswer : (set map : List ℕ) (bound : ℕ) → TableAnswer

@@ -4,29 +4,52 @@ ghost use mathlib.Core.Bool.{true, cond};
 ghost use mathlib.Core.List.{List, [], _∷_, _++_};
 ghost use Prim.Native.Nat.{ℕ, _+_, _-_, _*_, _≤_, _<_};
 ghost use lib.Dec.{ltb};
-ghost use lib.ListN.{length, replicate};
-ghost use Rattle.records.specs.Maps.{cells, mapAccepted};
+ghost use lib.ListN.{length};
+ghost use Rattle.records.specs.Maps.{cells, mapAccepted, setCells};
 ghost use Rattle.records.specs.Sets.{Set, setBy, setAccepted, layoutOf};
 ghost use Rattle.table.specs.Formulas.{writtenAt};
-ghost use Rattle.table.specs.Repeats.{movedBy};
+ghost use Rattle.table.specs.Repeats.{movedBy, lastIndex};
 ghost use Rattle.table.specs.Programs.{leafFormula, choiceBit, aims, upto, compiled, nextAfter};
 ghost use Rattle.encoding.specs.Encodings.{mapDemand, starting, goalTree, firsts as firstsOf, encoded as encodedOf};
 ghost use Rattle.encoding.specs.Slots.{Slot, same, code as codeKind};
 ghost use Rattle.encoding.specs.Steps.{only, word0, step as stepOf};
-ghost use Rattle.encoder_slots.specs.Places.{placeOf, size as placesCount};
+ghost use Rattle.encoder_slots.specs.Places.{placeOf};
 ghost use Rattle.set_index.specs.Points.{listed};
-ghost use Rattle.set_index.specs.Tables.{ListTable, Distinct};
-ghost use Rattle.set_index.specs.Members.{Members};
+ghost use Rattle.set_index.specs.ListTables.{Distinct};
 ghost use Rattle.encoder.specs.Answers.{sizeAnswer, encodeAnswer, tableOutput};
-ghost use Rattle.encoder_slots.specs.Pieces.{Writes, Limits};
-ghost use Rattle.encoder_slots.specs.Idle.{Idle};
-ghost use Rattle.encoder.specs.Repeating.{Started, Stepped, Ended};
+ghost use Rattle.encoder_slots.specs.Pieces.{Writes, Ready};
+ghost use Rattle.encoder.specs.Repeating.{Started, Stepped, Ended, earlyRoom, stepsRoom};
+ghost use Rattle.encoder_size.specs.Sizes.{Limits};
 use encoder_slots::kinds::CODE;
 use encoder_slots::kinds::SHARED_MEMORY;
 use encoder_slots::kinds::WORD_ZERO;
+use encoder_slots::start;
+use machine::Machine;
 use records::Layout;
+use records::refusals;
 use set_index::points::Points;
 use table::Formula;
+use table::operations::BIT;
+use table::operations::CHOICE;
+use table::operations::CONSTANT;
+use table::operations::CONSTRAINT;
+use table::operations::EQUAL;
+use table::operations::FIRST;
+use table::operations::GOAL;
+use table::operations::MEMORY;
+use table::operations::NO_SORT;
+use table::operations::NOT;
+use table::operations::READ;
+use table::operations::WORD;
+
+// The greatest bound.
+const STEPS: u64 = Machine::STEPS as u64;
+
+// Bytes of a record.
+const BYTES: u64 = Formula::BYTES as u64;
+
+// No statement, in the table of lists.
+const NONE: u8 = set_index::lists::NONE as u8;
 
 // What a call gives: how many records the table has, or the refusal with its number and place.
 pub enum TableAnswer {
@@ -48,10 +71,10 @@ fn steps(
     bound: u8,
     n: u32,
 ) -> u32
-    requires { ⌜ (Limits layout points (now slots) n) × (n ≤ 1000000) × (bound ≤ 64) × (Members (setBy (now set) layout) (now members)) × (ListTable (setBy (now set) layout) (listed points) (now lists)) × (Idle (setBy (now set) layout) (placeOf (now slots))) ⌝ }
+    requires { ⌜ (Ready (setBy (now set) layout) (listed points) (now members) (now lists) (now slots) n) × (n ≤ earlyRoom) × (bound ≤ 64) ⌝ }
     ensures { λ r. ⌜ (Writes (upto (stepOf (setBy (now (set .entry)) layout) (listed points)) bound)
         (now (out .entry)) (now (slots .entry)) n (now (out .exit)) (now (slots .exit)) r)
-        × (r ≤ n + 24182912) ⌝ }
+        × (r ≤ n + stepsRoom) ⌝ }
 {
     let mut next = n;
     let mut k: u8 = 0;
@@ -67,8 +90,8 @@ fn firsts(out: &mut [u8])
     ensures { λ _. ⌜ now (out .exit) ≡ writtenAt (now (out .entry)) 0 firstsOf ⌝ }
 {
     let bit0 = Formula {
-        operation: 3,
-        sort: 1,
+        operation: CONSTANT,
+        sort: BIT,
         constant: 0,
         a: 0,
         b: 0,
@@ -78,10 +101,10 @@ fn firsts(out: &mut [u8])
         constant: 1,
         ..bit0
     };
-    let word0 = Formula { sort: 2, ..bit0 };
+    let word0 = Formula { sort: WORD, ..bit0 };
     let memory = Formula {
-        operation: 2,
-        sort: 3,
+        operation: FIRST,
+        sort: MEMORY,
         ..bit0
     };
     table::put(out, 0, bit0);
@@ -92,47 +115,47 @@ fn firsts(out: &mut [u8])
 
 // Writes the constraint of map cell j.
 fn demand(map: &[u8], slots: &[u32], out: &mut [u8], j: u32, n: u32) -> u32
-    requires { ⌜ n ≤ 2000000000 ⌝ }
+    requires { ⌜ n ≤ lastIndex ⌝ }
     ensures { λ r. ⌜ (Writes (mapDemand (now (map .entry)) j)
         (now (out .entry)) (now (slots .entry)) n (now (out .exit)) (now (slots .entry)) r)
         × (r ≡ n + 5) ⌝ }
 {
     let at = n as u64;
     let address = Formula {
-        operation: 3,
-        sort: 2,
+        operation: CONSTANT,
+        sort: WORD,
         constant: records::map::address_at(map, j),
         a: 0,
         b: 0,
         c: 0,
     };
     let read = Formula {
-        operation: 12,
-        sort: 2,
+        operation: READ,
+        sort: WORD,
         constant: 0,
-        a: encoder_slots::place(slots, SHARED_MEMORY, 0, 0, 3),
+        a: encoder_slots::place(slots, SHARED_MEMORY, 0, 0, start::MEMORY),
         b: at,
         c: 0,
     };
     let value = Formula {
-        operation: 3,
-        sort: 2,
+        operation: CONSTANT,
+        sort: WORD,
         constant: records::map::value_at(map, j),
         a: 0,
         b: 0,
         c: 0,
     };
     let equal = Formula {
-        operation: 7,
-        sort: 1,
+        operation: EQUAL,
+        sort: BIT,
         constant: 0,
         a: at + 1,
         b: at + 2,
         c: 0,
     };
     let constraint = Formula {
-        operation: 15,
-        sort: 0,
+        operation: CONSTRAINT,
+        sort: NO_SORT,
         constant: 0,
         a: at + 3,
         b: 0,
@@ -148,7 +171,7 @@ fn demand(map: &[u8], slots: &[u32], out: &mut [u8], j: u32, n: u32) -> u32
 
 // Writes the constraints of the map.
 fn demands(map: &[u8], slots: &[u32], out: &mut [u8], n: u32) -> u32
-    requires { ⌜ (n ≤ 1000000) × (cells (now map) ≤ 128) ⌝ }
+    requires { ⌜ (n ≤ earlyRoom) × (cells (now map) ≤ 128) ⌝ }
     ensures { λ r. ⌜ (Writes (upto (mapDemand (now (map .entry))) (cells (now (map .entry))))
         (now (out .entry)) (now (slots .entry)) n (now (out .exit)) (now (slots .entry)) r)
         × (r ≤ n + 640) ⌝ }
@@ -173,10 +196,11 @@ fn before_steps(
     slots: &mut [u32],
     out: &mut [u8],
 ) -> u32
-    requires { ⌜ (Limits layout points (now slots) 4) × (cells (now map) ≤ 128) × (Members (setBy (now set) layout) (now members)) × (Idle (setBy (now set) layout) (placeOf (now slots))) ⌝ }
-    ensures { λ r. ⌜ (Writes (starting (setBy (now (set .entry)) layout) (listed points) ++ upto (mapDemand (now (map .entry))) (cells (now (map .entry))))
+    requires { ⌜ cells (now map) ≤ 128 ⌝ }
+    ensures { λ r. ⌜ ((lists : List ℕ) → Ready (setBy (now (set .entry)) layout) (listed points) (now (members .entry)) lists (now (slots .entry)) 4
+        → Writes (starting (setBy (now (set .entry)) layout) (listed points) ++ upto (mapDemand (now (map .entry))) (cells (now (map .entry))))
         (now (out .entry)) (now (slots .entry)) 4 (now (out .exit)) (now (slots .exit)) r)
-        × (r ≤ 9860) ⌝ }
+        × (r ≤ earlyRoom) ⌝ }
 {
     let all = encoder_step::shared(set, layout, members, slots, out, 4);
     demands(map, slots, out, all)
@@ -184,30 +208,30 @@ fn before_steps(
 
 // Writes the goal: the code is not 0.
 fn goal(out: &mut [u8], n: u32, code: u64, zero: u64)
-    requires { ⌜ n ≤ 2000000000 ⌝ }
+    requires { ⌜ n ≤ lastIndex ⌝ }
     ensures { λ _. ⌜ ((places : Slot → ℕ) → code ≡ places (only codeKind) → zero ≡ places word0
         → now (out .exit) ≡ writtenAt (now (out .entry)) n (compiled same places n (aims goalTree ∷ []))) ⌝ }
 {
     let at = n as u64;
     let equal = Formula {
-        operation: 7,
-        sort: 1,
+        operation: EQUAL,
+        sort: BIT,
         constant: 0,
         a: code,
         b: zero,
         c: 0,
     };
     let not = Formula {
-        operation: 4,
-        sort: 1,
+        operation: NOT,
+        sort: BIT,
         constant: 0,
         a: at,
         b: 0,
         c: 0,
     };
     let aim = Formula {
-        operation: 16,
-        sort: 0,
+        operation: GOAL,
+        sort: NO_SORT,
         constant: 0,
         a: at + 1,
         b: 0,
@@ -226,8 +250,8 @@ fn choice_bit(threads: u8, step: u8, j: u8) -> Formula
 {
     if j < threads {
         return Formula {
-            operation: 1,
-            sort: 1,
+            operation: CHOICE,
+            sort: BIT,
             constant: 0,
             a: step as u64,
             b: 0,
@@ -235,8 +259,8 @@ fn choice_bit(threads: u8, step: u8, j: u8) -> Formula
         };
     }
     Formula {
-        operation: 1,
-        sort: 1,
+        operation: CHOICE,
+        sort: BIT,
         constant: 0,
         a: step as u64,
         b: 1,
@@ -246,7 +270,7 @@ fn choice_bit(threads: u8, step: u8, j: u8) -> Formula
 
 // Writes the choice bits of a step.
 fn choice_bits(threads: u8, out: &mut [u8], step: u8, n: u32)
-    requires { ⌜ (n ≤ 1900000000) × (threads ≤ 4) ⌝ }
+    requires { ⌜ (n + (threads + threads) ≤ lastIndex) × (threads ≤ 4) ⌝ }
     ensures { λ _. ⌜ now (out .exit) ≡ writtenAt (now (out .entry)) n
         (upto (λ j. leafFormula (cond (ltb j threads) (choiceBit step 0 j) (choiceBit step 1 (j - threads))) ∷ []) (threads + threads)) ⌝ }
 {
@@ -261,7 +285,7 @@ fn choice_bits(threads: u8, out: &mut [u8], step: u8, n: u32)
 
 // Writes step k by repeating the one before it: its choice bits, and the other records with their operands moved on.
 fn repeated_step(threads: u8, out: &mut [u8], k: u8, first: u32, stride: u32, n: u32)
-    requires { ⌜ (n ≤ 1900000000) × (threads ≤ 4) × (threads + threads ≤ stride) × (stride ≤ 13000000) ⌝ }
+    requires { ⌜ (n + stride ≤ lastIndex) × (threads ≤ 4) × (threads + threads ≤ stride) ⌝ }
     ensures { λ _. ⌜ ((S : Set) (cs : List ℕ) (start : Slot → ℕ) (begun : List ℕ) → Started S cs start threads first stride → 2 ≤ k
         → 16 * (n + stride) ≤ length begun → Stepped S cs start first k begun (now (out .entry)) n
         → Stepped S cs start first (k + 1) begun (now (out .exit)) (n + stride)) ⌝ }
@@ -273,11 +297,11 @@ fn repeated_step(threads: u8, out: &mut [u8], k: u8, first: u32, stride: u32, n:
 
 // Writes the steps after the second.
 fn repeated_steps(threads: u8, out: &mut [u8], bound: u8, first: u32, stride: u32, n: u32) -> u32
-    requires { ⌜ (n ≤ 26000000) × (threads ≤ 4) × (threads + threads ≤ stride) × (stride ≤ 13000000) × (2 ≤ bound) × (bound ≤ 64) ⌝ }
+    requires { ⌜ (n ≤ earlyRoom + stepsRoom) × (threads ≤ 4) × (threads + threads ≤ stride) × (stride ≤ stepsRoom) × (2 ≤ bound) × (bound ≤ 64) ⌝ }
     ensures { λ r. ⌜ ((S : Set) (cs : List ℕ) (start : Slot → ℕ) (begun : List ℕ) → Started S cs start threads first stride
         → 16 * (first + bound * stride) ≤ length begun → Stepped S cs start first 2 begun (now (out .entry)) n
         → Stepped S cs start first bound begun (now (out .exit)) r)
-        × (r ≤ n + 13000000 * bound) ⌝ }
+        × (r ≤ n + stepsRoom * bound) ⌝ }
 {
     let mut next = n;
     let mut k: u8 = 2;
@@ -319,10 +343,10 @@ fn few_steps(
     bound: u8,
     first: u32,
 ) -> Last
-    requires { ⌜ (Limits layout points (now slots) first) × (first ≤ 10000) × (bound ≤ 64) × (Members (setBy (now set) layout) (now members)) × (ListTable (setBy (now set) layout) (listed points) (now lists)) × (Idle (setBy (now set) layout) (placeOf (now slots))) ⌝ }
+    requires { ⌜ (Ready (setBy (now set) layout) (listed points) (now members) (now lists) (now slots) first) × (first ≤ earlyRoom) × (bound ≤ 64) ⌝ }
     ensures { λ r. ⌜ (Ended (setBy (now (set .entry)) layout) (listed points) (placeOf (now (slots .entry))) first bound
         (now (out .entry)) (now (out .exit)) (r .next) (r .code) (r .zero))
-        × (r .next ≤ 25000000) ⌝ }
+        × (r .next ≤ earlyRoom + stepsRoom) ⌝ }
 {
     let next = steps(
         set,
@@ -337,20 +361,20 @@ fn few_steps(
     );
     Last {
         next,
-        code: encoder_slots::place(slots, CODE, 0, 0, 2),
-        zero: encoder_slots::place(slots, WORD_ZERO, 0, 0, 2),
+        code: encoder_slots::place(slots, CODE, 0, 0, start::WORD0),
+        zero: encoder_slots::place(slots, WORD_ZERO, 0, 0, start::WORD0),
     }
 }
 
 // Writes the steps after the second, which repeat the one before.
 fn later_steps(threads: u8, out: &mut [u8], bound: u8, first: u32, second: Last) -> Last
-    requires { ⌜ (threads ≤ 4) × (2 ≤ bound) × (bound ≤ 64) × (first + 4 * threads ≤ second .next) × (second .next ≤ 25000000)
+    requires { ⌜ (threads ≤ 4) × (2 ≤ bound) × (bound ≤ 64) × (first + 4 * threads ≤ second .next) × (second .next ≤ earlyRoom + stepsRoom)
         × (second .code ≤ 4294967296) × (second .zero ≤ 4294967296) ⌝ }
     ensures { λ r. ⌜ ((S : Set) (cs : List ℕ) (start : Slot → ℕ) (begun : List ℕ) → S .threads ≡ threads → ((s : Slot) → start s < first)
         → 16 * nextAfter same first (upto (stepOf S cs) bound) ≤ length begun
         → Ended S cs start first 2 begun (now (out .entry)) (second .next) (second .code) (second .zero)
         → Ended S cs start first bound begun (now (out .exit)) (r .next) (r .code) (r .zero))
-        × (r .next ≤ 900000000) ⌝ }
+        × (r .next ≤ lastIndex) ⌝ }
 {
     let next = second.next;
     let stride = (next - first) / 2;
@@ -374,11 +398,11 @@ fn all_steps(
     bound: u8,
     first: u32,
 ) -> Last
-    requires { ⌜ (Limits layout points (now slots) first) × (first ≤ 10000) × (bound ≤ 64) × (Members (setBy (now set) layout) (now members)) × (ListTable (setBy (now set) layout) (listed points) (now lists))
-        × (16 * nextAfter same first (upto (stepOf (setBy (now set) layout) (listed points)) bound) ≤ length (now out)) × (Idle (setBy (now set) layout) (placeOf (now slots))) ⌝ }
+    requires { ⌜ (Ready (setBy (now set) layout) (listed points) (now members) (now lists) (now slots) first) × (first ≤ earlyRoom) × (bound ≤ 64)
+        × (16 * nextAfter same first (upto (stepOf (setBy (now set) layout) (listed points)) bound) ≤ length (now out)) ⌝ }
     ensures { λ r. ⌜ (Ended (setBy (now (set .entry)) layout) (listed points) (placeOf (now (slots .entry))) first bound
         (now (out .entry)) (now (out .exit)) (r .next) (r .code) (r .zero))
-        × (r .next ≤ 900000000) ⌝ }
+        × (r .next ≤ lastIndex) ⌝ }
 {
     if bound <= 2 {
         return few_steps(
@@ -401,16 +425,16 @@ fn all_steps(
 
 // Writes a table that fits.
 fn write(set: &[u8], layout: Layout, points: Points, map: &[u8], bound: u8, table: &mut [u8])
-    requires { ⌜ (Limits layout points (replicate placesCount 0) 4) × (cells (now map) ≤ 128) × (bound ≤ 64)
+    requires { ⌜ (Limits layout) × (cells (now map) ≤ 128) × (bound ≤ 64)
         × (16 * length (encodedOf (setBy (now set) layout) (listed points) (now map) bound) ≤ length (now table))
         × (Distinct (listed points)) ⌝ }
     ensures { λ _. ⌜ now (table .exit) ≡ writtenAt (now (table .entry)) 0 (encodedOf (setBy (now (set .entry)) layout) (listed points) (now (map .entry)) bound) ⌝ }
 {
-    let mut members = [0u8; 1452];
+    let mut members = [0u8; set_index::members::LENGTH];
     set_index::members::make(set, layout, &mut members);
-    let mut lists = [32u8; 416];
+    let mut lists = [NONE; set_index::lists::LENGTH];
     set_index::lists::make(set, layout, points, &members, &mut lists);
-    let mut slots = [0u32; 2304];
+    let mut slots = [0u32; encoder_slots::SIZE];
     firsts(table);
     let first = before_steps(set, layout, points, &members, map, &mut slots, table);
     let last = all_steps(
@@ -431,18 +455,18 @@ fn write(set: &[u8], layout: Layout, points: Points, map: &[u8], bound: u8, tabl
 
 // The size once set and map are accepted.
 fn accepted_size(set: &[u8], layout: Layout, map: &[u8], bound: u64) -> TableAnswer
-    requires { ⌜ (setAccepted (now set) ≡ true) × (mapAccepted 128 (now map) ≡ true) × (layout ≡ layoutOf (now set)) ⌝ }
+    requires { ⌜ (setAccepted (now set) ≡ true) × (mapAccepted setCells (now map) ≡ true) × (layout ≡ layoutOf (now set)) ⌝ }
     ensures { λ r. ⌜ r ≡ sizeAnswer (now (set .entry)) (now (map .entry)) bound ⌝ }
 {
     if bound == 0 {
         return TableAnswer::Refused {
-            number: 10,
+            number: refusals::BOUND,
             place: 0,
         };
     }
-    if 64 < bound {
+    if STEPS < bound {
         return TableAnswer::Refused {
-            number: 10,
+            number: refusals::BOUND,
             place: 0,
         };
     }
@@ -461,28 +485,28 @@ fn accepted_encode(
     bound: u64,
     table: &mut [u8],
 ) -> TableAnswer
-    requires { ⌜ (setAccepted (now set) ≡ true) × (mapAccepted 128 (now map) ≡ true) × (layout ≡ layoutOf (now set)) ⌝ }
+    requires { ⌜ (setAccepted (now set) ≡ true) × (mapAccepted setCells (now map) ≡ true) × (layout ≡ layoutOf (now set)) ⌝ }
     ensures { λ r. ⌜ (r ≡ encodeAnswer (now (set .entry)) (now (map .entry)) bound (length (now (table .entry))))
         × (now (table .exit) ≡ tableOutput r (now (set .entry)) (now (map .entry)) bound (now (table .entry))) ⌝ }
 {
     if bound == 0 {
         return TableAnswer::Refused {
-            number: 10,
+            number: refusals::BOUND,
             place: 0,
         };
     }
-    if 64 < bound {
+    if STEPS < bound {
         return TableAnswer::Refused {
-            number: 10,
+            number: refusals::BOUND,
             place: 0,
         };
     }
     let points = set_index::points::of_set(set, layout);
     let steps = bound as u8;
     let records = encoder_size::table_records(set, layout, points, map, steps);
-    if (table.len() as u64) < 16 * records {
+    if (table.len() as u64) < BYTES * records {
         return TableAnswer::Refused {
-            number: 11,
+            number: refusals::ROOM,
             place: 0,
         };
     }
@@ -499,15 +523,15 @@ pub fn table_size(set: &[u8], map: &[u8], bound: u64) -> TableAnswer
     let layout = records::set::layout(set);
     if layout.threads == 0 {
         return TableAnswer::Refused {
-            number: 9,
+            number: refusals::RECORDS,
             place: 0,
         };
     }
-    if records::map::map_accepted(map, 128) {
+    if records::map::map_accepted(map, Layout::MAP_CELLS) {
         return accepted_size(set, layout, map, bound);
     }
     TableAnswer::Refused {
-        number: 9,
+        number: refusals::RECORDS,
         place: 0,
     }
 }
@@ -520,15 +544,15 @@ pub fn encode(set: &[u8], map: &[u8], bound: u64, table: &mut [u8]) -> TableAnsw
     let layout = records::set::layout(set);
     if layout.threads == 0 {
         return TableAnswer::Refused {
-            number: 9,
+            number: refusals::RECORDS,
             place: 0,
         };
     }
-    if records::map::map_accepted(map, 128) {
+    if records::map::map_accepted(map, Layout::MAP_CELLS) {
         return accepted_encode(set, layout, map, bound, table);
     }
     TableAnswer::Refused {
-        number: 9,
+        number: refusals::RECORDS,
         place: 0,
     }
 }

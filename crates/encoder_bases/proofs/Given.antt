@@ -1,7 +1,7 @@
 -- What trees of few records are, from the indexes of their operands. Assumes nothing.
 use Prim.Native.Nat.{ℕ, suc, _+_, _≤_}
 use mathlib.Core.Path.{_≡_, refl, ap, sym, subst, _∙_}
-use mathlib.Core.Bool.{Bool, true, false, _||_}
+use mathlib.Core.Bool.{true, false, _||_}
 use mathlib.Core.List.{List, [], _∷_}
 use native.Mathlib.Omega.{arith}
 use native.Mathlib.Decide.{decLt}
@@ -17,16 +17,18 @@ use Rattle.records.specs.declared.Statement.{Statement}
 use Rattle.table.specs.declared.Formula.{Formula}
 use Rattle.table.specs.Formulas.{writtenAt}
 use Rattle.table.specs.Programs.{Leaf, Unary, Binary, Ternary, ref, leaf, unary, binary, ternary, if3, and2, or2, equal2, read2, not1, top1, binaryNumber, binarySort, leafFormula, unaryFormula, ternaryFormula, next, root, records}
-use Rattle.encoding.specs.Slots.{Slot, slot, Term, kinds, kindAt, choice, loaded, result, test}
+use Rattle.encoding.specs.Slots.{Slot, slot, Term, kinds, kindAt, choice, loaded, result, test, kindNumber, flag, kindCount}
 use Rattle.encoding.specs.Steps.{base as baseOf, resultTree, testTree}
+use Rattle.encoder_slots.specs.Places.{ofStatement}
 use Rattle.encoder_slots.specs.Pieces.{WritesTree}
+use Rattle.encoder_slots.proofs.Matches.{Apart, among, apart-among}
 use Rattle.encoder_bases.specs.declared.written.WrittenTree.{WrittenTree}
-use Rattle.encoder_bases.specs.Fews.{Few, Gives, formulas, Puts, plain, One, Three, oneFew, threeFew, ofStatement}
+use Rattle.encoder_bases.specs.SmallTrees.{SmallTree, Gives, formulas, Puts, plain, One, Three, oneRecord, threeRecords}
 use Rattle.encoder_bases.proofs.Records.{recordAt, written-1, written-3, written-4}
 
 -- ---- numbers of records
 
-module _ (at : Slot → ℕ) (n : ℕ) (t : Term) (few : Few) where
+module _ (at : Slot → ℕ) (n : ℕ) (t : Term) (few : SmallTree) where
   pub gives-one : (first : Formula) → One few n first → records at n t [] ≡ first ∷ [] → root at n t ≡ n → next n t ≡ suc n → Gives few at n t
   gives-one first (count, (index, same)) list own after = record {
     formulasAre = (λ z. take (count z) (same z ∷ few .second ∷ few .third ∷ few .fourth ∷ [])) ∙ sym list;
@@ -46,7 +48,7 @@ module _ (at : Slot → ℕ) (n : ℕ) (t : Term) (few : Few) where
 
 -- ---- trees of one record
 
-module _ (at : Slot → ℕ) (n : ℕ) (few : Few) where
+module _ (at : Slot → ℕ) (n : ℕ) (few : SmallTree) where
   pub gives-leaf : (x y : Leaf) → y ≡ x → One few n (leafFormula x) → Gives few at n (leaf y)
   unfolding next root records
   gives-leaf x y e one = gives-one at n (leaf y) few (leafFormula x) one (λ z. leafFormula (e z) ∷ []) refl refl
@@ -128,15 +130,15 @@ gives-load at n s t u v w f g h k p q r o m = record {
 -- ---- trees written
 
 module _ (at : Slot → ℕ) (n : ℕ) (t : Term) (out after : List ℕ) where
-  puts-few : (few : Few) → Gives few at n t → after ≡ writtenAt out n (formulas few) → Puts (record { count = few .count; root = few .root }) at n t out after
+  puts-few : (few : SmallTree) → Gives few at n t → after ≡ writtenAt out n (formulas few) → Puts (record { count = few .count; root = few .root }) at n t out after
   puts-few few g e = record { written = e ∙ ap (writtenAt out n) (g .formulasAre); rootPut = g .rootIs; countPut = g .countIs; fewPut = g .few }
 
-  pub puts-one : (f : Formula) → Gives (oneFew n f) at n t → after ≡ recordAt n f out → Puts (record { count = 1; root = n }) at n t out after
-  puts-one f g e = puts-few (oneFew n f) g (e ∙ written-1 out n f)
+  pub puts-one : (f : Formula) → Gives (oneRecord n f) at n t → after ≡ recordAt n f out → Puts (record { count = 1; root = n }) at n t out after
+  puts-one f g e = puts-few (oneRecord n f) g (e ∙ written-1 out n f)
 
-  pub puts-three : (f g h : Formula) → Gives (threeFew n f g h) at n t → after ≡ recordAt (n + 2) h (recordAt (n + 1) g (recordAt n f out)) →
+  pub puts-three : (f g h : Formula) → Gives (threeRecords n f g h) at n t → after ≡ recordAt (n + 2) h (recordAt (n + 1) g (recordAt n f out)) →
       Puts (record { count = 3; root = n + 2 }) at n t out after
-  puts-three f g h gives e = puts-few (threeFew n f g h) gives (e ∙ written-3 out n f g h)
+  puts-three f g h gives e = puts-few (threeRecords n f g h) gives (e ∙ written-3 out n f g h)
 
   pub puts-four : (f g h k : Formula) → Gives (record { count = 4; root = n + 3; first = f; second = g; third = h; fourth = k }) at n t →
       after ≡ recordAt (n + 3) k (recordAt (n + 2) h (recordAt (n + 1) g (recordAt n f out))) → Puts (record { count = 4; root = n + 3 }) at n t out after
@@ -169,7 +171,7 @@ puts-base S cs threads k a b kind m same e p =
     puts-kind S cs k a b kind m e (puts-as (λ z. baseOf (withThreads S (same z)) cs k (kindAt m) a b) p)
 
 -- past the last kind
-pub kind-past : (kind : ℕ) → 41 ≤ kind → kindAt kind ≡ choice
+pub kind-past : (kind : ℕ) → kindCount ≤ kind → kindAt kind ≡ choice
 unfolding kinds
 kind-past kind h = List·getD-eq-default kinds choice h
 
@@ -192,33 +194,19 @@ result-loads S cs k n t i p q r s u v w =
 
 -- ---- kinds that a `match` does not name
 
--- a number is none of those listed, as a `match` leaves it
-abbrev pub Apart : ℕ → List ℕ → Type 0
-Apart n [] = Unit
-Apart n (k ∷ ks) = Apart n ks × (n ≡ k → ⊥)
-
-among : ℕ → List ℕ → Bool
-among n [] = false
-among n (k ∷ ks) = among n ks || eqb n k
-
-apart-among : (n : ℕ) (ks : List ℕ) → Apart n ks → among n ks ≡ false
-unfolding among
-apart-among n [] r = refl
-apart-among n (k ∷ ks) r = or-false (apart-among n ks (r .0)) (ne-eqb n k (r .1))
-
 -- the kinds by number of neither statements nor flags
 abbrev pub others : List ℕ
 others = 39 ∷ 38 ∷ 37 ∷ 36 ∷ 35 ∷ 34 ∷ 33 ∷ 32 ∷ 30 ∷ 29 ∷ 28 ∷ 27 ∷ 26 ∷ 25 ∷ 24 ∷ 23 ∷ 22 ∷ 21 ∷ 20 ∷ 19 ∷ 18 ∷ 17 ∷ 10 ∷ 9 ∷ 8 ∷ 7 ∷ 6 ∷ 5 ∷ 4 ∷ 3 ∷ 2 ∷ 0 ∷ []
 
-tabled : every 41 (λ n. among n others || (ofStatement n || eqb n 31)) ≡ true
+tabled : every kindCount (λ n. among n others || (ofStatement n || eqb n (kindNumber flag))) ≡ true
 unfolding every among
 tabled = refl
 
-pub kind-other : (kind : ℕ) → Apart kind others → ofStatement kind ≡ false → (kind ≡ 31 → ⊥) → 41 ≤ kind
-kind-other kind r other flagless = elim (decLt kind 41) [
+pub kind-other : (kind : ℕ) → Apart kind others → ofStatement kind ≡ false → (kind ≡ kindNumber flag → ⊥) → kindCount ≤ kind
+kind-other kind r other flagless = elim (decLt kind kindCount) [
   | yes h ↦
-      clash (every-at (λ n. among n others || (ofStatement n || eqb n 31)) 41 kind tabled h)
-      (or-false (apart-among kind others r) (or-false other (ne-eqb kind 31 flagless)))
+      clash (every-at (λ n. among n others || (ofStatement n || eqb n (kindNumber flag))) kindCount kind tabled h)
+      (or-false (apart-among kind others r) (or-false other (ne-eqb kind (kindNumber flag) flagless)))
   | no h ↦ omega arith
 ]
 

@@ -1,2 +1,2 @@
 -- A tree of at most four records as the code gives it.
-pub mod Fews
+pub mod SmallTrees

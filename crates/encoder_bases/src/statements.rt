@@ -7,19 +7,8 @@ ghost use Rattle.table.specs.Programs.{Binary, binaryNumber, binarySort, ref, u
 ghost use Rattle.encoding.specs.Slots.{Kind, Slot, slot, kindNumber, startPlace, choice, active, address, loaded, swaps, result, test, flag, accu, accu as accuKind, bitZero, wordZero, argument};
 ghost use Rattle.encoding.specs.Steps.{base as baseOf};
 ghost use Rattle.encoder_slots.specs.Places.{placeOf};
-ghost use Rattle.encoder_bases.specs.Fews.{Puts, loadOf};
-use crate::operations::AND;
-use crate::operations::BIT;
-use crate::operations::EQUAL;
-use crate::operations::IF;
-use crate::operations::MINUS;
-use crate::operations::NOT;
-use crate::operations::OR;
-use crate::operations::PLUS;
-use crate::operations::READ;
-use crate::operations::TIMES;
-use crate::operations::TOP;
-use crate::operations::WORD;
+ghost use Rattle.encoder_bases.specs.SmallTrees.{Puts, loadOf};
+ghost use Rattle.table.specs.Repeats.{lastIndex};
 use crate::written::Load;
 use crate::written::WrittenTree;
 use crate::written::formula;
@@ -42,11 +31,24 @@ use encoder_slots::kinds::TEST;
 use encoder_slots::kinds::WORD_ONE;
 use encoder_slots::kinds::WORD_ZERO;
 use encoder_slots::place;
+use encoder_slots::start;
 use records::Statement;
 use records::instructions;
+use table::operations::AND;
+use table::operations::BIT;
+use table::operations::EQUAL;
+use table::operations::IF;
+use table::operations::MINUS;
+use table::operations::NOT;
+use table::operations::OR;
+use table::operations::PLUS;
+use table::operations::READ;
+use table::operations::TIMES;
+use table::operations::TOP;
+use table::operations::WORD;
 
 // Where the flag of statement i of thread t lies; statement 0 is the next one at the start.
-pub fn flag_place(slots: &[u32], t: u8, i: u16) -> u64
+fn flag_place(slots: &[u32], t: u8, i: u16) -> u64
     ensures { λ r. ⌜ r ≡ placeOf (now (slots .entry)) (slot flag t i) ⌝ }
 {
     place(slots, FLAG, t, i, (i == 0) as u64)
@@ -61,7 +63,7 @@ pub fn put_active(
     i: u16,
     n: u32,
 ) -> WrittenTree
-    ensures { λ r. ⌜ (executes ≡ placeOf (now (slots .entry)) (slot choice 0 t) → n ≤ 2000000000
+    ensures { λ r. ⌜ (executes ≡ placeOf (now (slots .entry)) (slot choice 0 t) → n ≤ lastIndex
         → Puts r (placeOf (now (slots .entry))) n (binary and2 (ref (slot flag t i)) (ref (slot choice 0 t))) (now (out .entry)) (now (out .exit))) × (r .count ≤ 4) ⌝ }
 {
     let flag = flag_place(slots, t, i);
@@ -78,14 +80,14 @@ pub fn put_address(
     i: u16,
     n: u32,
 ) -> WrittenTree
-    ensures { λ r. ⌜ ((S : Set) (cs : List ℕ) (k : ℕ) → statement ≡ S .statement t i → load ≡ loadOf (placeOf (now (slots .entry))) t → n ≤ 2000000000
+    ensures { λ r. ⌜ ((S : Set) (cs : List ℕ) (k : ℕ) → statement ≡ S .statement t i → load ≡ loadOf (placeOf (now (slots .entry))) t → n ≤ lastIndex
         → Puts r (placeOf (now (slots .entry))) n (baseOf S cs k address t i) (now (out .entry)) (now (out .exit))) × (r .count ≤ 4) ⌝ }
 {
     if statement.mode == 1 {
-        let argument = place(slots, ARGUMENT, t, i, 2);
+        let argument = place(slots, ARGUMENT, t, i, start::WORD0);
         return put_load(out, load, argument, n);
     }
-    put_none(slots, ARGUMENT, t, i, 2)
+    put_none(slots, ARGUMENT, t, i, start::WORD0)
 }
 
 // The word that a statement loads; `nothing` is where that of others lies.
@@ -99,7 +101,7 @@ pub fn put_loaded(
     i: u16,
     n: u32,
 ) -> WrittenTree
-    ensures { λ r. ⌜ ((S : Set) (cs : List ℕ) (k : ℕ) → statement ≡ S .statement t i → load ≡ loadOf (placeOf (now (slots .entry))) t → nothing ≡ placeOf (now (slots .entry)) (slot wordZero 0 0) → n ≤ 2000000000
+    ensures { λ r. ⌜ ((S : Set) (cs : List ℕ) (k : ℕ) → statement ≡ S .statement t i → load ≡ loadOf (placeOf (now (slots .entry))) t → nothing ≡ placeOf (now (slots .entry)) (slot wordZero 0 0) → n ≤ lastIndex
         → Puts r (placeOf (now (slots .entry))) n (baseOf S cs k loaded t i) (now (out .entry)) (now (out .exit))) × (r .count ≤ 4) ⌝ }
 {
     let number = statement.number;
@@ -109,7 +111,7 @@ pub fn put_loaded(
         | (number == instructions::MUL)
         | (number == instructions::MEM)
     {
-        let address = place(slots, ADDRESS, t, i, 2);
+        let address = place(slots, ADDRESS, t, i, start::WORD0);
         return put_load(out, load, address, n);
     }
     put_at(nothing)
@@ -125,16 +127,16 @@ pub fn put_swaps(
     i: u16,
     n: u32,
 ) -> WrittenTree
-    ensures { λ r. ⌜ ((S : Set) (cs : List ℕ) (k : ℕ) → statement ≡ S .statement t i → nothing ≡ placeOf (now (slots .entry)) (slot bitZero 0 0) → n ≤ 2000000000
+    ensures { λ r. ⌜ ((S : Set) (cs : List ℕ) (k : ℕ) → statement ≡ S .statement t i → nothing ≡ placeOf (now (slots .entry)) (slot bitZero 0 0) → n ≤ lastIndex
         → Puts r (placeOf (now (slots .entry))) n (baseOf S cs k swaps t i) (now (out .entry)) (now (out .exit))) × (r .count ≤ 4) ⌝ }
 {
     let k = n as u64;
     let next = k + 1;
     if statement.number == instructions::CAS {
-        let memory = place(slots, SHARED_MEMORY, 0, 0, 3);
-        let address = place(slots, ADDRESS, t, i, 2);
-        let mem = place(slots, MEM, t, 0, 2);
-        let active = place(slots, ACTIVE, t, i, 0);
+        let memory = place(slots, SHARED_MEMORY, 0, 0, start::MEMORY);
+        let address = place(slots, ADDRESS, t, i, start::WORD0);
+        let mem = place(slots, MEM, t, 0, start::WORD0);
+        let active = place(slots, ACTIVE, t, i, start::BIT0);
         let first = formula(READ, WORD, memory, address, 0);
         let second = formula(EQUAL, BIT, k, mem, 0);
         let third = formula(AND, BIT, active, next, 0);
@@ -144,7 +146,7 @@ pub fn put_swaps(
 }
 
 // Accu and another word of the statement, joined.
-pub fn put_arithmetic(
+fn put_arithmetic(
     slots: &[u32],
     out: &mut [u8],
     operation: u8,
@@ -153,11 +155,11 @@ pub fn put_arithmetic(
     i: u16,
     n: u32,
 ) -> WrittenTree
-    ensures { λ r. ⌜ ((o : Binary) (k : Kind) → operation ≡ binaryNumber o → 2 ≡ binarySort o → kind ≡ kindNumber k → 2 ≡ startPlace (slot k t i) → n ≤ 2000000000
+    ensures { λ r. ⌜ ((o : Binary) (k : Kind) → operation ≡ binaryNumber o → 2 ≡ binarySort o → kind ≡ kindNumber k → 2 ≡ startPlace (slot k t i) → n ≤ lastIndex
         → Puts r (placeOf (now (slots .entry))) n (binary o (ref (slot accu t 0)) (ref (slot k t i))) (now (out .entry)) (now (out .exit))) × (r .count ≤ 4) ⌝ }
 {
-    let accu = place(slots, ACCU, t, 0, 2);
-    let operand = place(slots, kind, t, i, 2);
+    let accu = place(slots, ACCU, t, 0, start::WORD0);
+    let operand = place(slots, kind, t, i, start::WORD0);
     put_one(out, n, operation, WORD, accu, operand, 0)
 }
 
@@ -170,7 +172,7 @@ pub fn put_result(
     i: u16,
     n: u32,
 ) -> WrittenTree
-    ensures { λ r. ⌜ ((S : Set) (cs : List ℕ) (k : ℕ) → statement ≡ S .statement t i → n ≤ 2000000000
+    ensures { λ r. ⌜ ((S : Set) (cs : List ℕ) (k : ℕ) → statement ≡ S .statement t i → n ≤ lastIndex
         → Puts r (placeOf (now (slots .entry))) n (baseOf S cs k result t i) (now (out .entry)) (now (out .exit))) × (r .count ≤ 4) ⌝ }
 {
     let number = statement.number;
@@ -182,12 +184,12 @@ pub fn put_result(
         instructions::MUL => put_arithmetic(slots, out, TIMES, LOADED, t, i, n),
         instructions::MULI => put_arithmetic(slots, out, TIMES, ARGUMENT, t, i, n),
         instructions::CAS => {
-            let swaps = place(slots, SWAPS, t, i, 0);
-            let word_one = place(slots, WORD_ONE, 0, 0, 2);
-            let zero = place(slots, WORD_ZERO, 0, 0, 2);
+            let swaps = place(slots, SWAPS, t, i, start::BIT0);
+            let word_one = place(slots, WORD_ONE, 0, 0, start::WORD0);
+            let zero = place(slots, WORD_ZERO, 0, 0, start::WORD0);
             put_one(out, n, IF, WORD, swaps, word_one, zero)
         }
-        _ => put_none(slots, LOADED, t, i, 2),
+        _ => put_none(slots, LOADED, t, i, start::WORD0),
     }
 }
 
@@ -200,7 +202,7 @@ pub fn put_test(
     nothing: u64,
     n: u32,
 ) -> WrittenTree
-    ensures { λ r. ⌜ ((S : Set) (cs : List ℕ) (k t i : ℕ) (at : Slot → ℕ) → statement ≡ S .statement t i → accu ≡ at (slot accuKind t 0) → zero ≡ at (slot wordZero 0 0) → nothing ≡ at (slot bitZero 0 0) → n ≤ 2000000000
+    ensures { λ r. ⌜ ((S : Set) (cs : List ℕ) (k t i : ℕ) (at : Slot → ℕ) → statement ≡ S .statement t i → accu ≡ at (slot accuKind t 0) → zero ≡ at (slot wordZero 0 0) → nothing ≡ at (slot bitZero 0 0) → n ≤ lastIndex
         → Puts r at n (baseOf S cs k test t i) (now (out .entry)) (now (out .exit))) × (r .count ≤ 4) ⌝ }
 {
     let k = n as u64;
@@ -223,9 +225,9 @@ pub fn put_test(
 
 // The test of statement i of thread t, a conditional jump, does not hold.
 pub fn put_not_test(slots: &[u32], out: &mut [u8], t: u8, i: u16, n: u32) -> WrittenTree
-    ensures { λ r. ⌜ (n ≤ 2000000000 → Puts r (placeOf (now (slots .entry))) n (unary not1 (ref (slot test t i))) (now (out .entry)) (now (out .exit))) × (r .count ≤ 4) ⌝ }
+    ensures { λ r. ⌜ (n ≤ lastIndex → Puts r (placeOf (now (slots .entry))) n (unary not1 (ref (slot test t i))) (now (out .entry)) (now (out .exit))) × (r .count ≤ 4) ⌝ }
 {
-    let holds = place(slots, TEST, t, i, 0);
+    let holds = place(slots, TEST, t, i, start::BIT0);
     put_one(out, n, NOT, BIT, holds, 0, 0)
 }
 
@@ -240,7 +242,7 @@ pub fn put_flag(
     i: u16,
     n: u32,
 ) -> WrittenTree
-    ensures { λ r. ⌜ ((S : Set) (cs : List ℕ) (k : ℕ) → statement ≡ S .statement t i → executes ≡ placeOf (now (slots .entry)) (slot choice 0 t) → zero ≡ placeOf (now (slots .entry)) (slot bitZero 0 0) → n ≤ 2000000000
+    ensures { λ r. ⌜ ((S : Set) (cs : List ℕ) (k : ℕ) → statement ≡ S .statement t i → executes ≡ placeOf (now (slots .entry)) (slot choice 0 t) → zero ≡ placeOf (now (slots .entry)) (slot bitZero 0 0) → n ≤ lastIndex
         → Puts r (placeOf (now (slots .entry))) n (baseOf S cs k flag t i) (now (out .entry)) (now (out .exit))) × (r .count ≤ 4) ⌝ }
 {
     let number = statement.number;

@@ -7,20 +7,22 @@ ghost use lib.Dec.{eqb};
 ghost use Rattle.table.specs.Programs.{Binary, binaryNumber, binarySort, ref, leaf, binary, ternary, constantWord, and2, equal2, read2, if3};
 ghost use Rattle.encoding.specs.Slots.{Kind, Slot, slot, Term, kindNumber, startPlace, full, adr, val, sharedMemory};
 ghost use Rattle.encoder_slots.specs.Places.{placeOf};
-ghost use Rattle.encoder_bases.specs.Fews.{Gives, Puts, loadOf, plain, oneFew, threeFew};
-use crate::operations::AND;
-use crate::operations::BIT;
-use crate::operations::CONSTANT;
-use crate::operations::EQUAL;
-use crate::operations::IF;
-use crate::operations::READ;
-use crate::operations::WORD;
+ghost use Rattle.encoder_bases.specs.SmallTrees.{Gives, Puts, loadOf, plain, oneRecord, threeRecords};
+ghost use Rattle.table.specs.Repeats.{lastIndex};
 use encoder_slots::kinds::ADR;
 use encoder_slots::kinds::FULL;
 use encoder_slots::kinds::SHARED_MEMORY;
 use encoder_slots::kinds::VAL;
 use encoder_slots::place;
+use encoder_slots::start;
 use table::Formula;
+use table::operations::AND;
+use table::operations::BIT;
+use table::operations::CONSTANT;
+use table::operations::EQUAL;
+use table::operations::IF;
+use table::operations::READ;
+use table::operations::WORD;
 
 // How many records were written, and the index of the tree that they are of.
 pub struct WrittenTree {
@@ -30,10 +32,10 @@ pub struct WrittenTree {
 
 // The index k places on; the last indexes are never reached.
 fn after(n: u32, k: u32) -> u32
-    ensures { λ r. ⌜ (n ≤ 2000000000 → k ≤ 4 → r ≡ n + k) ⌝ }
+    ensures { λ r. ⌜ (n ≤ lastIndex → k ≤ 4 → r ≡ n + k) ⌝ }
 {
     if k <= 4 {
-        if n <= 2000000000 {
+        if n <= Formula::LAST {
             return n + k;
         }
     }
@@ -79,7 +81,7 @@ pub fn put_one(
     b: u64,
     c: u64,
 ) -> WrittenTree
-    ensures { λ r. ⌜ ((at : Slot → ℕ) (t : Term) → Gives (oneFew n (plain operation sort a b c)) at n t → Puts r at n t (now (out .entry)) (now (out .exit))) × (r .count ≤ 4) ⌝ }
+    ensures { λ r. ⌜ ((at : Slot → ℕ) (t : Term) → Gives (oneRecord n (plain operation sort a b c)) at n t → Puts r at n t (now (out .entry)) (now (out .exit))) × (r .count ≤ 4) ⌝ }
 {
     let first = formula(operation, sort, a, b, c);
     table::put(out, n, first);
@@ -116,7 +118,7 @@ pub fn put_three(
     second: Formula,
     third: Formula,
 ) -> WrittenTree
-    ensures { λ r. ⌜ ((at : Slot → ℕ) (t : Term) → n ≤ 2000000000 → Gives (threeFew n first second third) at n t → Puts r at n t (now (out .entry)) (now (out .exit))) × (r .count ≤ 4) ⌝ }
+    ensures { λ r. ⌜ ((at : Slot → ℕ) (t : Term) → n ≤ lastIndex → Gives (threeRecords n first second third) at n t → Puts r at n t (now (out .entry)) (now (out .exit))) × (r .count ≤ 4) ⌝ }
 {
     table::put(out, n, first);
     table::put(out, after(n, 1), second);
@@ -139,10 +141,10 @@ pub struct Load {
 pub fn load_of(slots: &[u32], t: u8) -> Load
     ensures { λ r. ⌜ r ≡ loadOf (placeOf (now (slots .entry))) t ⌝ }
 {
-    let full = place(slots, FULL, t, 0, 0);
-    let adr = place(slots, ADR, t, 0, 2);
-    let val = place(slots, VAL, t, 0, 2);
-    let memory = place(slots, SHARED_MEMORY, 0, 0, 3);
+    let full = place(slots, FULL, t, 0, start::BIT0);
+    let adr = place(slots, ADR, t, 0, start::WORD0);
+    let val = place(slots, VAL, t, 0, start::WORD0);
+    let memory = place(slots, SHARED_MEMORY, 0, 0, start::MEMORY);
     Load {
         full,
         adr,
@@ -153,7 +155,7 @@ pub fn load_of(slots: &[u32], t: u8) -> Load
 
 // A load of the address at index x: if full and adr is x then val else the cell.
 pub fn put_load(out: &mut [u8], load: Load, x: u64, n: u32) -> WrittenTree
-    ensures { λ r. ⌜ ((at : Slot → ℕ) (t : ℕ) (s : Slot) → load ≡ loadOf at t → x ≡ at s → n ≤ 2000000000 → Puts r at n
+    ensures { λ r. ⌜ ((at : Slot → ℕ) (t : ℕ) (s : Slot) → load ≡ loadOf at t → x ≡ at s → n ≤ lastIndex → Puts r at n
         (ternary (if3 2) (binary and2 (ref (slot full t 0)) (binary equal2 (ref (slot adr t 0)) (ref s))) (ref (slot val t 0)) (binary read2 (ref (slot sharedMemory 0 0)) (ref s))) (now (out .entry)) (now (out .exit))) × (r .count ≤ 4) ⌝ }
 {
     let k = n as u64;
@@ -196,7 +198,7 @@ pub fn put_joined(
     ensures { λ r. ⌜ ((o : Binary) (k l : Kind) → operation ≡ binaryNumber o → 1 ≡ binarySort o → kind ≡ kindNumber k → other ≡ kindNumber l
         → 0 ≡ startPlace (slot k a b) → 0 ≡ startPlace (slot l c d) → Puts r (placeOf (now (slots .entry))) n (binary o (ref (slot k a b)) (ref (slot l c d))) (now (out .entry)) (now (out .exit))) × (r .count ≤ 4) ⌝ }
 {
-    let first = place(slots, kind, a, b, 0);
-    let second = place(slots, other, c, d, 0);
+    let first = place(slots, kind, a, b, start::BIT0);
+    let second = place(slots, other, c, d, start::BIT0);
     put_one(out, n, operation, BIT, first, second, 0)
 }

@@ -6,7 +6,6 @@ use mathlib.Core.List.{List}
 use native.Mathlib.Omega.{arith}
 use lib.ListN.{getD}
 use Rattle.base.proofs.Choice.{refuted, passed}
-use Rattle.records.specs.Instructions.{CHECK}
 use Rattle.records.specs.Sets.{Set}
 use Rattle.machine.specs.Machine.{isCheck}
 use Rattle.encoding.specs.Slots.{Slot, Term, raised}

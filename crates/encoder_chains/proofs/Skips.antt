@@ -1,28 +1,25 @@
--- A number that no arm of a `match` names, and kinds to whose chains statements give no links. Assumes nothing.
+-- Kinds to whose chains statements give no links. Assumes nothing.
 use Prim.Native.Nat.{ℕ}
 use mathlib.Core.Path.{_≡_, _∙_}
-use mathlib.Core.List.{List, [], _∷_}
+use mathlib.Core.List.{[], _∷_}
 use borrow.Author.Tests.{ne-eqb}
 use Rattle.base.proofs.Choice.{passed}
 use Rattle.encoding.specs.Steps.{skip}
+use Rattle.encoder_slots.proofs.Matches.{Apart}
 use Rattle.encoder_chains.specs.Given.{givenLink}
-
--- a number is none of those listed, as a `match` leaves it
-abbrev pub Apart : ℕ → List ℕ → Type 0
-Apart n [] = Unit
-Apart n (k ∷ ks) = Apart n ks × (n ≡ k → ⊥)
+use Rattle.encoding.specs.Slots.{kindNumber, accu, adr, barred, codes, exits, full, halted, mem, val, writeTo, writeValue}
 
 -- a kind that no arm names
-pub given-else : (kind t i n : ℕ) → Apart kind (30 ∷ 29 ∷ 28 ∷ 27 ∷ 26 ∷ 25 ∷ 23 ∷ 22 ∷ 20 ∷ 18 ∷ 4 ∷ []) → givenLink kind t i n ≡ skip
+pub given-else : (kind t i n : ℕ) → Apart kind (kindNumber halted ∷ kindNumber full ∷ kindNumber accu ∷ kindNumber mem ∷ kindNumber adr ∷ kindNumber val ∷ kindNumber codes ∷ kindNumber exits ∷ kindNumber writeValue ∷ kindNumber writeTo ∷ kindNumber barred ∷ []) → givenLink kind t i n ≡ skip
 given-else kind t i n r =
-    passed _ _ (ne-eqb kind 4 (r .0 .0 .0 .0 .0 .0 .0 .0 .0 .0 .1))
-    ∙ passed _ _ (ne-eqb kind 18 (r .0 .0 .0 .0 .0 .0 .0 .0 .0 .1))
-    ∙ passed _ _ (ne-eqb kind 20 (r .0 .0 .0 .0 .0 .0 .0 .0 .1))
-    ∙ passed _ _ (ne-eqb kind 22 (r .0 .0 .0 .0 .0 .0 .0 .1))
-    ∙ passed _ _ (ne-eqb kind 23 (r .0 .0 .0 .0 .0 .0 .1))
-    ∙ passed _ _ (ne-eqb kind 25 (r .0 .0 .0 .0 .0 .1))
-    ∙ passed _ _ (ne-eqb kind 26 (r .0 .0 .0 .0 .1))
-    ∙ passed _ _ (ne-eqb kind 27 (r .0 .0 .0 .1))
-    ∙ passed _ _ (ne-eqb kind 28 (r .0 .0 .1))
-    ∙ passed _ _ (ne-eqb kind 29 (r .0 .1))
-    ∙ passed _ _ (ne-eqb kind 30 (r .1))
+    passed _ _ (ne-eqb kind (kindNumber barred) (r .0 .0 .0 .0 .0 .0 .0 .0 .0 .0 .1))
+    ∙ passed _ _ (ne-eqb kind (kindNumber writeTo) (r .0 .0 .0 .0 .0 .0 .0 .0 .0 .1))
+    ∙ passed _ _ (ne-eqb kind (kindNumber writeValue) (r .0 .0 .0 .0 .0 .0 .0 .0 .1))
+    ∙ passed _ _ (ne-eqb kind (kindNumber exits) (r .0 .0 .0 .0 .0 .0 .0 .1))
+    ∙ passed _ _ (ne-eqb kind (kindNumber codes) (r .0 .0 .0 .0 .0 .0 .1))
+    ∙ passed _ _ (ne-eqb kind (kindNumber val) (r .0 .0 .0 .0 .0 .1))
+    ∙ passed _ _ (ne-eqb kind (kindNumber adr) (r .0 .0 .0 .0 .1))
+    ∙ passed _ _ (ne-eqb kind (kindNumber mem) (r .0 .0 .0 .1))
+    ∙ passed _ _ (ne-eqb kind (kindNumber accu) (r .0 .0 .1))
+    ∙ passed _ _ (ne-eqb kind (kindNumber full) (r .0 .1))
+    ∙ passed _ _ (ne-eqb kind (kindNumber halted) (r .1))

@@ -1,8 +1,9 @@
--- The values that there is one of and that have links. Assumes nothing.
+-- The values that there is one of and that have links. This serves the code; no call's promise needs it. Assumes nothing.
 use Prim.Native.Nat.{ℕ}
 use mathlib.Core.Bool.{Bool, _||_}
 use lib.Dec.{eqb}
+use Rattle.encoding.specs.Slots.{kindNumber, onePermitted, flushTo, flushValue, halts}
 
--- one, flushTo, flushValue and halts by number
+-- these kinds by number
 abbrev pub chained : ℕ → Bool
-chained kind = eqb kind 10 || eqb kind 17 || eqb kind 19 || eqb kind 33
+chained kind = eqb kind (kindNumber onePermitted) || eqb kind (kindNumber flushTo) || eqb kind (kindNumber flushValue) || eqb kind (kindNumber halts)

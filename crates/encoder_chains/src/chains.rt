@@ -10,21 +10,28 @@ ghost use Rattle.encoding.specs.Steps.{link as linkOf, links as linksOf, chain 
 ghost use Rattle.encoder_slots.specs.Pieces.{WritesTree};
 ghost use Rattle.encoder_slots.specs.Places.{placeOf, size};
 ghost use Rattle.encoder_chains.specs.Chained.{chained};
-ghost use Rattle.set_index.specs.Tables.{ListTable};
+ghost use Rattle.set_index.specs.ListTables.{ListTable};
 ghost use Rattle.encoder_chains.specs.Placed.{placedLink};
+ghost use Rattle.table.specs.Repeats.{lastIndex};
 use crate::Link;
-use crate::parts::AND;
-use crate::parts::OR;
 use crate::parts::bit_if;
 use crate::parts::contained;
 use crate::parts::flushed;
 use crate::parts::halts;
-use crate::parts::one;
+use crate::parts::one_permitted;
 use crate::written::Root;
 use crate::written::put_link;
+use encoder_slots::SIZE;
+use encoder_slots::THREADS;
 use encoder_slots::kinds;
+use records::Layout;
 use set_index::checks::first;
 use set_index::checks::following;
+use set_index::lists;
+use table::operations::AND;
+use table::operations::OR;
+
+const POINTS: u16 = Layout::CHECKPOINTS as u16;
 
 // Writes the links that the CHECKs of thread t give to the chain of RAISED for checkpoint p over a tree: only these are visited.
 pub fn raised_chain(
@@ -36,7 +43,7 @@ pub fn raised_chain(
     n: u32,
     base: u64,
 ) -> Root
-    ensures { λ r. ⌜ ((S : Set) (cs : List ℕ) (tree : Term) (start : List ℕ) (m : ℕ) → t < S .threads → p < length cs → n ≤ 1900000000 → length (now (slots .entry)) ≡ size
+    ensures { λ r. ⌜ ((S : Set) (cs : List ℕ) (tree : Term) (start : List ℕ) (m : ℕ) → t < S .threads → p < length cs → n + 32 ≤ lastIndex → length (now (slots .entry)) ≡ size
         → ListTable S cs (now (table .entry))
         → WritesTree (placeOf (now (slots .entry))) tree start m (now (out .entry)) n base
         → WritesTree (placeOf (now (slots .entry))) (chainOf (linkOf S cs 0 raised t p) (S .count t) tree) start m (now (out .exit)) (r .next) (r .at))
@@ -44,17 +51,17 @@ pub fn raised_chain(
 {
     let mut tree = Root { next: n, at: base };
     // With these known, the compiler drops the tests of places in the loop.
-    if 4 <= t {
+    if THREADS <= t {
         return tree;
     }
-    if slots.len() != 2304 {
+    if slots.len() != SIZE {
         return tree;
     }
-    if table.len() != 416 {
+    if table.len() != lists::LENGTH {
         return tree;
     }
     let mut i = first(table, t, p);
-    while i < 32 {
+    while i < lists::NONE {
         let link = bit_if(slots, true, t, i);
         tree = put_link(out, tree.next, tree.at, link);
         i = following(table, t, i);
@@ -80,26 +87,26 @@ fn single_link(slots: &[u32], threads: u8, kind: u8, i: u16) -> Link
         → r ≡ placedLink (placeOf (now (slots .entry))) (linkOf S cs 0 (kindAt kind) 0 0 i)) ⌝ }
 {
     match kind {
-        kinds::ONE_PERMITTED => one(slots, i),
+        kinds::ONE_PERMITTED => one_permitted(slots, i),
         kinds::FLUSH_TO => flushed(threads, slots, kinds::ADR, i),
         kinds::FLUSH_VALUE => flushed(threads, slots, kinds::VAL, i),
         _ => halts(slots, i),
     }
 }
 
-// Writes the links of the chain of a value that there is one of: over the choices (ONE) or the threads (FLUSH_TO, FLUSH_VALUE, HALTS).
+// Writes the links of the chain of a value that there is one of: over the choices (ONE_PERMITTED) or the threads (FLUSH_TO, FLUSH_VALUE, HALTS).
 pub fn single_chain(slots: &[u32], out: &mut [u8], threads: u8, kind: u8, n: u32, base: u64) -> Root
-    ensures { λ r. ⌜ ((S : Set) (cs : List ℕ) (tree : Term) (start : List ℕ) (m : ℕ) → S .threads ≡ threads → threads ≤ 4 → chained kind ≡ true → n ≤ 1900000000 → length (now (slots .entry)) ≡ size
+    ensures { λ r. ⌜ ((S : Set) (cs : List ℕ) (tree : Term) (start : List ℕ) (m : ℕ) → S .threads ≡ threads → threads ≤ 4 → chained kind ≡ true → n + 8 ≤ lastIndex → length (now (slots .entry)) ≡ size
         → WritesTree (placeOf (now (slots .entry))) tree start m (now (out .entry)) n base
         → WritesTree (placeOf (now (slots .entry))) (chainOf (linkOf S cs 0 (kindAt kind) 0 0) (linksOf S cs 0 (kindAt kind) 0 0) tree) start m (now (out .exit)) (r .next) (r .at))
         × (r .next ≤ n + 8) ⌝ }
 {
     let mut tree = Root { next: n, at: base };
     // With these known, the compiler drops the tests of places in the loop.
-    if slots.len() != 2304 {
+    if slots.len() != SIZE {
         return tree;
     }
-    if 4 < threads {
+    if THREADS < threads {
         return tree;
     }
     let many = single_links(threads, kind);
@@ -122,7 +129,7 @@ pub fn opening_chain(
     n: u32,
     base: u64,
 ) -> Root
-    ensures { λ r. ⌜ ((S : Set) (cs : List ℕ) (tree : Term) (start : List ℕ) (m : ℕ) → S .threads ≡ threads → p < length cs → n ≤ 1900000000 → length (now (slots .entry)) ≡ size
+    ensures { λ r. ⌜ ((S : Set) (cs : List ℕ) (tree : Term) (start : List ℕ) (m : ℕ) → S .threads ≡ threads → p < length cs → n + 4 ≤ lastIndex → length (now (slots .entry)) ≡ size
         → ListTable S cs (now (table .entry))
         → WritesTree (placeOf (now (slots .entry))) tree start m (now (out .entry)) n base
         → WritesTree (placeOf (now (slots .entry))) (chainOf (linkOf S cs 0 opening 0 p) (S .threads) tree) start m (now (out .exit)) (r .next) (r .at))
@@ -130,13 +137,13 @@ pub fn opening_chain(
 {
     let mut tree = Root { next: n, at: base };
     // With these known, the compiler drops the tests of places in the loop.
-    if slots.len() != 2304 {
+    if slots.len() != SIZE {
         return tree;
     }
-    if table.len() != 416 {
+    if table.len() != lists::LENGTH {
         return tree;
     }
-    if 4 < threads {
+    if THREADS < threads {
         return tree;
     }
     let mut t: u8 = 0;
@@ -158,7 +165,7 @@ pub fn waits_chain(
     n: u32,
     base: u64,
 ) -> Root
-    ensures { λ r. ⌜ ((S : Set) (cs : List ℕ) (tree : Term) (start : List ℕ) (m : ℕ) → length cs ≡ count → t < S .threads → n ≤ 1900000000 → length (now (slots .entry)) ≡ size
+    ensures { λ r. ⌜ ((S : Set) (cs : List ℕ) (tree : Term) (start : List ℕ) (m : ℕ) → length cs ≡ count → t < S .threads → n + 8 ≤ lastIndex → length (now (slots .entry)) ≡ size
         → ListTable S cs (now (table .entry))
         → WritesTree (placeOf (now (slots .entry))) tree start m (now (out .entry)) n base
         → WritesTree (placeOf (now (slots .entry))) (chainOf (linkOf S cs 0 waits t 0) (length cs) tree) start m (now (out .exit)) (r .next) (r .at))
@@ -166,13 +173,13 @@ pub fn waits_chain(
 {
     let mut tree = Root { next: n, at: base };
     // With these known, the compiler drops the tests of places in the loop.
-    if slots.len() != 2304 {
+    if slots.len() != SIZE {
         return tree;
     }
-    if table.len() != 416 {
+    if table.len() != lists::LENGTH {
         return tree;
     }
-    if 8 < count {
+    if POINTS < count {
         return tree;
     }
     let mut p: u16 = 0;

@@ -11,18 +11,18 @@ ghost use Rattle.encoder_slots.specs.Places.{placeOf};
 ghost use Rattle.set_index.specs.Members.{namesTarget};
 ghost use Rattle.encoder_chains.specs.Placed.{placedLink};
 use crate::Link;
-use crate::parts::BIT;
-use crate::parts::BIT0;
-use crate::parts::IF;
 use crate::parts::bit_if;
 use crate::parts::none;
 use encoder_slots::kinds;
 use encoder_slots::place;
+use encoder_slots::start::BIT0;
 use records::Statement;
 use records::instructions::JMP;
 use set_index::is_conditional;
 use set_index::is_plain;
 use set_index::rests;
+use table::operations::BIT;
+use table::operations::IF;
 
 // If statement i of thread t executes then its test, or the contrary of it.
 fn by_test(slots: &[u32], plain: bool, t: u8, i: u16) -> Link

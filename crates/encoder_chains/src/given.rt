@@ -5,24 +5,31 @@ ghost use mathlib.Core.List.{List};
 ghost use Prim.Native.Nat.{ℕ, _+_, _≤_, _<_};
 ghost use lib.ListN.{length};
 ghost use Rattle.records.specs.Sets.{Set};
-ghost use Rattle.encoding.specs.Slots.{Term};
+ghost use Rattle.encoding.specs.Slots.{Term, kindNumber, kindCount, active, accu, bitOne};
 ghost use Rattle.encoding.specs.Steps.{Link as ChainLink, chain as chainOf};
 ghost use Rattle.encoder_slots.specs.Pieces.{WritesTree};
 ghost use Rattle.encoder_slots.specs.Places.{placeOf, placeFrom, size};
 ghost use Rattle.encoder_chains.specs.Given.{Gives, givenBy};
-ghost use Rattle.set_index.specs.Members.{Members, ofClass};
+ghost use Rattle.set_index.specs.Members.{Members, ofClass, classCount};
 ghost use Rattle.encoder_chains.specs.Placed.{placedLink, ifLink};
+ghost use Rattle.table.specs.Formulas.{bitSort, wordSort};
+ghost use Rattle.table.specs.Repeats.{lastIndex};
 use crate::Link;
-use crate::parts::BIT;
-use crate::parts::BIT0;
-use crate::parts::BIT1;
-use crate::parts::IF;
-use crate::parts::WORD;
-use crate::parts::WORD0;
 use crate::written::Root;
 use crate::written::put_link;
+use encoder_slots::SIZE;
+use encoder_slots::THREADS;
 use encoder_slots::kinds;
 use encoder_slots::place;
+use encoder_slots::start::BIT0;
+use encoder_slots::start::BIT1;
+use encoder_slots::start::WORD0;
+use table::operations::BIT;
+use table::operations::IF;
+use table::operations::WORD;
+
+// The last class.
+const LAST: u8 = set_index::members::CLASSES - 1;
 
 // A class whose statements give the links of a chain: if the bit of kind `test` holds, then the statement's own word of kind `effect`;
 // where that is not its own, bit 1 or its thread's accu, by the sort.
@@ -36,7 +43,7 @@ pub struct Giver {
 
 // Statements of a class that, where they execute, set a bit.
 fn sets_bit(class: u8) -> Giver
-    ensures { λ r. ⌜ r ≡ record { class = class; test = 1; sort = 1; own = false; effect = 37 } ⌝ }
+    ensures { λ r. ⌜ r ≡ record { class = class; test = kindNumber active; sort = bitSort; own = false; effect = kindNumber bitOne } ⌝ }
 {
     Giver {
         class,
@@ -49,7 +56,7 @@ fn sets_bit(class: u8) -> Giver
 
 // Statements of a class that, where a bit holds, give their thread's accu.
 fn gives_accu(class: u8, test: u8) -> Giver
-    ensures { λ r. ⌜ r ≡ record { class = class; test = test; sort = 2; own = false; effect = 28 } ⌝ }
+    ensures { λ r. ⌜ r ≡ record { class = class; test = test; sort = wordSort; own = false; effect = kindNumber accu } ⌝ }
 {
     Giver {
         class,
@@ -62,7 +69,7 @@ fn gives_accu(class: u8, test: u8) -> Giver
 
 // Statements of a class that, where a bit holds, give a word of their own.
 fn gives_own(class: u8, test: u8, effect: u8) -> Giver
-    ensures { λ r. ⌜ r ≡ record { class = class; test = test; sort = 2; own = true; effect = effect } ⌝ }
+    ensures { λ r. ⌜ r ≡ record { class = class; test = test; sort = wordSort; own = true; effect = effect } ⌝ }
 {
     Giver {
         class,
@@ -106,28 +113,28 @@ fn fixed_links(
     n: u32,
     base: u64,
 ) -> Root
-    ensures { λ r. ⌜ ((S : Set) (links : ℕ → ChainLink) (tree : Term) (start : List ℕ) (m : ℕ) → test < 41 → t < 4 → n ≤ 1900000000 → length (now (slots .entry)) ≡ size
+    ensures { λ r. ⌜ ((S : Set) (links : ℕ → ChainLink) (tree : Term) (start : List ℕ) (m : ℕ) → test < kindCount → t < 4 → n + 32 ≤ lastIndex → length (now (slots .entry)) ≡ size
         → Members S (now (members .entry))
-        → (class < 11 → (i : ℕ) → ifLink sort (placeFrom (now (slots .entry)) test t i 0) effect ≡ placedLink (placeOf (now (slots .entry))) (links i))
+        → (class < classCount → (i : ℕ) → ifLink sort (placeFrom (now (slots .entry)) test t i 0) effect ≡ placedLink (placeOf (now (slots .entry))) (links i))
         → WritesTree (placeOf (now (slots .entry))) tree start m (now (out .entry)) n base
         → WritesTree (placeOf (now (slots .entry))) (chainOf (ofClass S class t links) (S .count t) tree) start m (now (out .exit)) (r .next) (r .at))
         × (r .next ≤ n + 32) ⌝ }
 {
     let mut tree = Root { next: n, at: base };
     // With these known, the compiler drops the tests of places in the loop.
-    if 10 < class {
+    if LAST < class {
         return tree;
     }
-    if 40 < test {
+    if kinds::LAST < test {
         return tree;
     }
-    if 4 <= t {
+    if THREADS <= t {
         return tree;
     }
-    if slots.len() != 2304 {
+    if slots.len() != SIZE {
         return tree;
     }
-    if members.len() != 1452 {
+    if members.len() != set_index::members::LENGTH {
         return tree;
     }
     let many = set_index::members::count_of(members, class, t);
@@ -158,31 +165,31 @@ fn own_links(
     n: u32,
     base: u64,
 ) -> Root
-    ensures { λ r. ⌜ ((S : Set) (links : ℕ → ChainLink) (tree : Term) (start : List ℕ) (m : ℕ) → test < 41 → effect < 41 → t < 4 → n ≤ 1900000000
+    ensures { λ r. ⌜ ((S : Set) (links : ℕ → ChainLink) (tree : Term) (start : List ℕ) (m : ℕ) → test < kindCount → effect < kindCount → t < 4 → n + 32 ≤ lastIndex
         → length (now (slots .entry)) ≡ size → Members S (now (members .entry))
-        → (class < 11 → (i : ℕ) → ifLink 2 (placeFrom (now (slots .entry)) test t i 0) (placeFrom (now (slots .entry)) effect t i 2)
+        → (class < classCount → (i : ℕ) → ifLink wordSort (placeFrom (now (slots .entry)) test t i 0) (placeFrom (now (slots .entry)) effect t i 2)
         ≡ placedLink (placeOf (now (slots .entry))) (links i))
         → WritesTree (placeOf (now (slots .entry))) tree start m (now (out .entry)) n base
         → WritesTree (placeOf (now (slots .entry))) (chainOf (ofClass S class t links) (S .count t) tree) start m (now (out .exit)) (r .next) (r .at))
         × (r .next ≤ n + 32) ⌝ }
 {
     let mut tree = Root { next: n, at: base };
-    if 10 < class {
+    if LAST < class {
         return tree;
     }
-    if 40 < test {
+    if kinds::LAST < test {
         return tree;
     }
-    if 40 < effect {
+    if kinds::LAST < effect {
         return tree;
     }
-    if 4 <= t {
+    if THREADS <= t {
         return tree;
     }
-    if slots.len() != 2304 {
+    if slots.len() != SIZE {
         return tree;
     }
-    if members.len() != 1452 {
+    if members.len() != set_index::members::LENGTH {
         return tree;
     }
     let many = set_index::members::count_of(members, class, t);
@@ -211,7 +218,7 @@ pub fn given_chain(
     n: u32,
     base: u64,
 ) -> Root
-    ensures { λ r. ⌜ ((S : Set) (tree : Term) (start : List ℕ) (m : ℕ) → t < 4 → n ≤ 1900000000 → length (now (slots .entry)) ≡ size
+    ensures { λ r. ⌜ ((S : Set) (tree : Term) (start : List ℕ) (m : ℕ) → t < 4 → n + 32 ≤ lastIndex → length (now (slots .entry)) ≡ size
         → Members S (now (members .entry))
         → WritesTree (placeOf (now (slots .entry))) tree start m (now (out .entry)) n base
         → WritesTree (placeOf (now (slots .entry))) (chainOf (givenBy S kind t) (S .count t) tree) start m (now (out .exit)) (r .next) (r .at))
@@ -223,9 +230,9 @@ pub fn given_chain(
     if giver.own {
         return own_links(members, slots, out, class, test, giver.effect, t, n, base);
     }
-    if giver.sort == 1 {
-        let yes = place(slots, kinds::BIT_ONE, 0, 0, BIT1);
-        return fixed_links(members, slots, out, class, test, BIT, yes, t, n, base);
+    if giver.sort == BIT {
+        let one = place(slots, kinds::BIT_ONE, 0, 0, BIT1);
+        return fixed_links(members, slots, out, class, test, BIT, one, t, n, base);
     }
     let accu = place(slots, kinds::ACCU, t, 0, WORD0);
     fixed_links(

@@ -9,7 +9,7 @@ pub use given::given_chain;
 pub use written::Root;
 pub use written::put_link;
 
-// A link over what stands so far; operation 0 is none.
+// A link over what stands so far; operation NONE is none.
 pub struct Link {
     pub operation: u8,
     pub sort: u8,

@@ -7,37 +7,36 @@ ghost use lib.ListN.{length, getD};
 ghost use Rattle.records.specs.Sets.{Set};
 ghost use Rattle.machine.specs.Machine.{contains as containsOf};
 ghost use Rattle.encoder_slots.specs.Places.{placeFrom};
-ghost use Rattle.set_index.specs.Tables.{ListTable};
+ghost use Rattle.set_index.specs.ListTables.{ListTable};
 ghost use Rattle.encoder_chains.specs.Placed.{noLink, ifLink, bitLink};
+ghost use Rattle.encoding.specs.Slots.{kindNumber, choice, active, permittedFirst, halted, bitOne};
+ghost use Rattle.table.specs.Formulas.{bitSort, wordSort, AND};
 use crate::Link;
 use encoder_slots::kinds;
 use encoder_slots::place;
+use encoder_slots::start::BIT0;
+use encoder_slots::start::BIT1;
+use encoder_slots::start::WORD0;
+use records::Layout;
 use set_index::checks::contains;
+use table::operations::AND;
+use table::operations::BIT;
+use table::operations::IF;
+use table::operations::NO_SORT;
+use table::operations::WORD;
 
-pub const BIT: u8 = 1;
+const THREADS: u16 = Layout::THREADS as u16;
 
-pub const WORD: u8 = 2;
-
-pub const AND: u8 = 5;
-
-pub const OR: u8 = 6;
-
-pub const IF: u8 = 8;
-
-// Where bits 0 and 1 and the word 0 lie at the start.
-pub const BIT0: u64 = 0;
-
-pub const BIT1: u64 = 1;
-
-pub const WORD0: u64 = 2;
+// The operation of no link.
+pub const NONE: u8 = 0;
 
 // No link.
 pub fn none() -> Link
     ensures { λ r. ⌜ r ≡ noLink ⌝ }
 {
     Link {
-        operation: 0,
-        sort: 0,
+        operation: NONE,
+        sort: NO_SORT,
         a: 0,
         b: 0,
     }
@@ -45,7 +44,7 @@ pub fn none() -> Link
 
 // Where statement i of thread t counts: if it executes then bit 1.
 pub fn bit_if(slots: &[u32], counts: bool, t: u8, i: u16) -> Link
-    ensures { λ r. ⌜ r ≡ cond counts (ifLink 1 (placeFrom (now (slots .entry)) 1 t i 0) (placeFrom (now (slots .entry)) 37 0 0 1)) noLink ⌝ }
+    ensures { λ r. ⌜ r ≡ cond counts (ifLink bitSort (placeFrom (now (slots .entry)) (kindNumber active) t i 0) (placeFrom (now (slots .entry)) (kindNumber bitOne) 0 0 1)) noLink ⌝ }
 {
     if counts {
         return Link {
@@ -62,7 +61,7 @@ pub fn bit_if(slots: &[u32], counts: bool, t: u8, i: u16) -> Link
 fn thread_place(slots: &[u32], kind: u8, t: u16, b: u16, start: u64) -> u64
     ensures { λ r. ⌜ r ≡ placeFrom (now (slots .entry)) kind t b start ⌝ }
 {
-    if t < 4 {
+    if t < THREADS {
         return place(slots, kind, t as u8, b, start);
     }
     start
@@ -70,9 +69,9 @@ fn thread_place(slots: &[u32], kind: u8, t: u16, b: u16, start: u64) -> u64
 
 // The record of the bit by which thread t, of so many threads, flushes.
 fn flush_place(slots: &[u32], threads: u8, t: u16) -> u64
-    ensures { λ r. ⌜ r ≡ placeFrom (now (slots .entry)) 0 0 (threads + t) 0 ⌝ }
+    ensures { λ r. ⌜ r ≡ placeFrom (now (slots .entry)) (kindNumber choice) 0 (threads + t) 0 ⌝ }
 {
-    if t < 32 {
+    if t < Layout::STATEMENTS {
         return place(slots, kinds::CHOICE, 0, (threads as u16) + t, BIT0);
     }
     BIT0
@@ -80,7 +79,7 @@ fn flush_place(slots: &[u32], threads: u8, t: u16) -> u64
 
 // If thread t, of so many threads, flushes then its word of kind `effect`.
 pub fn flushed(threads: u8, slots: &[u32], effect: u8, t: u16) -> Link
-    ensures { λ r. ⌜ r ≡ ifLink 2 (placeFrom (now (slots .entry)) 0 0 (threads + t) 0) (placeFrom (now (slots .entry)) effect t 0 2) ⌝ }
+    ensures { λ r. ⌜ r ≡ ifLink wordSort (placeFrom (now (slots .entry)) (kindNumber choice) 0 (threads + t) 0) (placeFrom (now (slots .entry)) effect t 0 2) ⌝ }
 {
     Link {
         operation: IF,
@@ -107,8 +106,8 @@ pub fn contained(table: &[u8], slots: &[u32], operation: u8, kind: u8, t: u8, p:
 }
 
 // If choice j is taken then whether it is permitted and none before it is taken.
-pub fn one(slots: &[u32], j: u16) -> Link
-    ensures { λ r. ⌜ r ≡ ifLink 1 (placeFrom (now (slots .entry)) 0 0 j 0) (placeFrom (now (slots .entry)) 9 0 j 0) ⌝ }
+pub fn one_permitted(slots: &[u32], j: u16) -> Link
+    ensures { λ r. ⌜ r ≡ ifLink bitSort (placeFrom (now (slots .entry)) (kindNumber choice) 0 j 0) (placeFrom (now (slots .entry)) (kindNumber permittedFirst) 0 j 0) ⌝ }
 {
     Link {
         operation: IF,
@@ -120,7 +119,7 @@ pub fn one(slots: &[u32], j: u16) -> Link
 
 // And thread t has halted.
 pub fn halts(slots: &[u32], t: u16) -> Link
-    ensures { λ r. ⌜ r ≡ bitLink 5 (placeFrom (now (slots .entry)) 30 t 0 0) ⌝ }
+    ensures { λ r. ⌜ r ≡ bitLink AND (placeFrom (now (slots .entry)) (kindNumber halted) t 0 0) ⌝ }
 {
     Link {
         operation: AND,

@@ -6,8 +6,11 @@ ghost use Rattle.encoding.specs.Slots.{Slot, Term};
 ghost use Rattle.encoding.specs.Steps.{Link as ChainLink, linked};
 ghost use Rattle.encoder_slots.specs.Pieces.{WritesTree};
 ghost use Rattle.encoder_chains.specs.Placed.{placedLink};
+ghost use Rattle.table.specs.Repeats.{lastIndex};
 use crate::Link;
+use crate::parts::NONE;
 use table::Formula;
+use table::operations::IF;
 
 // A tree written: the next index, and the tree's own.
 pub struct Root {
@@ -17,18 +20,18 @@ pub struct Root {
 
 // Writes a link over the tree at index `at`; the last indexes are never reached.
 pub fn put_link(out: &mut [u8], n: u32, at: u64, link: Link) -> Root
-    ensures { λ r. ⌜ ((places : Slot → ℕ) (l : ChainLink) (tree : Term) (start : List ℕ) (m : ℕ) → n ≤ 2000000000 → link ≡ placedLink places l
+    ensures { λ r. ⌜ ((places : Slot → ℕ) (l : ChainLink) (tree : Term) (start : List ℕ) (m : ℕ) → n ≤ lastIndex → link ≡ placedLink places l
         → WritesTree places tree start m (now (out .entry)) n at → WritesTree places (linked l tree) start m (now (out .exit)) (r .next) (r .at))
         × (r .next ≤ n + 1) ⌝ }
 {
-    if 2000000000 < n {
+    if Formula::LAST < n {
         return Root { next: n, at };
     }
     let operation = link.operation;
-    if operation == 0 {
+    if operation == NONE {
         return Root { next: n, at };
     }
-    if operation == 8 {
+    if operation == IF {
         let test = Formula {
             operation,
             sort: link.sort,

@@ -11,7 +11,7 @@ use Rattle.base.proofs.Choice.{refuted}
 use Rattle.records.specs.Sets.{Set}
 use Rattle.encoding.specs.Steps.{skip, leads}
 use Rattle.set_index.specs.Members.{namesTarget}
-use Rattle.set_index.specs.Tables.{JumpsOf, onward}
+use Rattle.set_index.specs.ListTables.{JumpsOf, onward}
 use Rattle.set_index.proofs.Growing.{widened}
 use Rattle.set_index.proofs.Making.{onward-after, onward-is}
 use Rattle.encoder_chains.proofs.Leads.{leads-elsewhere}

@@ -14,7 +14,7 @@ use Rattle.encoder_slots.proofs.Entries.{treeOf}
 use Rattle.set_index.specs.Members.{namesTarget}
 use Rattle.encoder_chains.proofs.Leads.{leads-elsewhere}
 use Rattle.encoder_chains.proofs.Trees.{chain-none, chain-more, chain-to}
-use Rattle.set_index.specs.Tables.{JumpsOf, onward}
+use Rattle.set_index.specs.ListTables.{JumpsOf, onward}
 use Rattle.encoder_flags.specs.Named.{NamedFirst}
 use Rattle.encoder_flags.proofs.Lists.{passed-over, named-later, named-next}
 

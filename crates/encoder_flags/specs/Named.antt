@@ -1,4 +1,4 @@
--- The next jump that names a statement. Assumes nothing.
+-- The next jump that names a statement. This serves the code; no call's promise needs it. Assumes nothing.
 use Prim.Native.Nat.{ℕ, _<_}
 use Rattle.records.specs.Sets.{Set}
 use Rattle.set_index.specs.Members.{namesTarget}

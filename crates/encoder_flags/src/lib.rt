@@ -2,29 +2,38 @@
 // A thread's statements stand from record `first` of the set on: the layout is read once.
 ghost use mathlib.Core.Path.{_≡_};
 ghost use mathlib.Core.List.{List, []};
-ghost use Prim.Native.Nat.{ℕ, _+_, _-_, _*_, _≤_, _<_};
+ghost use Prim.Native.Nat.{ℕ, _+_, _-_, _≤_, _<_};
 ghost use lib.ListN.{length, getD};
 ghost use Rattle.records.specs.Sets.{Set, setBy};
 ghost use Rattle.encoding.specs.Slots.{Slot, slot, Term, choice, flag as flagKind, bitZero};
 ghost use Rattle.encoding.specs.Steps.{chain as chainOf, leads as leadsOf, entry as entryOf, line as lineOf};
 ghost use Rattle.encoder_slots.specs.Places.{placeOf, size};
-ghost use Rattle.encoder_slots.specs.Pieces.{Writes, WritesTree};
-ghost use Rattle.set_index.specs.Held.{StandsFrom};
-ghost use Rattle.set_index.specs.Tables.{ListTable, JumpsOf, onward};
+ghost use Rattle.encoder_slots.specs.Pieces.{Writes, WritesTree, Ready, lineRoom};
+ghost use Rattle.set_index.specs.StatementRecords.{StandsFrom, Stands};
+ghost use Rattle.set_index.specs.ListTables.{JumpsOf, onward, nextJumps};
 ghost use Rattle.encoder_flags.specs.Named.{NamedFirst};
+ghost use Rattle.table.specs.Repeats.{lastIndex};
 use encoder_chains::Root;
 use encoder_chains::edges;
 use encoder_chains::put_link;
+use encoder_slots::LINE;
+use encoder_slots::SIZE;
 use encoder_slots::kinds::BIT_ZERO;
 use encoder_slots::kinds::CHOICE;
 use encoder_slots::kinds::FLAG;
+use encoder_slots::start;
 use records::Layout;
 use set_index::jumps::first as first_jump;
 use set_index::jumps::following;
+use set_index::lists;
+use table::Formula;
+
+// The last index from which there is room for the flags of a thread.
+const LIMIT: u32 = Formula::LAST - LINE;
 
 // The jump to look for after statement i: `hit` where it comes later, else the one after jump i.
 fn past(lists: &[u8], t: u8, hit: u16, i: u16) -> u16
-    ensures { λ r. ⌜ (i < hit → r ≡ hit) × (hit ≤ i → r ≡ onward i (getD (now (lists .entry)) (288 + 32 * t + i) 0)) ⌝ }
+    ensures { λ r. ⌜ (i < hit → r ≡ hit) × (hit ≤ i → r ≡ onward i (getD (now (lists .entry)) (nextJumps t + i) 0)) ⌝ }
 {
     if i < hit {
         return hit;
@@ -51,7 +60,7 @@ fn named_links(
     n: u32,
     base: u64,
 ) -> Named
-    requires { ⌜ (first < 65536) × (end ≤ 32) × (n ≤ 1950000000) × (t < 4) ⌝ }
+    requires { ⌜ (first < 65536) × (end ≤ 32) × (n + (end - hit) ≤ lastIndex) × (t < 4) ⌝ }
     ensures { λ r. ⌜ ((S : Set) (tree : Term) (start : List ℕ) (m j count from : ℕ) → j < 32 → from ≤ hit → from ≤ end → end ≤ count
         → ((x : ℕ) → from ≤ x → x < end → (j ≡ x + 1 → ⊥)) → JumpsOf S t count (now (lists .entry)) → StandsFrom S (now (set .entry)) t first count
         → NamedFirst S t count hit from j
@@ -84,7 +93,7 @@ fn jump_links(
     n: u32,
     base: u64,
 ) -> Root
-    requires { ⌜ (first < 65536) × (count ≤ 32) × (j < count) × (n ≤ 1900000000) × (t < 4) ⌝ }
+    requires { ⌜ (first < 65536) × (count ≤ 32) × (j < count) × (n + 32 ≤ lastIndex) × (t < 4) ⌝ }
     ensures { λ r. ⌜ ((S : Set) (tree : Term) (start : List ℕ) (m : ℕ) → JumpsOf S t count (now (lists .entry)) → StandsFrom S (now (set .entry)) t first count
         → WritesTree (placeOf (now (slots .entry))) tree start m (now (out .entry)) n base
         → WritesTree (placeOf (now (slots .entry))) (chainOf (leadsOf S [] 0 t j) count tree) start m (now (out .exit)) (r .next) (r .at))
@@ -129,13 +138,13 @@ fn flag_links(
     n: u32,
     base: u64,
 ) -> Root
-    requires { ⌜ (first < 65536) × (count ≤ 32) × (j < count) × (n ≤ 1900000000) × (t < 4) ⌝ }
+    requires { ⌜ (first < 65536) × (count ≤ 32) × (j < count) × (n + 32 ≤ lastIndex) × (t < 4) ⌝ }
     ensures { λ r. ⌜ ((S : Set) (tree : Term) (start : List ℕ) (m : ℕ) → JumpsOf S t count (now (lists .entry)) → StandsFrom S (now (set .entry)) t first count
         → WritesTree (placeOf (now (slots .entry))) tree start m (now (out .entry)) n base
         → WritesTree (placeOf (now (slots .entry))) (chainOf (leadsOf S [] 0 t j) count tree) start m (now (out .exit)) (r .next) (r .at))
         × (r .next ≤ n + 32) ⌝ }
 {
-    if first_jump(lists, t, j) < 32 {
+    if first_jump(lists, t, j) < lists::NONE {
         return jump_links(set, first, lists, slots, out, t, j, count, n, base);
     }
     if 0 < j {
@@ -161,8 +170,8 @@ fn flag(
     zero: u64,
     n: u32,
 ) -> u32
-    requires { ⌜ (first < 65536) × (count ≤ 32) × (j < count) × (t < 4) × (n ≤ 1800000000) ⌝ }
-    ensures { λ r. ⌜ ((S : Set) (cs : List ℕ) (k : ℕ) → count ≡ S .count t → JumpsOf S t count (now (lists .entry)) → StandsFrom S (now (set .entry)) t first count
+    requires { ⌜ (first < 65536) × (count ≤ 32) × (j < count) × (t < 4) × (n + 36 ≤ lastIndex) ⌝ }
+    ensures { λ r. ⌜ ((S : Set) (cs : List ℕ) (k : ℕ) → JumpsOf S t count (now (lists .entry)) → Stands S (now (set .entry)) first count t
         → executes ≡ placeOf (now (slots .entry)) (slot choice 0 t) → zero ≡ placeOf (now (slots .entry)) (slot bitZero 0 0)
         → length (now (slots .entry)) ≡ size → ((s : Slot) → placeOf (now (slots .entry)) s < n)
         → Writes (entryOf S cs k flagKind t j) (now (out .entry)) (now (slots .entry)) n (now (out .exit)) (now (slots .exit)) r)
@@ -187,14 +196,14 @@ fn each_flag(
     count: u16,
     n: u32,
 ) -> u32
-    requires { ⌜ (first < 65536) × (count ≤ 32) × (t < 4) × (n ≤ 1700000000) ⌝ }
-    ensures { λ r. ⌜ ((S : Set) (cs : List ℕ) (k : ℕ) → count ≡ S .count t → JumpsOf S t count (now (lists .entry)) → StandsFrom S (now (set .entry)) t first count
+    requires { ⌜ (first < 65536) × (count ≤ 32) × (t < 4) × (n + lineRoom ≤ lastIndex) ⌝ }
+    ensures { λ r. ⌜ ((S : Set) (cs : List ℕ) (k : ℕ) → JumpsOf S t count (now (lists .entry)) → Stands S (now (set .entry)) first count t
         → length (now (slots .entry)) ≡ size → ((s : Slot) → placeOf (now (slots .entry)) s < n)
         → Writes (lineOf S cs k flagKind t) (now (out .entry)) (now (slots .entry)) n (now (out .exit)) (now (slots .exit)) r)
-        × (r ≤ n + 1152) ⌝ }
+        × (r ≤ n + lineRoom) ⌝ }
 {
-    let executes = encoder_slots::place(slots, CHOICE, 0, t as u16, 0);
-    let zero = encoder_slots::place(slots, BIT_ZERO, 0, 0, 0);
+    let executes = encoder_slots::place(slots, CHOICE, 0, t as u16, start::BIT0);
+    let zero = encoder_slots::place(slots, BIT_ZERO, 0, 0, start::BIT0);
     let mut next = n;
     let mut j: u16 = 0;
     while j < count {
@@ -226,28 +235,27 @@ pub fn flags(
     t: u8,
     n: u32,
 ) -> u32
-    ensures { λ r. ⌜ ((cs : List ℕ) (k : ℕ) → t < layout .threads → n ≤ 1700000000
-        → ListTable (setBy (now (set .entry)) layout) cs (now (lists .entry))
-        → length (now (slots .entry)) ≡ size → ((s : Slot) → placeOf (now (slots .entry)) s < n)
+    ensures { λ r. ⌜ ((cs members : List ℕ) (k : ℕ) → t < layout .threads → n + lineRoom ≤ lastIndex
+        → Ready (setBy (now (set .entry)) layout) cs members (now (lists .entry)) (now (slots .entry)) n
         → Writes (lineOf (setBy (now (set .entry)) layout) cs k flagKind t)
         (now (out .entry)) (now (slots .entry)) n (now (out .exit)) (now (slots .exit)) r)
-        × (n ≤ 1700000000 → r ≤ n + 1152) ⌝ }
+        × (r ≤ n + lineRoom) ⌝ }
 {
     let thread = t as usize;
-    if 4 <= thread {
+    if Layout::THREADS <= thread {
         return n;
     }
     let count = layout.counts[thread];
-    if 32 < count {
+    if Layout::STATEMENTS < count {
         return n;
     }
-    if slots.len() != 2304 {
+    if slots.len() != SIZE {
         return n;
     }
-    if lists.len() != 416 {
+    if lists.len() != lists::LENGTH {
         return n;
     }
-    if 1700000000 < n {
+    if LIMIT < n {
         return n;
     }
     let first = records::first(layout, t);

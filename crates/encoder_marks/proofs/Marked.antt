@@ -1,7 +1,7 @@
 -- What the kinds of marks have in common, and which of them is left. Assumes nothing.
 use Prim.Native.Nat.{ℕ, _<_}
 use mathlib.Core.Path.{_≡_, refl, sym, subst}
-use mathlib.Core.Bool.{Bool, true, false, _||_}
+use mathlib.Core.Bool.{true, _||_}
 use mathlib.Core.List.{List, [], _∷_}
 use native.Mathlib.Omega.{arith}
 use lib.Dec.{eqb}
@@ -9,32 +9,28 @@ use lib.ListN.{length, getD}
 use borrow.Author.Tests.{eqb-true}
 use Rattle.records.specs.Sets.{Set}
 use Rattle.machine.specs.Machine.{contains}
-use Rattle.encoding.specs.Slots.{Slot, kinds, kindAt, raised}
+use Rattle.encoding.specs.Slots.{Slot, kinds, kindAt, raised, kindNumber, held, mark, kindCount}
 use Rattle.encoding.specs.Steps.{shape, rows, columns, kept, chain, link, base}
 use Rattle.encoder_slots.specs.Pieces.{WritesTree}
 use Rattle.encoder_slots.proofs.Entries.{treeOf}
 use Rattle.encoder_bases.specs.declared.written.WrittenTree.{WrittenTree}
-use Rattle.encoder_bases.specs.Fews.{Puts}
-use Rattle.encoder_chains.proofs.Skips.{Apart}
+use Rattle.encoder_bases.specs.SmallTrees.{Puts}
+use Rattle.encoder_slots.proofs.Matches.{Apart, one-of}
 use Rattle.encoder_marks.specs.Marked.{marked}
 
-one-of : {X : Type 0} (a b : Bool) → (a || b) ≡ true → (a ≡ true → X) → (b ≡ true → X) → X
-one-of true b e f g = f refl
-one-of false b e f g = g e
-
 -- what holds of each of the three
-each : (P : ℕ → Type 0) → P 5 → P 21 → P 32 → (n : ℕ) → marked n ≡ true → P n
-each P held up mark n e =
-    one-of (eqb n 5 || eqb n 21) (eqb n 32) e
-    (λ e. one-of (eqb n 5) (eqb n 21) e (λ h. subst P (sym (eqb-true n 5 h)) held) (λ h. subst P (sym (eqb-true n 21 h)) up))
-    (λ h. subst P (sym (eqb-true n 32 h)) mark)
+each : (P : ℕ → Type 0) → P (kindNumber held) → P (kindNumber raised) → P (kindNumber mark) → (n : ℕ) → marked n ≡ true → P n
+each P one two three n e =
+    one-of (eqb n (kindNumber held) || eqb n (kindNumber raised)) (eqb n (kindNumber mark)) e
+    (λ e. one-of (eqb n (kindNumber held)) (eqb n (kindNumber raised)) e (λ h. subst P (sym (eqb-true n (kindNumber held) h)) one) (λ h. subst P (sym (eqb-true n (kindNumber raised) h)) two))
+    (λ h. subst P (sym (eqb-true n (kindNumber mark) h)) three)
 
-pub marked-known : (n : ℕ) → marked n ≡ true → n < 41
-marked-known = each (λ (n : ℕ). n < 41) (omega arith) (omega arith) (omega arith)
+pub marked-known : (n : ℕ) → marked n ≡ true → n < kindCount
+marked-known = each (λ (n : ℕ). n < kindCount) (omega arith) (omega arith) (omega arith)
 
 -- the last one, as a `match` leaves it
-pub marked-last : (n : ℕ) → marked n ≡ true → Apart n (21 ∷ 5 ∷ []) → n ≡ 32
-marked-last = each (λ (n : ℕ). Apart n (21 ∷ 5 ∷ []) → n ≡ 32) (λ r. absurd (r .0 .1 refl)) (λ r. absurd (r .1 refl)) (λ r. refl)
+pub marked-last : (n : ℕ) → marked n ≡ true → Apart n (kindNumber raised ∷ kindNumber held ∷ []) → n ≡ kindNumber mark
+marked-last = each (λ (n : ℕ). Apart n (kindNumber raised ∷ kindNumber held ∷ []) → n ≡ kindNumber mark) (λ r. absurd (r .0 .1 refl)) (λ r. absurd (r .1 refl)) (λ r. refl)
 
 module _ (S : Set) (cs : List ℕ) (k : ℕ) where
   pub marked-rows : (n : ℕ) → marked n ≡ true → rows S cs k (shape (kindAt n)) ≡ S .threads
@@ -51,18 +47,18 @@ module _ (S : Set) (cs : List ℕ) (k : ℕ) where
 
   module _ (t p : ℕ) (places : Slot → ℕ) (out : List ℕ) (m : ℕ) (after : List ℕ) (next at : ℕ) where
     -- only RAISED has links
-    pub raised-written : (n : ℕ) → n ≡ 21 → WritesTree places (chain (link S cs 0 raised t p) (S .count t) (base S cs k (kindAt n) t p)) out m after next at →
+    pub raised-written : (n : ℕ) → n ≡ kindNumber raised → WritesTree places (chain (link S cs 0 raised t p) (S .count t) (base S cs k (kindAt n) t p)) out m after next at →
         WritesTree places (treeOf S cs k (kindAt n) t p) out m after next at
     unfolding kinds
     raised-written n e =
         subst (λ (x : ℕ). WritesTree places (chain (link S cs 0 raised t p) (S .count t) (base S cs k (kindAt x) t p)) out m after next at →
         WritesTree places (treeOf S cs k (kindAt x) t p) out m after next at) (sym e) (λ w. w)
 
-    pub mark-written : (n : ℕ) → marked n ≡ true → (n ≡ 21 → ⊥) → WritesTree places (base S cs k (kindAt n) t p) out m after next at →
+    pub mark-written : (n : ℕ) → marked n ≡ true → (n ≡ kindNumber raised → ⊥) → WritesTree places (base S cs k (kindAt n) t p) out m after next at →
         WritesTree places (treeOf S cs k (kindAt n) t p) out m after next at
     unfolding kinds chain
     mark-written =
-        each (λ (n : ℕ). (n ≡ 21 → ⊥) → WritesTree places (base S cs k (kindAt n) t p) out m after next at → WritesTree places (treeOf S cs k (kindAt n) t p) out m after next at)
+        each (λ (n : ℕ). (n ≡ kindNumber raised → ⊥) → WritesTree places (base S cs k (kindAt n) t p) out m after next at → WritesTree places (treeOf S cs k (kindAt n) t p) out m after next at)
         (λ r w. w) (λ r. absurd (r refl)) (λ r w. w)
 
 -- a base of a kind by number

@@ -5,15 +5,26 @@ ghost use mathlib.Core.List.{List};
 ghost use Prim.Native.Nat.{ℕ, _+_, _≤_, _<_};
 ghost use lib.ListN.{length};
 ghost use Rattle.records.specs.Sets.{Set};
-ghost use Rattle.encoding.specs.Slots.{Slot, kindAt, opening as openingKind, waits as waitsKind};
+ghost use Rattle.encoding.specs.Slots.{kindAt, opening as openingKind, waits as waitsKind};
 ghost use Rattle.encoding.specs.Steps.{base as baseOf, entry as entryOf, line as lineOf, block as blockOf};
-ghost use Rattle.encoder_slots.specs.Places.{placeOf, size};
-ghost use Rattle.encoder_slots.specs.Pieces.{Writes};
-ghost use Rattle.encoder_bases.specs.Fews.{Puts};
-ghost use Rattle.set_index.specs.Tables.{ListTable};
+ghost use Rattle.encoder_slots.specs.Places.{placeOf};
+ghost use Rattle.encoder_slots.specs.Pieces.{Writes, Ready, blockRoom};
+ghost use Rattle.encoder_bases.specs.SmallTrees.{Puts};
 ghost use Rattle.encoder_marks.specs.Marked.{marked};
+ghost use Rattle.table.specs.Repeats.{lastIndex};
 use encoder_bases::WrittenTree;
+use encoder_slots::BLOCK;
+use encoder_slots::SIZE;
+use encoder_slots::THREADS;
 use encoder_slots::kinds;
+use records::Layout;
+use set_index::lists::LENGTH;
+use table::Formula;
+
+const POINTS: u16 = Layout::CHECKPOINTS as u16;
+
+// The last index from which there is room for the values of a kind.
+const LIMIT: u32 = Formula::LAST - BLOCK;
 
 // Writes whether checkpoint p is open: whether every thread that contains it is marked there.
 fn opening(
@@ -25,9 +36,8 @@ fn opening(
     p: u16,
     n: u32,
 ) -> u32
-    requires { ⌜ (n ≤ 1800000000) × (p < 8) ⌝ }
-    ensures { λ r. ⌜ ((S : Set) (cs : List ℕ) → S .threads ≡ threads → p < length cs → ListTable S cs (now (table .entry)) → length (now (slots .entry)) ≡ size
-        → ((s : Slot) → placeOf (now (slots .entry)) s < n)
+    requires { ⌜ (n + 8 ≤ lastIndex) × (p < 8) ⌝ }
+    ensures { λ r. ⌜ ((S : Set) (cs members : List ℕ) → S .threads ≡ threads → p < length cs → Ready S cs members (now (table .entry)) (now (slots .entry)) n
         → Writes (entryOf S cs step openingKind 0 p) (now (out .entry)) (now (slots .entry)) n (now (out .exit)) (now (slots .exit)) r)
         × (r ≤ n + 8) ⌝ }
 {
@@ -56,24 +66,24 @@ pub fn openings(
     step: u8,
     n: u32,
 ) -> u32
-    ensures { λ r. ⌜ ((S : Set) (cs : List ℕ) → S .threads ≡ threads → length cs ≡ count → ListTable S cs (now (table .entry)) → length (now (slots .entry)) ≡ size → ((s : Slot) → placeOf (now (slots .entry)) s < n) → n ≤ 1600000000
+    ensures { λ r. ⌜ ((S : Set) (cs members : List ℕ) → S .threads ≡ threads → length cs ≡ count → Ready S cs members (now (table .entry)) (now (slots .entry)) n → n + blockRoom ≤ lastIndex
         → Writes (blockOf S cs step openingKind) (now (out .entry)) (now (slots .entry)) n (now (out .exit)) (now (slots .exit)) r)
-        × (n ≤ 1600000000 → r ≤ n + 4608) ⌝ }
+        × (r ≤ n + blockRoom) ⌝ }
 {
     // With these known, the compiler drops the tests of places in the loop.
-    if 1600000000 < n {
+    if LIMIT < n {
         return n;
     }
-    if slots.len() != 2304 {
+    if slots.len() != SIZE {
         return n;
     }
-    if table.len() != 416 {
+    if table.len() != LENGTH {
         return n;
     }
-    if 4 < threads {
+    if THREADS < threads {
         return n;
     }
-    if 8 < count {
+    if POINTS < count {
         return n;
     }
     let mut next = n;
@@ -96,9 +106,8 @@ fn waiting(
     t: u8,
     n: u32,
 ) -> u32
-    requires { ⌜ (n ≤ 1800000000) × (t < 4) ⌝ }
-    ensures { λ r. ⌜ ((S : Set) (cs : List ℕ) → S .threads ≡ threads → length cs ≡ count → t < S .threads → ListTable S cs (now (table .entry)) → length (now (slots .entry)) ≡ size
-        → ((s : Slot) → placeOf (now (slots .entry)) s < n)
+    requires { ⌜ (n + 12 ≤ lastIndex) × (t < 4) ⌝ }
+    ensures { λ r. ⌜ ((S : Set) (cs members : List ℕ) → S .threads ≡ threads → length cs ≡ count → t < S .threads → Ready S cs members (now (table .entry)) (now (slots .entry)) n
         → Writes (entryOf S cs step waitsKind t 0) (now (out .entry)) (now (slots .entry)) n (now (out .exit)) (now (slots .exit)) r)
         × (r ≤ n + 12) ⌝ }
 {
@@ -119,24 +128,24 @@ pub fn waits(
     step: u8,
     n: u32,
 ) -> u32
-    ensures { λ r. ⌜ ((S : Set) (cs : List ℕ) → S .threads ≡ threads → length cs ≡ count → ListTable S cs (now (table .entry)) → length (now (slots .entry)) ≡ size → ((s : Slot) → placeOf (now (slots .entry)) s < n) → n ≤ 1600000000
+    ensures { λ r. ⌜ ((S : Set) (cs members : List ℕ) → S .threads ≡ threads → length cs ≡ count → Ready S cs members (now (table .entry)) (now (slots .entry)) n → n + blockRoom ≤ lastIndex
         → Writes (blockOf S cs step waitsKind) (now (out .entry)) (now (slots .entry)) n (now (out .exit)) (now (slots .exit)) r)
-        × (n ≤ 1600000000 → r ≤ n + 4608) ⌝ }
+        × (r ≤ n + blockRoom) ⌝ }
 {
     // With these known, the compiler drops the tests of places in the loop.
-    if 1600000000 < n {
+    if LIMIT < n {
         return n;
     }
-    if slots.len() != 2304 {
+    if slots.len() != SIZE {
         return n;
     }
-    if table.len() != 416 {
+    if table.len() != LENGTH {
         return n;
     }
-    if 4 < threads {
+    if THREADS < threads {
         return n;
     }
-    if 8 < count {
+    if POINTS < count {
         return n;
     }
     let mut next = n;
@@ -159,7 +168,7 @@ fn put_marked(
     p: u16,
     n: u32,
 ) -> WrittenTree
-    ensures { λ r. ⌜ ((S : Set) (cs : List ℕ) → S .threads ≡ threads → marked kind ≡ true → n ≤ 2000000000
+    ensures { λ r. ⌜ ((S : Set) (cs : List ℕ) → S .threads ≡ threads → marked kind ≡ true → n ≤ lastIndex
         → Puts r (placeOf (now (slots .entry))) n (baseOf S cs step (kindAt kind) t p) (now (out .entry)) (now (out .exit))) × (r .count ≤ 4) ⌝ }
 {
     match kind {
@@ -181,9 +190,8 @@ fn entry(
     p: u16,
     n: u32,
 ) -> u32
-    requires { ⌜ (n ≤ 1800000000) × (t < 4) × (p < 8) ⌝ }
-    ensures { λ r. ⌜ ((S : Set) (cs : List ℕ) → S .threads ≡ threads → marked kind ≡ true → t < S .threads → p < length cs → ListTable S cs (now (table .entry)) → length (now (slots .entry)) ≡ size
-        → ((s : Slot) → placeOf (now (slots .entry)) s < n)
+    requires { ⌜ (n + 36 ≤ lastIndex) × (t < 4) × (p < 8) ⌝ }
+    ensures { λ r. ⌜ ((S : Set) (cs members : List ℕ) → S .threads ≡ threads → marked kind ≡ true → t < S .threads → p < length cs → Ready S cs members (now (table .entry)) (now (slots .entry)) n
         → Writes (entryOf S cs step (kindAt kind) t p) (now (out .entry)) (now (slots .entry)) n (now (out .exit)) (now (slots .exit)) r)
         × (r ≤ n + 36) ⌝ }
 {
@@ -221,9 +229,8 @@ fn line(
     t: u8,
     n: u32,
 ) -> u32
-    requires { ⌜ (n ≤ 1700000000) × (count ≤ 8) × (t < 4) ⌝ }
-    ensures { λ r. ⌜ ((S : Set) (cs : List ℕ) → S .threads ≡ threads → length cs ≡ count → marked kind ≡ true → t < S .threads → ListTable S cs (now (table .entry)) → length (now (slots .entry)) ≡ size
-        → ((s : Slot) → placeOf (now (slots .entry)) s < n)
+    requires { ⌜ (n + 288 ≤ lastIndex) × (count ≤ 8) × (t < 4) ⌝ }
+    ensures { λ r. ⌜ ((S : Set) (cs members : List ℕ) → S .threads ≡ threads → length cs ≡ count → marked kind ≡ true → t < S .threads → Ready S cs members (now (table .entry)) (now (slots .entry)) n
         → Writes (lineOf S cs step (kindAt kind) t) (now (out .entry)) (now (slots .entry)) n (now (out .exit)) (now (slots .exit)) r)
         × (r ≤ n + 288) ⌝ }
 {
@@ -247,24 +254,24 @@ pub fn marks(
     kind: u8,
     n: u32,
 ) -> u32
-    ensures { λ r. ⌜ ((S : Set) (cs : List ℕ) → S .threads ≡ threads → length cs ≡ count → marked kind ≡ true → ListTable S cs (now (table .entry)) → length (now (slots .entry)) ≡ size → ((s : Slot) → placeOf (now (slots .entry)) s < n) → n ≤ 1600000000
+    ensures { λ r. ⌜ ((S : Set) (cs members : List ℕ) → S .threads ≡ threads → length cs ≡ count → marked kind ≡ true → Ready S cs members (now (table .entry)) (now (slots .entry)) n → n + blockRoom ≤ lastIndex
         → Writes (blockOf S cs step (kindAt kind)) (now (out .entry)) (now (slots .entry)) n (now (out .exit)) (now (slots .exit)) r)
-        × (n ≤ 1600000000 → r ≤ n + 4608) ⌝ }
+        × (r ≤ n + blockRoom) ⌝ }
 {
     // With these known, the compiler drops the tests of places in the loops.
-    if 1600000000 < n {
+    if LIMIT < n {
         return n;
     }
-    if slots.len() != 2304 {
+    if slots.len() != SIZE {
         return n;
     }
-    if table.len() != 416 {
+    if table.len() != LENGTH {
         return n;
     }
-    if 4 < threads {
+    if THREADS < threads {
         return n;
     }
-    if 8 < count {
+    if POINTS < count {
         return n;
     }
     let mut next = n;

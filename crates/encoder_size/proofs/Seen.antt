@@ -10,7 +10,7 @@ use lib.Dec.{eqb}
 use lib.ListN.{length, getD, set, replicate, length-replicate, getD-replicate, List·getD-eq-default}
 use lib.Seq.{getD-set-same, getD-set-other}
 use Rattle.base.specs.Below.{some, number}
-use Rattle.base.proofs.Below.{number-stays}
+use Rattle.base.proofs.Below.{number-stays, number-ext}
 use Rattle.base.proofs.Choice.{or-no, or-right-true}
 use Rattle.encoder_size.specs.Seen.{isSeen, Notes}
 use Rattle.encoder_size.proofs.Sums.{total-ext, total-number}
@@ -102,10 +102,6 @@ seen-none n p = ap (λ (x : ℕ). not (eqb x 0)) zero-at
           let e : length (replicate {A = ℕ} n 0) ≡ n = length-replicate n 0 in
           List·getD-eq-default (replicate n 0) 0 (omega (arith, h))
     ]
-
-number-ext : (f g : ℕ → Bool) (n : ℕ) → ((p : ℕ) → p < n → f p ≡ g p) → number n f ≡ number n g
-number-ext f g n e =
-    total-number f n ∙ (total-ext (λ p. cond (f p) 1 0) (λ p. cond (g p) 1 0) n (λ p h. ap (λ (b : Bool). cond b 1 0) (e p h)) ∙ sym (total-number g n))
 
 -- as many as pass
 pub seen-number : (n m : ℕ) (test : ℕ → Bool) (after : List ℕ) → n ≤ m → Notes n test (replicate m 0) after → number m (isSeen after) ≡ number n test

@@ -1,4 +1,5 @@
--- The checkpoints that are seen while a thread's statements are gone over: a byte for each, 0 where it was not seen. Assumes nothing.
+-- The checkpoints that are seen while a thread's statements are gone over: a byte for each, 0 where it was not seen. This serves the code; no call's
+-- promise needs it. Assumes nothing.
 use Prim.Native.Nat.{ℕ, _≤_, _<_}
 use mathlib.Core.Path.{_≡_}
 use mathlib.Core.Bool.{Bool, not, _&&_, _||_}

@@ -1,5 +1,6 @@
--- How many records a step and a table have, in closed form (docs/TABLE.md, "The size"), for any set and any checkpoints. Assumes nothing.
-use Prim.Native.Nat.{ℕ, zero, suc, _+_, _*_}
+-- How many records a step and a table have, in closed form (docs/TABLE.md, "The size"), for any set and any checkpoints. This serves the code; no
+-- call's promise needs it. Assumes nothing.
+use Prim.Native.Nat.{ℕ, zero, suc, _+_, _*_, _≤_}
 use mathlib.Core.Bool.{cond}
 use mathlib.Core.List.{List, [], _∷_}
 use lib.Dec.{eqb, ltb}
@@ -11,15 +12,27 @@ use Rattle.records.specs.Sets.{Set}
 use Rattle.records.specs.declared.Statement.{Statement}
 use Rattle.machine.specs.Machine.{contains}
 use Rattle.encoding.specs.Steps.{isConditional, isOneWay, rests}
+use Rattle.records.specs.declared.Layout.{Layout}
+
+-- what the layout of an accepted set keeps to: at most 4 threads of 32 statements
+pub record Limits (layout : Layout) : Type 0 where
+  pub fourThreads : layout .threads ≤ 4
+  pub fewStatements : (t : ℕ) → getD (layout .counts) t 0 ≤ 32
 
 -- the sum of f over the numbers below n
 unfoldable pub total : (ℕ → ℕ) → ℕ → ℕ
 total f zero = 0
 total f (suc n) = total f n + f n
 
--- by instruction: the records of a direct statement, without those of the links that lead from it and that raise its mark
+-- by instruction: the records of a direct statement, without those of the links that lead from it and that raise its mark; in rows LOAD STORE FENCE,
+-- ADD ADDI SUB SUBI MUL MULI, JMP JZ JNZ JS JNS JNZNS, MEM CAS, HALT EXIT CHECK
 unfoldable pub ownList : List ℕ
-ownList = 7 ∷ 6 ∷ 3 ∷ 8 ∷ 4 ∷ 8 ∷ 4 ∷ 8 ∷ 4 ∷ 2 ∷ 4 ∷ 4 ∷ 4 ∷ 4 ∷ 6 ∷ 8 ∷ 10 ∷ 3 ∷ 3 ∷ 2 ∷ []
+ownList =
+    7 ∷ 6 ∷ 3
+    ∷ 8 ∷ 4 ∷ 8 ∷ 4 ∷ 8 ∷ 4
+    ∷ 2 ∷ 4 ∷ 4 ∷ 4 ∷ 4 ∷ 6
+    ∷ 8 ∷ 10
+    ∷ 3 ∷ 3 ∷ 2 ∷ []
 
 abbrev pub ownRecords : ℕ → ℕ
 ownRecords n = getD ownList n 2

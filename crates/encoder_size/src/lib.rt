@@ -14,7 +14,7 @@ ghost use Rattle.encoding.specs.Slots.{same};
 ghost use Rattle.encoding.specs.Steps.{step as stepOf};
 ghost use Rattle.set_index.specs.Points.{listed};
 ghost use Rattle.encoder_size.specs.Seen.{isSeen, checksAt, Notes};
-ghost use Rattle.encoder_size.specs.Sizes.{total, ownRecords, within as withinOf, leadRecords, checkRecords, statementRecords, threadRecords};
+ghost use Rattle.encoder_size.specs.Sizes.{Limits, total, ownRecords, within as withinOf, leadRecords, checkRecords, statementRecords, threadRecords};
 use records::Layout;
 use records::Statement;
 use records::instructions::CHECK;
@@ -23,6 +23,29 @@ use records::instructions::HALT;
 use records::instructions::JMP;
 use set_index::points::Points;
 
+// The most checkpoints.
+const POINTS: usize = Layout::CHECKPOINTS as usize;
+
+const INDIRECT: u8 = 1;
+
+// Records of a load, which an indirect statement has more.
+const LOAD: u64 = 4;
+
+// Records of a mark.
+const MARK: u64 = 4;
+
+// Records of a thread besides those of its statements and marks, and of a step besides those of its threads and checkpoints.
+const THREAD: u64 = 15;
+
+const STEP: u64 = 5;
+
+// Records before the arguments, of a map cell, and of the goal.
+const FIRST: u64 = 5;
+
+const CELL: u64 = 5;
+
+const GOAL: u64 = 3;
+
 // ---- statements
 
 // The records of a direct statement of instruction n, without those of the links that lead from it and that raise its mark.
@@ -30,7 +53,8 @@ fn own(n: u8) -> u64
     ensures { λ r. ⌜ (r ≡ ownRecords n) × (r ≤ 10) ⌝ }
 {
     if n < Statement::INSTRUCTIONS {
-        // From LOAD to CHECK. The bytes of a literal lie in the program: an array would be made anew for each statement.
+        // The bytes of a literal lie in the program: an array would be made anew for each statement. By instruction:
+        // LOAD STORE FENCE, ADD ADDI SUB SUBI MUL MULI, JMP JZ JNZ JS JNS JNZNS, MEM CAS, HALT EXIT CHECK.
         return base::byte_at(
             b"\x07\x06\x03\x08\x04\x08\x04\x08\x04\x02\x04\x04\x04\x04\x06\x08\x0a\x03\x03\x02",
             n as usize,
@@ -77,7 +101,7 @@ fn checks(points: Points, c: u16, seen: &mut [u8]) -> u64
         × Notes (length (listed points)) (λ p. eqb c (getD (listed points) p 0)) (now (seen .entry)) (now (seen .exit)) ⌝ }
 {
     // With this known, the compiler drops the tests of places in the loop.
-    if seen.len() != 8 {
+    if seen.len() != POINTS {
         return 0;
     }
     let n = set_index::points::points_count(points);
@@ -110,8 +134,8 @@ fn raises(points: Points, n: u8, argument: u16, seen: &mut [u8]) -> u64
 fn indirect(mode: u8) -> u64
     ensures { λ r. ⌜ (r ≡ cond (eqb mode 1) 4 0) × (r ≤ 4) ⌝ }
 {
-    if mode == 1 {
-        return 4;
+    if mode == INDIRECT {
+        return LOAD;
     }
     0
 }
@@ -155,7 +179,7 @@ fn marks(seen: &[u8]) -> u64
 {
     let mut found: u64 = 0;
     let mut p: usize = 0;
-    while p < 8 {
+    while p < POINTS {
         if base::byte_at(seen, p) != 0 {
             found += 1;
         }
@@ -169,17 +193,17 @@ fn thread(set: &[u8], layout: Layout, points: Points, t: u8) -> u64
     ensures { λ r. ⌜ (r ≡ threadRecords (setBy (now (set .entry)) layout) (listed points) t) × (r ≤ 24 * getD (layout .counts) t 0 + 47) × (r ≤ 1572887) ⌝ }
 {
     let count = records::count(layout, t);
-    let mut seen = [0u8; 8];
+    let mut seen = [0u8; POINTS];
     let all = statements(set, layout, points, t, count, &mut seen);
-    all + 4 * marks(&seen) + 15
+    all + MARK * marks(&seen) + THREAD
 }
 
 // ---- steps and tables
 
 // How many records a step has, whichever it is and wherever it starts.
-pub fn step_records(set: &[u8], layout: Layout, points: Points) -> u64
+fn step_records(set: &[u8], layout: Layout, points: Points) -> u64
     ensures { λ r. ⌜ ((m k : ℕ) → nextAfter same m (stepOf (setBy (now (set .entry)) layout) (listed points) k) ≡ m + r)
-        × (layout .threads ≤ 4 → ((t : ℕ) → getD (layout .counts) t 0 ≤ 32) → r ≤ 3273)
+        × (Limits layout → r ≤ 3273)
         × (r ≤ 401086198) ⌝ }
 {
     let threads = layout.threads;
@@ -189,13 +213,13 @@ pub fn step_records(set: &[u8], layout: Layout, points: Points) -> u64
         n += thread(set, layout, points, t);
         t += 1;
     }
-    n + (set_index::points::points_count(points) as u64) + 5
+    n + (set_index::points::points_count(points) as u64) + STEP
 }
 
 // How many statements there are.
 fn all_statements(layout: Layout) -> u64
     ensures { λ r. ⌜ (r ≡ total (λ t. getD (layout .counts) t 0) (layout .threads))
-        × (layout .threads ≤ 4 → ((t : ℕ) → getD (layout .counts) t 0 ≤ 32) → r ≤ 128)
+        × (Limits layout → r ≤ 128)
         × (r ≤ 16711425) ⌝ }
 {
     let threads = layout.threads;
@@ -211,9 +235,9 @@ fn all_statements(layout: Layout) -> u64
 // How many records the table of a set, a map and a bound has.
 pub fn table_records(set: &[u8], layout: Layout, points: Points, map: &[u8], bound: u8) -> u64
     ensures { λ r. ⌜ (r ≡ length (encodedOf (setBy (now (set .entry)) layout) (listed points) (now (map .entry)) bound))
-        × (layout .threads ≤ 4 → ((t : ℕ) → getD (layout .counts) t 0 ≤ 32) → cells (now (map .entry)) ≤ 128 → bound ≤ 64 → r ≤ 210248) ⌝ }
+        × (Limits layout → cells (now (map .entry)) ≤ 128 → bound ≤ 64 → r ≤ 210248) ⌝ }
 {
     let step = step_records(set, layout, points);
-    let before = 5 + all_statements(layout) + 5 * ((map.len() / 4) as u64);
-    before + (bound as u64) * step + 3
+    let before = FIRST + all_statements(layout) + CELL * ((map.len() / 4) as u64);
+    before + (bound as u64) * step + GOAL
 }

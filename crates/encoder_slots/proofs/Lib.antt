@@ -5,3 +5,5 @@ pub mod Starts
 pub mod Pieces
 pub mod Entries
 pub mod Idle
+pub mod Ready
+pub mod Matches

@@ -5,16 +5,13 @@ use mathlib.Core.Bool.{Bool, true, false, cond}
 use mathlib.Core.List.{List, [], _∷_, _++_}
 use native.Mathlib.Numerals.{add-one}
 use native.Mathlib.Omega.{arith}
-use lib.ListN.{length}
-use Rattle.records.specs.declared.Layout.{Layout}
 use Rattle.table.specs.Formulas.{writtenAt}
 use Rattle.table.specs.Programs.{next, root, upto, Command, sets, needs, aims, put, compiled, nextAfter, placesAfter}
 use Rattle.table.proofs.Sequences.{grows, inside, next-++, places-++, compiled-++, compiled-length}
 use Rattle.table.proofs.Written.{written-++}
 use Rattle.encoding.specs.Slots.{Slot, same}
 use Rattle.encoder_slots.specs.Places.{placeOf}
-use Rattle.set_index.specs.declared.points.Points.{Points}
-use Rattle.encoder_slots.specs.Pieces.{Writes, Limits}
+use Rattle.encoder_slots.specs.Pieces.{Writes}
 
 pub writes-none : (out slots : List ℕ) (n : ℕ) → Writes [] out slots n out slots n
 unfolding writtenAt compiled placesAfter nextAfter
@@ -75,14 +72,3 @@ pub below-after : (P : List (Command Slot)) (out slots : List ℕ) (n : ℕ) (ou
 below-after P out slots n out1 slots1 n1 w below s =
     subst (λ (x : ℕ). x < n1) (ap (λ (f : Slot → ℕ). f s) (sym (w .places)))
     (subst (λ (m : ℕ). placesAfter same (placeOf slots) n P s < m) (sym (w .next)) (program-below P (placeOf slots) n below s))
-
--- the limits still hold after a piece
-pub limits-after : (layout : Layout) (points : Points) (P : List (Command Slot)) (out slots : List ℕ) (n : ℕ) (out1 slots1 : List ℕ) (n1 : ℕ) →
-    Writes P out slots n out1 slots1 n1 → Limits layout points slots n → Limits layout points slots1 n1
-limits-after layout points P out slots n out1 slots1 n1 w l = record {
-  fourThreads = l .fourThreads;
-  fewStatements = l .fewStatements;
-  fewPoints = l .fewPoints;
-  allPlaces = w .slotsStay ∙ l .allPlaces;
-  below = below-after P out slots n out1 slots1 n1 w (l .below);
-}

@@ -3,12 +3,11 @@ use Prim.Native.Nat.{ℕ}
 use mathlib.Core.Path.{_≡_, refl, fun-ext}
 use mathlib.Core.Bool.{Bool, true, false, cond}
 use mathlib.Core.List.{List}
-use native.Mathlib.Omega.{arith}
-use native.Mathlib.Decide.{decLt}
-use lib.ListN.{length, getD, replicate, length-replicate, getD-replicate, List·getD-eq-default}
+use lib.ListN.{getD, replicate}
 use Rattle.encoding.specs.Slots.{Slot, slot, kindNumber, startPlace}
 use Rattle.encoder_slots.specs.Places.{indexOf, fits, keptAt, placeOf}
 use Rattle.encoder_slots.proofs.Stores.{place-unset}
+use Rattle.set_index.proofs.Filling.{zero-at}
 
 module _ (slots : List ℕ) (zeros : (i : ℕ) → getD slots i 0 ≡ 0) where
   kept-zero : (kind a b : ℕ) → keptAt slots kind a b ≡ 0
@@ -23,14 +22,6 @@ module _ (slots : List ℕ) (zeros : (i : ℕ) → getD slots i 0 ≡ 0) where
     where
       at : (s : Slot) → placeOf slots s ≡ startPlace s
       at (slot k a b) = place-unset slots (kindNumber k) a b (startPlace (slot k a b)) (kept-zero (kindNumber k) a b)
-
-zero-at : (n i : ℕ) → _≡_ {A = ℕ} (getD (replicate n 0) i 0) 0
-zero-at n i = elim (decLt i n) [
-  | yes h ↦ getD-replicate n i 0 0 h
-  | no h ↦
-      let e : length (replicate {A = ℕ} n 0) ≡ n = length-replicate n 0 in
-      List·getD-eq-default (replicate n 0) 0 (omega (arith, h))
-]
 
 pub place-replicate : (n : ℕ) → placeOf (replicate n 0) ≡ startPlace
 place-replicate n = place-start (replicate n 0) (zero-at n)

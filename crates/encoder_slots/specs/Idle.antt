@@ -1,4 +1,5 @@
--- Values that a statement does not have: each lies where the constant lies that stands for it. Assumes nothing.
+-- Values that a statement does not have: each lies where the constant lies that stands for it. This serves the code; no call's promise needs it.
+-- Assumes nothing.
 use Prim.Native.Nat.{ℕ}
 use mathlib.Core.Path.{_≡_}
 use mathlib.Core.Bool.{false}

@@ -1,15 +1,17 @@
--- A piece of a program written to a table: the output, the places and the next index afterwards. Assumes nothing.
-use Prim.Native.Nat.{ℕ, _≤_, _<_}
+-- A piece of a program written to a table: the output, the places and the next index afterwards. This serves the code; no call's promise needs it.
+-- Assumes nothing.
+use Prim.Native.Nat.{ℕ, _<_}
 use mathlib.Core.Path.{_≡_}
 use mathlib.Core.List.{List, []}
-use lib.ListN.{length, getD}
-use Rattle.records.specs.declared.Layout.{Layout}
+use lib.ListN.{length}
+use Rattle.records.specs.Sets.{Set}
 use Rattle.table.specs.Formulas.{writtenAt}
 use Rattle.table.specs.Programs.{Command, next, root, records, compiled, nextAfter, placesAfter}
 use Rattle.encoding.specs.Slots.{Slot, same, Term}
 use Rattle.encoder_slots.specs.Places.{placeOf, size}
-use Rattle.set_index.specs.Points.{listed}
-use Rattle.set_index.specs.declared.points.Points.{Points}
+use Rattle.set_index.specs.Members.{Members}
+use Rattle.set_index.specs.ListTables.{ListTable}
+use Rattle.encoder_slots.specs.Idle.{Idle}
 
 -- from output, slots and next index to those afterwards
 pub record Writes (program : List (Command Slot)) (out slots : List ℕ) (n : ℕ) (outAfter slotsAfter : List ℕ) (after : ℕ) : Type 0 where
@@ -24,10 +26,18 @@ pub record WritesTree (places : Slot → ℕ) (tree : Term) (out : List ℕ) (n 
   pub treeNext : after ≡ next n tree
   pub treeRoot : at ≡ root places n tree
 
--- what the code keeps to while it writes: at most 4 threads of 32 statements, 8 checkpoints, every slot at a place below the next index
-pub record Limits (layout : Layout) (points : Points) (slots : List ℕ) (n : ℕ) : Type 0 where
-  pub fourThreads : layout .threads ≤ 4
-  pub fewStatements : (t : ℕ) → getD (layout .counts) t 0 ≤ 32
-  pub fewPoints : length (listed points) ≤ 8
+-- what the code keeps to while it writes the table of a set: the set's statements are listed, by class and by what they name (so there are at most 4 threads
+-- of 32 statements, and 8 checkpoints), every slot lies below the next index, and values that a statement does not have lie where their constant lies
+pub record Ready (S : Set) (cs members lists slots : List ℕ) (n : ℕ) : Type 0 where
+  pub byClass : Members S members
+  pub byName : ListTable S cs lists
   pub allPlaces : length slots ≡ size
   pub below : (s : Slot) → placeOf slots s < n
+  pub idle : Idle S (placeOf slots)
+
+-- the most records of a kind's values for one thread, and for all threads
+abbrev pub lineRoom : ℕ
+lineRoom = 1152
+
+abbrev pub blockRoom : ℕ
+blockRoom = 4608

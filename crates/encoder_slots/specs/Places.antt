@@ -1,15 +1,21 @@
--- The places of a table's values in an array: four rows for each kind, of 32 numbers for a kind of statements and of 9 for the others;
--- 0 where a value still lies at its start, else one more than its record's index. Assumes nothing.
+-- The places of a table's values in an array: four rows for each kind, of 32 numbers for a kind of statements and of 9 for the others; 0 where a
+-- value still lies at its start, else one more than its record's index. This serves the code; no call's promise needs it. Assumes nothing.
 use Prim.Native.Nat.{ℕ, zero, suc, _+_, _-_, _*_}
 use mathlib.Core.Bool.{Bool, cond, _&&_, _||_}
 use mathlib.Core.List.{List}
 use lib.Dec.{eqb, ltb}
 use lib.ListN.{getD}
-use Rattle.encoding.specs.Slots.{Slot, slot, kindNumber, startPlace}
+use Rattle.encoding.specs.Slots.{Slot, slot, kindNumber, startPlace, active, address, loaded, swaps, result, test, notTest, flag, argument}
 
--- the kinds by number that have a value for each statement: active, address to notTest, flag, argument
+-- the kinds by number that have one value for each statement, and no links
+abbrev pub ofStatement : ℕ → Bool
+ofStatement kind =
+    eqb kind (kindNumber active) || eqb kind (kindNumber address) || eqb kind (kindNumber loaded) || eqb kind (kindNumber swaps) || eqb kind (kindNumber result)
+    || eqb kind (kindNumber test) || eqb kind (kindNumber notTest) || eqb kind (kindNumber argument)
+
+-- those that have a value for each statement: these and the flags
 abbrev pub wide : ℕ → Bool
-wide kind = eqb kind 1 || eqb kind 11 || eqb kind 12 || eqb kind 13 || eqb kind 14 || eqb kind 15 || eqb kind 16 || eqb kind 31 || eqb kind 40
+wide kind = ofStatement kind || eqb kind (kindNumber flag)
 
 -- the length of a kind's rows: the statements of a thread, else one more than there are choices
 abbrev pub width : ℕ → ℕ

@@ -80,3 +80,8 @@ pub const WORD_ZERO: u8 = 38;
 pub const WORD_ONE: u8 = 39;
 
 pub const ARGUMENT: u8 = 40;
+
+// The last kind, and how many there are.
+pub const LAST: u8 = ARGUMENT;
+
+pub const COUNT: u8 = 41;

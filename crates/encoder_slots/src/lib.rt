@@ -1,14 +1,35 @@
 // The places of a table's values in an array, and the kinds by number.
 ghost use mathlib.Core.Path.{_≡_};
 ghost use Prim.Native.Nat.{_<_};
-ghost use lib.ListN.{length, getD};
+ghost use lib.ListN.{length};
 ghost use Rattle.base.specs.Below.{number};
 ghost use Rattle.table.specs.Programs.{put};
-ghost use Rattle.encoding.specs.Slots.{slot, same, kindAt};
+ghost use Rattle.encoding.specs.Slots.{slot, same, kindAt, kindCount};
 ghost use Rattle.encoder_slots.specs.Places.{wide, width, begin, keptAt, placeFrom, placeOf, size};
-ghost use Rattle.set_index.specs.Points.{listed};
 
 pub mod kinds;
+pub mod start;
+
+use records::Layout;
+
+// How many places there are.
+pub const SIZE: usize = 2304;
+
+// The most records of a kind's values for one thread, and for all threads.
+pub const LINE: u32 = 1152;
+
+pub const BLOCK: u32 = 4608;
+
+// The most threads: each kind has so many rows.
+pub const THREADS: u8 = Layout::THREADS as u8;
+
+// The length of the rows of a kind that has no value for each statement: one more than there are choices.
+const NARROW: u16 = 9;
+
+// The rows of such a kind, and what those of a kind of statements have more.
+const NARROW_ROWS: usize = 36;
+
+const WIDE_MORE: usize = 92;
 
 // Whether a kind has a value for each statement.
 fn wide(kind: u8) -> bool
@@ -21,8 +42,8 @@ fn wide(kind: u8) -> bool
         | (kind == kinds::RESULT)
         | (kind == kinds::TEST)
         | (kind == kinds::NOT_TEST)
-        | (kind == kinds::FLAG)
         | (kind == kinds::ARGUMENT)
+        | (kind == kinds::FLAG)
 }
 
 // The length of a kind's rows.
@@ -30,9 +51,9 @@ fn width(kind: u8) -> u16
     ensures { λ r. ⌜ r ≡ width kind ⌝ }
 {
     if wide(kind) {
-        return 32;
+        return Layout::STATEMENTS;
     }
-    9
+    NARROW
 }
 
 // How many kinds before this one have a value for each statement.
@@ -61,20 +82,20 @@ fn wide_before(kind: u8) -> u8
 fn begin(kind: u8) -> usize
     ensures { λ r. ⌜ r ≡ begin kind ⌝ }
 {
-    36 * (kind as usize) + 92 * (wide_before(kind) as usize)
+    NARROW_ROWS * (kind as usize) + WIDE_MORE * (wide_before(kind) as usize)
 }
 
 // The number kept for a kind's value for a and b.
 fn kept(slots: &[u32], kind: u8, a: u8, b: u16) -> u32
     ensures { λ r. ⌜ r ≡ keptAt (now (slots .entry)) kind a b ⌝ }
 {
-    if a < 4 {
+    if a < THREADS {
         let length = width(kind);
         if b < length {
             let i = begin(kind) + ((length as usize) * (a as usize) + (b as usize));
             // A caller whose array has this length and who names the kind needs no test here once compiled.
-            if slots.len() == 2304 {
-                if kind < 41 {
+            if slots.len() == SIZE {
+                if kind < kinds::COUNT {
                     return slots[i];
                 }
                 return 0;
@@ -101,15 +122,15 @@ pub fn place(slots: &[u32], kind: u8, a: u8, b: u16, start: u64) -> u64
 // Sets the record of a kind's value for a and b, if there is a place for it.
 pub fn set_place(slots: &mut [u32], kind: u8, a: u8, b: u16, index: u64)
     ensures { λ _. ⌜ (length (now (slots .exit)) ≡ length (now (slots .entry)))
-        × (length (now (slots .entry)) ≡ size → kind < 41 → a < 4 → b < width kind → index < 4294967295
+        × (length (now (slots .entry)) ≡ size → kind < kindCount → a < 4 → b < width kind → index < 4294967295
         → placeOf (now (slots .exit)) ≡ put same (placeOf (now (slots .entry))) (slot (kindAt kind) a b) index) ⌝ }
 {
-    if a < 4 {
+    if a < THREADS {
         let length = width(kind);
         if b < length {
             let i = begin(kind) + ((length as usize) * (a as usize) + (b as usize));
-            if slots.len() == 2304 {
-                if kind < 41 {
+            if slots.len() == SIZE {
+                if kind < kinds::COUNT {
                     slots[i] = ((index % 4294967296 + 1) % 4294967296) as u32;
                 }
             }

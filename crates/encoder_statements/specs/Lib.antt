@@ -1,2 +1,2 @@
--- A thread's statements in a set's records, and the values of one kind written for them.
-pub mod Lines
+-- The values of one kind written for a thread's statements.
+pub mod StatementValues

@@ -4,24 +4,32 @@ ghost use mathlib.Core.Path.{_≡_};
 ghost use mathlib.Core.Bool.{true};
 ghost use mathlib.Core.List.{List};
 ghost use Prim.Native.Nat.{ℕ, _+_, _≤_, _<_};
-ghost use lib.ListN.{length, getD};
+ghost use lib.ListN.{length};
 ghost use Rattle.records.specs.Sets.{Set, setBy};
-ghost use Rattle.encoding.specs.Slots.{Slot, kindAt, active, address, loaded, swaps, result, test, notTest, argument};
+ghost use Rattle.encoding.specs.Slots.{Slot, kindAt, active, address, loaded, swaps, result, test, notTest, argument, kindCount};
 ghost use Rattle.encoding.specs.Steps.{base as baseOf, entry as entryOf, line as lineOf};
 ghost use Rattle.encoder_slots.specs.Places.{placeOf, size};
-ghost use Rattle.encoder_slots.specs.Pieces.{Writes};
-ghost use Rattle.encoder_slots.specs.Idle.{Idle};
-ghost use Rattle.encoder_bases.specs.Fews.{Puts, ofStatement};
-ghost use Rattle.set_index.specs.Members.{Members};
-ghost use Rattle.encoder_statements.specs.Lines.{Line, Listed};
+ghost use Rattle.encoder_slots.specs.Pieces.{Writes, Ready, lineRoom};
+ghost use Rattle.encoder_bases.specs.SmallTrees.{Puts};
+ghost use Rattle.encoder_slots.specs.Places.{ofStatement};
+ghost use Rattle.encoder_statements.specs.StatementValues.{Line, Listed};
+ghost use Rattle.table.specs.Repeats.{lastIndex};
 use encoder_bases::WrittenTree;
+use encoder_slots::LINE;
+use encoder_slots::SIZE;
+use encoder_slots::THREADS;
 use encoder_slots::kinds;
+use encoder_slots::start;
 use records::Layout;
+use table::Formula;
+
+// The last index from which there is room for the values of a thread.
+const LIMIT: u32 = Formula::LAST - LINE;
 
 // Sets the place of a value whose tree was written from index n on; gives the next index.
 fn settle(slots: &mut [u32], kind: u8, t: u8, i: u16, n: u32, tree: WrittenTree) -> u32
-    requires { ⌜ (n ≤ 1800000000) × (tree .count ≤ 4) ⌝ }
-    ensures { λ r. ⌜ ((S : Set) (cs : List ℕ) (k : ℕ) (out after : List ℕ) → kind < 41 → ofStatement kind ≡ true → t < 4 → i < 32
+    requires { ⌜ (n + 4 ≤ lastIndex) × (tree .count ≤ 4) ⌝ }
+    ensures { λ r. ⌜ ((S : Set) (cs : List ℕ) (k : ℕ) (out after : List ℕ) → kind < kindCount → ofStatement kind ≡ true → t < 4 → i < 32
         → length (now (slots .entry)) ≡ size → ((s : Slot) → placeOf (now (slots .entry)) s < n)
         → Puts tree (placeOf (now (slots .entry))) n (baseOf S cs k (kindAt kind) t i) out after
         → Writes (entryOf S cs k (kindAt kind) t i) out (now (slots .entry)) n after (now (slots .exit)) r)
@@ -42,10 +50,10 @@ fn actives(
     t: u8,
     n: u32,
 ) -> u32
-    requires { ⌜ (count ≤ 32) × (t < 4) × (n ≤ 1700000000) × (length (now slots) ≡ size) ⌝ }
-    ensures { λ r. ⌜ (Line active (now (set .entry)) first count t (now (out .entry)) (now (slots .entry)) n (now (out .exit)) (now (slots .exit)) r) × (r ≤ n + 1152) ⌝ }
+    requires { ⌜ (count ≤ 32) × (t < 4) × (n + lineRoom ≤ lastIndex) × (length (now slots) ≡ size) ⌝ }
+    ensures { λ r. ⌜ (Line active (now (set .entry)) first count t (now (out .entry)) (now (slots .entry)) n (now (out .exit)) (now (slots .exit)) r) × (r ≤ n + lineRoom) ⌝ }
 {
-    let executes = encoder_slots::place(slots, kinds::CHOICE, 0, t as u16, 0);
+    let executes = encoder_slots::place(slots, kinds::CHOICE, 0, t as u16, start::BIT0);
     let mut next = n;
     let mut i: u16 = 0;
     while i < count {
@@ -66,8 +74,8 @@ fn addresses(
     t: u8,
     n: u32,
 ) -> u32
-    requires { ⌜ (count ≤ 32) × (t < 4) × (n ≤ 1700000000) × (length (now slots) ≡ size) ⌝ }
-    ensures { λ r. ⌜ (Line address (now (set .entry)) first count t (now (out .entry)) (now (slots .entry)) n (now (out .exit)) (now (slots .exit)) r) × (r ≤ n + 1152) ⌝ }
+    requires { ⌜ (count ≤ 32) × (t < 4) × (n + lineRoom ≤ lastIndex) × (length (now slots) ≡ size) ⌝ }
+    ensures { λ r. ⌜ (Line address (now (set .entry)) first count t (now (out .entry)) (now (slots .entry)) n (now (out .exit)) (now (slots .exit)) r) × (r ≤ n + lineRoom) ⌝ }
 {
     let load = encoder_bases::load_of(slots, t);
     let mut next = n;
@@ -91,11 +99,11 @@ fn loads(
     t: u8,
     n: u32,
 ) -> u32
-    requires { ⌜ (t < 4) × (n ≤ 1700000000) × (length (now slots) ≡ size) ⌝ }
-    ensures { λ r. ⌜ (Listed loaded (now (set .entry)) (now (members .entry)) first t (now (out .entry)) (now (slots .entry)) n (now (out .exit)) (now (slots .exit)) r) × (r ≤ n + 1152) ⌝ }
+    requires { ⌜ (t < 4) × (n + lineRoom ≤ lastIndex) × (length (now slots) ≡ size) ⌝ }
+    ensures { λ r. ⌜ (Listed loaded (now (set .entry)) (now (members .entry)) first t (now (out .entry)) (now (slots .entry)) n (now (out .exit)) (now (slots .exit)) r) × (r ≤ n + lineRoom) ⌝ }
 {
     let load = encoder_bases::load_of(slots, t);
-    let nothing = encoder_slots::place(slots, kinds::WORD_ZERO, 0, 0, 2);
+    let nothing = encoder_slots::place(slots, kinds::WORD_ZERO, 0, 0, start::WORD0);
     let mut next = n;
     let loading = set_index::members::count_of(members, set_index::members::LOADS, t);
     let mut j: u16 = 0;
@@ -119,10 +127,10 @@ fn swaps(
     t: u8,
     n: u32,
 ) -> u32
-    requires { ⌜ (t < 4) × (n ≤ 1700000000) × (length (now slots) ≡ size) ⌝ }
-    ensures { λ r. ⌜ (Listed swaps (now (set .entry)) (now (members .entry)) first t (now (out .entry)) (now (slots .entry)) n (now (out .exit)) (now (slots .exit)) r) × (r ≤ n + 1152) ⌝ }
+    requires { ⌜ (t < 4) × (n + lineRoom ≤ lastIndex) × (length (now slots) ≡ size) ⌝ }
+    ensures { λ r. ⌜ (Listed swaps (now (set .entry)) (now (members .entry)) first t (now (out .entry)) (now (slots .entry)) n (now (out .exit)) (now (slots .exit)) r) × (r ≤ n + lineRoom) ⌝ }
 {
-    let nothing = encoder_slots::place(slots, kinds::BIT_ZERO, 0, 0, 0);
+    let nothing = encoder_slots::place(slots, kinds::BIT_ZERO, 0, 0, start::BIT0);
     let mut next = n;
     let swapping = set_index::members::count_of(members, set_index::members::IS_CAS, t);
     let mut j: u16 = 0;
@@ -146,8 +154,8 @@ fn results(
     t: u8,
     n: u32,
 ) -> u32
-    requires { ⌜ (t < 4) × (n ≤ 1700000000) × (length (now slots) ≡ size) ⌝ }
-    ensures { λ r. ⌜ (Listed result (now (set .entry)) (now (members .entry)) first t (now (out .entry)) (now (slots .entry)) n (now (out .exit)) (now (slots .exit)) r) × (r ≤ n + 1152) ⌝ }
+    requires { ⌜ (t < 4) × (n + lineRoom ≤ lastIndex) × (length (now slots) ≡ size) ⌝ }
+    ensures { λ r. ⌜ (Listed result (now (set .entry)) (now (members .entry)) first t (now (out .entry)) (now (slots .entry)) n (now (out .exit)) (now (slots .exit)) r) × (r ≤ n + lineRoom) ⌝ }
 {
     let mut next = n;
     let computing = set_index::members::count_of(members, set_index::members::SETS_ACCU, t);
@@ -172,12 +180,12 @@ fn tests(
     t: u8,
     n: u32,
 ) -> u32
-    requires { ⌜ (t < 4) × (n ≤ 1700000000) × (length (now slots) ≡ size) ⌝ }
-    ensures { λ r. ⌜ (Listed test (now (set .entry)) (now (members .entry)) first t (now (out .entry)) (now (slots .entry)) n (now (out .exit)) (now (slots .exit)) r) × (r ≤ n + 1152) ⌝ }
+    requires { ⌜ (t < 4) × (n + lineRoom ≤ lastIndex) × (length (now slots) ≡ size) ⌝ }
+    ensures { λ r. ⌜ (Listed test (now (set .entry)) (now (members .entry)) first t (now (out .entry)) (now (slots .entry)) n (now (out .exit)) (now (slots .exit)) r) × (r ≤ n + lineRoom) ⌝ }
 {
-    let accu = encoder_slots::place(slots, kinds::ACCU, t, 0, 2);
-    let zero = encoder_slots::place(slots, kinds::WORD_ZERO, 0, 0, 2);
-    let nothing = encoder_slots::place(slots, kinds::BIT_ZERO, 0, 0, 0);
+    let accu = encoder_slots::place(slots, kinds::ACCU, t, 0, start::WORD0);
+    let zero = encoder_slots::place(slots, kinds::WORD_ZERO, 0, 0, start::WORD0);
+    let nothing = encoder_slots::place(slots, kinds::BIT_ZERO, 0, 0, start::BIT0);
     let mut next = n;
     let tested = set_index::members::count_of(members, set_index::members::IS_CONDITIONAL, t);
     let mut j: u16 = 0;
@@ -193,8 +201,8 @@ fn tests(
 
 // Whether the test of each statement does not hold; those that are no conditional jump have this bit already.
 fn not_tests(members: &[u8], slots: &mut [u32], out: &mut [u8], t: u8, n: u32) -> u32
-    requires { ⌜ (t < 4) × (n ≤ 1700000000) × (length (now slots) ≡ size) ⌝ }
-    ensures { λ r. ⌜ ((set : List ℕ) (first : ℕ) → Listed notTest set (now (members .entry)) first t (now (out .entry)) (now (slots .entry)) n (now (out .exit)) (now (slots .exit)) r) × (r ≤ n + 1152) ⌝ }
+    requires { ⌜ (t < 4) × (n + lineRoom ≤ lastIndex) × (length (now slots) ≡ size) ⌝ }
+    ensures { λ r. ⌜ ((set : List ℕ) (first : ℕ) → Listed notTest set (now (members .entry)) first t (now (out .entry)) (now (slots .entry)) n (now (out .exit)) (now (slots .exit)) r) × (r ≤ n + lineRoom) ⌝ }
 {
     let mut next = n;
     let not_tested = set_index::members::count_of(members, set_index::members::IS_CONDITIONAL, t);
@@ -218,8 +226,8 @@ fn arguments(
     t: u8,
     n: u32,
 ) -> u32
-    requires { ⌜ (count ≤ 32) × (t < 4) × (n ≤ 1700000000) × (length (now slots) ≡ size) ⌝ }
-    ensures { λ r. ⌜ (Line argument (now (set .entry)) first count t (now (out .entry)) (now (slots .entry)) n (now (out .exit)) (now (slots .exit)) r) × (r ≤ n + 1152) ⌝ }
+    requires { ⌜ (count ≤ 32) × (t < 4) × (n + lineRoom ≤ lastIndex) × (length (now slots) ≡ size) ⌝ }
+    ensures { λ r. ⌜ (Line argument (now (set .entry)) first count t (now (out .entry)) (now (slots .entry)) n (now (out .exit)) (now (slots .exit)) r) × (r ≤ n + lineRoom) ⌝ }
 {
     let mut next = n;
     let mut i: u16 = 0;
@@ -244,28 +252,27 @@ pub fn statement_line(
     t: u8,
     n: u32,
 ) -> u32
-    ensures { λ r. ⌜ ((cs : List ℕ) (k : ℕ) → ofStatement kind ≡ true → t < 4 → getD (layout .counts) t 0 ≤ 32 → n ≤ 1700000000
-        → length (now (slots .entry)) ≡ size → Members (setBy (now (set .entry)) layout) (now (members .entry))
-        → Idle (setBy (now (set .entry)) layout) (placeOf (now (slots .entry))) → ((s : Slot) → placeOf (now (slots .entry)) s < n)
+    ensures { λ r. ⌜ ((cs lists : List ℕ) (k : ℕ) → ofStatement kind ≡ true → t < 4 → n + lineRoom ≤ lastIndex
+        → Ready (setBy (now (set .entry)) layout) cs (now (members .entry)) lists (now (slots .entry)) n
         → Writes (lineOf (setBy (now (set .entry)) layout) cs k (kindAt kind) t) (now (out .entry)) (now (slots .entry)) n (now (out .exit)) (now (slots .exit)) r)
-        × (n ≤ 1700000000 → r ≤ n + 1152) ⌝ }
+        × (r ≤ n + lineRoom) ⌝ }
 {
-    if 4 <= t {
+    if THREADS <= t {
         return n;
     }
     let thread = t as usize;
     let counts = layout.counts;
     let count = counts[thread];
-    if 32 < count {
+    if Layout::STATEMENTS < count {
         return n;
     }
-    if slots.len() != 2304 {
+    if slots.len() != SIZE {
         return n;
     }
-    if members.len() != 1452 {
+    if members.len() != set_index::members::LENGTH {
         return n;
     }
-    if 1700000000 < n {
+    if LIMIT < n {
         return n;
     }
     let starts = layout.starts;

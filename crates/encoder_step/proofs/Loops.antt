@@ -1,23 +1,24 @@
 -- Blocks as their loops write them: one value for each thread, one after each thread, a line for each thread. Assumes nothing.
 use Prim.Native.Nat.{ℕ, suc, _+_, _<_}
 use mathlib.Core.Path.{_≡_, refl, ap, sym, _∙_, subst}
-use mathlib.Core.Bool.{Bool, true, false, not, _&&_, _||_, true≢false}
+use mathlib.Core.Bool.{Bool, true, false, not, _&&_, _||_}
 use mathlib.Core.List.{List}
 use native.Mathlib.Numerals.{add-one}
 use lib.Dec.{eqb}
-use borrow.Author.Tests.{eqb-true}
+use borrow.Author.Tests.{eqb-true, eq-eqb}
 use Rattle.base.specs.Below.{every}
 use Rattle.base.proofs.Below.{every-at}
-use Rattle.base.proofs.Choice.{and-left, and-right}
+use Rattle.base.proofs.Choice.{and-left, and-right, or-left, or-right, clash}
 use Rattle.records.specs.Sets.{Set}
 use Rattle.table.specs.Programs.{upto}
-use Rattle.encoding.specs.Slots.{Slot, kinds, kindAt}
-use Rattle.encoding.specs.Steps.{Shape, perChoice, perThread, perStatement, perCheckpoint, perMark, beforeThread, beforeChoice, single, shape, chain, link, links, base, rows, columns, kept, entry, line, block}
+use Rattle.encoding.specs.Slots.{Slot, kinds, kindAt, kindNumber, kindCount, choice, shut, mayExecute, none, permittedFirst, sharedMemory, ended, code, wordOne, flag}
+use Rattle.encoding.specs.Steps.{Shape, perThread, beforeThread, shape, chain, link, links, base, rows, columns, kept, entry, line, block}
 use Rattle.encoder_slots.specs.Pieces.{Writes, WritesTree}
 use Rattle.encoder_slots.proofs.Pieces.{writes-row, writes-more}
 use Rattle.encoder_slots.proofs.Entries.{treeOf}
-use Rattle.encoder_bases.specs.Fews.{ofStatement}
+use Rattle.encoder_slots.specs.Places.{ofStatement}
 use Rattle.encoder_step.specs.Entries.{BareEntry}
+use Rattle.encoder_statements.proofs.Values.{statement-shape}
 
 module _ (S : Set) (cs : List ℕ) (k kind : ℕ) (out slots : List ℕ) (n : ℕ) (after slotsAfter : List ℕ) (m : ℕ) where
   -- ---- one value for each thread
@@ -64,55 +65,43 @@ bare-written S cs k kind a b bare places out n after m at w =
 -- the kinds by number whose values are all there and have no links
 abbrev bare : ℕ → Bool
 bare kind =
-    eqb kind 0 || eqb kind 3 || eqb kind 7 || eqb kind 8 || eqb kind 9 || eqb kind 24 || eqb kind 34 || eqb kind 35 || eqb kind 39
+    eqb kind (kindNumber choice) || eqb kind (kindNumber shut) || eqb kind (kindNumber mayExecute) || eqb kind (kindNumber none) || eqb kind (kindNumber permittedFirst)
+    || eqb kind (kindNumber sharedMemory) || eqb kind (kindNumber ended) || eqb kind (kindNumber code) || eqb kind (kindNumber wordOne)
+
+-- none of them is of statements, nor a flag
+abbrev apart : ℕ → Bool
+apart kind = not (ofStatement kind || eqb kind (kindNumber flag))
+
+refused : (b : Bool) → not b ≡ true → b ≡ false
+refused true e = sym e
+refused false e = refl
 
 module _ (S : Set) (cs : List ℕ) (a b : ℕ) where
   -- there, and without links
   lone : ℕ → Bool
-  lone n = eqb (links S cs 0 (kindAt n) a b) 0 && kept S cs 0 (shape (kindAt n)) a b
+  lone n = eqb (links S cs 0 (kindAt n) a b) 0 && (kept S cs 0 (shape (kindAt n)) a b && apart n)
 
-  lone-tabled : every 41 (λ n. not (bare n) || lone n) ≡ true
+  lone-tabled : every kindCount (λ n. not (bare n) || lone n) ≡ true
   unfolding every kinds lone
   lone-tabled = refl
 
-  pub lone-at : (kind : ℕ) → kind < 41 → bare kind ≡ true → BareEntry S cs kind a b
+  pub lone-at : (kind : ℕ) → kind < kindCount → bare kind ≡ true → BareEntry S cs kind a b
   unfolding lone
   lone-at kind h is =
-      let holds = sym (ap (λ (t : Bool). not t || lone kind) is) ∙ every-at (λ n. not (bare n) || lone n) 41 kind lone-tabled h in
+      let none = eqb (links S cs 0 (kindAt kind) a b) 0 in
+      let is-kept = kept S cs 0 (shape (kindAt kind)) a b in
+      let holds : lone kind ≡ true = sym (ap (λ (t : Bool). not t || lone kind) is) ∙ every-at (λ n. not (bare n) || lone n) kindCount kind lone-tabled h in
+      let rest : (is-kept && apart kind) ≡ true = and-right none (is-kept && apart kind) holds in
+      let others : (ofStatement kind || eqb kind (kindNumber flag)) ≡ false = refused (ofStatement kind || eqb kind (kindNumber flag)) (and-right is-kept (apart kind) rest) in
       record {
-        linkless = eqb-true (links S cs 0 (kindAt kind) a b) 0 (and-left (eqb (links S cs 0 (kindAt kind) a b) 0) (kept S cs 0 (shape (kindAt kind)) a b) holds);
-        there = and-right (eqb (links S cs 0 (kindAt kind) a b) 0) (kept S cs 0 (shape (kindAt kind)) a b) holds;
+        linkless = eqb-true (links S cs 0 (kindAt kind) a b) 0 (and-left none (is-kept && apart kind) holds);
+        there = and-left is-kept (apart kind) rest;
+        known = h;
+        plain = or-left (ofStatement kind) (eqb kind (kindNumber flag)) others;
+        noFlag = λ e. clash (eq-eqb kind (kindNumber flag) e) (or-right (ofStatement kind) (eqb kind (kindNumber flag)) others);
       }
 
 -- ---- a line for each thread
 
-byThreads : Shape → Bool
-byThreads perChoice = false
-byThreads perThread = true
-byThreads perStatement = true
-byThreads perCheckpoint = false
-byThreads perMark = true
-byThreads beforeThread = false
-byThreads beforeChoice = false
-byThreads single = false
-
-threads-tabled : every 41 (λ n. not (ofStatement n) || byThreads (shape (kindAt n))) ≡ true
-unfolding every kinds byThreads
-threads-tabled = refl
-
-module _ (S : Set) (cs : List ℕ) (k : ℕ) where
-  thread-rows : (s : Shape) → byThreads s ≡ true → S .threads ≡ rows S cs k s
-  unfolding byThreads
-  thread-rows perChoice e = absurd (true≢false (sym e))
-  thread-rows perThread e = refl
-  thread-rows perStatement e = refl
-  thread-rows perCheckpoint e = absurd (true≢false (sym e))
-  thread-rows perMark e = refl
-  thread-rows beforeThread e = absurd (true≢false (sym e))
-  thread-rows beforeChoice e = absurd (true≢false (sym e))
-  thread-rows single e = absurd (true≢false (sym e))
-
-  pub statement-rows : (kind : ℕ) → kind < 41 → ofStatement kind ≡ true → S .threads ≡ rows S cs k (shape (kindAt kind))
-  statement-rows kind h of =
-      thread-rows (shape (kindAt kind))
-      (sym (ap (λ (b : Bool). not b || byThreads (shape (kindAt kind))) of) ∙ every-at (λ n. not (ofStatement n) || byThreads (shape (kindAt n))) 41 kind threads-tabled h)
+pub statement-rows : (S : Set) (cs : List ℕ) (k kind : ℕ) → kind < kindCount → ofStatement kind ≡ true → S .threads ≡ rows S cs k (shape (kindAt kind))
+statement-rows S cs k kind h of = sym (ap (rows S cs k) (statement-shape kind h of))

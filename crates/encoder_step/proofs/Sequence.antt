@@ -1,45 +1,17 @@
--- Blocks written one after the other, and what each needs of the places before it. Assumes nothing.
+-- Blocks written one after the other. Assumes nothing.
 use Prim.Native.Nat.{ℕ, _+_, _<_}
 use mathlib.Core.Path.{ap, sym, _∙_, subst}
 use mathlib.Core.List.{List, _++_}
 use native.Mathlib.Omega.{arith}
-use Rattle.records.specs.declared.Layout.{Layout}
-use Rattle.records.specs.Sets.{Set, setBy}
+use Rattle.records.specs.Sets.{Set}
 use Rattle.table.specs.Programs.{upto, Command}
 use Rattle.table.proofs.Sequences.{upto-more, upto-ext}
 use Rattle.encoding.specs.Slots.{Slot, kindAt}
 use Rattle.encoding.specs.Steps.{block, blocks}
-use Rattle.set_index.specs.declared.points.Points.{Points}
-use Rattle.encoder_slots.specs.Places.{placeOf}
-use Rattle.set_index.specs.Points.{listed}
-use Rattle.encoder_slots.specs.Pieces.{Writes, Limits}
-use Rattle.encoder_slots.specs.Idle.{Idle}
-use Rattle.encoder_slots.proofs.Pieces.{writes-++, writes-row, writes-more, limits-after}
-use Rattle.encoder_slots.proofs.Idle.{Keeps, idle-block, idle-blocks, idle-written}
+use Rattle.encoder_slots.specs.Pieces.{Writes}
+use Rattle.encoder_slots.proofs.Pieces.{writes-++, writes-row, writes-more}
 
-module _ (layout : Layout) (points : Points) (bytes : List ℕ) (k : ℕ) where
-  abbrev S : Set
-  S = setBy bytes layout
-
-  abbrev cs : List ℕ
-  cs = listed points
-
-  pub record Ready (slots : List ℕ) (n : ℕ) : Type 0 where
-    pub limits : Limits layout points slots n
-    pub idle : Idle S (placeOf slots)
-
-  ready-after : (P : List (Command Slot)) → Keeps S P → {out slots : List ℕ} {n : ℕ} {out1 slots1 : List ℕ} {n1 : ℕ} →
-      Writes P out slots n out1 slots1 n1 → Ready slots n → Ready slots1 n1
-  ready-after P keeps w r = record { limits = limits-after layout points P _ _ _ _ _ _ w (r .limits); idle = idle-written S P keeps _ _ _ _ _ _ w (r .idle) }
-
-  pub ready-block : (kind : ℕ) {out slots : List ℕ} {n : ℕ} {out1 slots1 : List ℕ} {n1 : ℕ} →
-      Writes (block S cs k (kindAt kind)) out slots n out1 slots1 n1 → Ready slots n → Ready slots1 n1
-  ready-block kind w r = ready-after (block S cs k (kindAt kind)) (idle-block S cs k (kindAt kind)) w r
-
-  pub ready-blocks : (j m : ℕ) {out slots : List ℕ} {n : ℕ} {out1 slots1 : List ℕ} {n1 : ℕ} →
-      Writes (blocks S cs k j m) out slots n out1 slots1 n1 → Ready slots n → Ready slots1 n1
-  ready-blocks j m w r = ready-after (blocks S cs k j m) (idle-blocks S cs k j m) w r
-
+module _ (S : Set) (cs : List ℕ) (k : ℕ) where
   -- one block more
   pub block-more : (j m : ℕ) {out slots : List ℕ} {n : ℕ} {out1 slots1 : List ℕ} {n1 : ℕ} {out2 slots2 : List ℕ} {n2 : ℕ} →
       Writes (blocks S cs k j m) out slots n out1 slots1 n1 → Writes (block S cs k (kindAt (j + m))) out1 slots1 n1 out2 slots2 n2 →

@@ -2,22 +2,22 @@
 ghost use mathlib.Core.Path.{_≡_};
 ghost use mathlib.Core.Bool.{true, false};
 ghost use mathlib.Core.List.{List, [], _∷_};
-ghost use Prim.Native.Nat.{ℕ, _+_, _≤_, _<_};
+ghost use Prim.Native.Nat.{ℕ, _+_, _*_, _≤_, _<_};
 ghost use lib.ListN.{length};
 ghost use Rattle.records.specs.Sets.{Set, setBy};
 ghost use Rattle.table.specs.Programs.{needs};
 ghost use Rattle.encoding.specs.Encodings.{starting};
-ghost use Rattle.encoding.specs.Slots.{Slot, kindAt};
+ghost use Rattle.encoding.specs.Slots.{kindAt, kindNumber, kindCount, mayExecute, flag};
 ghost use Rattle.encoding.specs.Steps.{single, shape, rows as rowsOf, columns as columnsOf, entry as entryOf, block as blockOf, blocks as blocksOf, ruled, step as stepOf};
-ghost use Rattle.encoder_slots.specs.Places.{placeOf, size as placesCount};
 ghost use Rattle.set_index.specs.Points.{listed};
-ghost use Rattle.encoder_slots.specs.Pieces.{Writes, Limits};
-ghost use Rattle.encoder_slots.specs.Idle.{Idle};
-ghost use Rattle.encoder_bases.specs.Fews.{ofStatement};
+ghost use Rattle.encoder_slots.specs.Pieces.{Writes, Ready, blockRoom};
+ghost use Rattle.encoder_slots.specs.Places.{ofStatement};
 ghost use Rattle.encoder_chains.specs.Chained.{chained};
-ghost use Rattle.set_index.specs.Tables.{ListTable};
-ghost use Rattle.set_index.specs.Members.{Members};
-ghost use Rattle.encoder_step.specs.Entries.{BareEntry, GivenEntry, ByThread, AfterThread};
+ghost use Rattle.encoder_step.specs.Entries.{stepRoom, BareEntry, GivenEntry, ByThread, AfterThread};
+ghost use Rattle.table.specs.Repeats.{lastIndex};
+use encoder_slots::BLOCK;
+use encoder_slots::SIZE;
+use encoder_slots::THREADS;
 use encoder_slots::kinds::ACCU;
 use encoder_slots::kinds::ACTIVE;
 use encoder_slots::kinds::ADDRESS;
@@ -53,9 +53,20 @@ use encoder_slots::kinds::VAL;
 use encoder_slots::kinds::WORD_ONE;
 use encoder_slots::kinds::WRITE_TO;
 use encoder_slots::kinds::WRITE_VALUE;
+use encoder_slots::start;
 use records::Layout;
 use set_index::points::Points;
 use table::Formula;
+use table::operations::BIT;
+use table::operations::CONSTRAINT;
+use table::operations::IF;
+use table::operations::NO_SORT;
+
+// The most records of a step: of the values of its kinds, and its constraint.
+const STEP: u32 = 36 * BLOCK + 2;
+
+// The last index from which there is room for a step.
+const LIMIT: u32 = Formula::LAST - STEP;
 
 // ---- the values of a kind
 
@@ -70,9 +81,8 @@ fn bare_entry(
     b: u16,
     n: u32,
 ) -> u32
-    requires { ⌜ (n ≤ 1800000000) × (kind < 41) × (a < 4) × (b < 9) × (ofStatement kind ≡ false) × (kind ≡ 31 → ⊥) ⌝ }
-    ensures { λ r. ⌜ ((S : Set) (cs : List ℕ) → S .threads ≡ threads → BareEntry S cs kind a b → length (now (slots .entry)) ≡ placesCount
-        → ((s : Slot) → placeOf (now (slots .entry)) s < n)
+    requires { ⌜ (n + 4 ≤ lastIndex) × (a < 4) × (b < 9) ⌝ }
+    ensures { λ r. ⌜ ((S : Set) (cs members lists : List ℕ) → S .threads ≡ threads → BareEntry S cs kind a b → Ready S cs members lists (now (slots .entry)) n
         → Writes (entryOf S cs step (kindAt kind) a b) (now (out .entry)) (now (slots .entry)) n (now (out .exit)) (now (slots .exit)) r)
         × (r ≤ n + 4) ⌝ }
 {
@@ -91,9 +101,9 @@ fn bare_line(
     columns: u16,
     n: u32,
 ) -> u32
-    requires { ⌜ (n ≤ 1600000000) × (kind < 41) × (columns ≤ 9) × (ofStatement kind ≡ false) × (kind ≡ 31 → ⊥) ⌝ }
-    ensures { λ r. ⌜ ((S : Set) (cs : List ℕ) → S .threads ≡ threads → ((b : ℕ) → BareEntry S cs kind 0 b) → rowsOf S cs step (shape (kindAt kind)) ≡ 1
-        → columns ≡ columnsOf S cs step (shape (kindAt kind)) 0 → length (now (slots .entry)) ≡ placesCount → ((s : Slot) → placeOf (now (slots .entry)) s < n)
+    requires { ⌜ (n + 36 ≤ lastIndex) × (columns ≤ 9) ⌝ }
+    ensures { λ r. ⌜ ((S : Set) (cs members lists : List ℕ) → S .threads ≡ threads → ((b : ℕ) → BareEntry S cs kind 0 b) → rowsOf S cs step (shape (kindAt kind)) ≡ 1
+        → columns ≡ columnsOf S cs step (shape (kindAt kind)) 0 → Ready S cs members lists (now (slots .entry)) n
         → Writes (blockOf S cs step (kindAt kind)) (now (out .entry)) (now (slots .entry)) n (now (out .exit)) (now (slots .exit)) r)
         × (r ≤ n + 36) ⌝ }
 {
@@ -107,10 +117,10 @@ fn bare_line(
 }
 
 // Writes for each thread whether it may execute.
-fn may_block(slots: &mut [u32], out: &mut [u8], threads: u8, step: u8, n: u32) -> u32
-    requires { ⌜ (n ≤ 1600000000) × (threads ≤ 4) ⌝ }
-    ensures { λ r. ⌜ ((S : Set) (cs : List ℕ) → S .threads ≡ threads → length (now (slots .entry)) ≡ placesCount → ((s : Slot) → placeOf (now (slots .entry)) s < n)
-        → Writes (blockOf S cs step (kindAt 7)) (now (out .entry)) (now (slots .entry)) n (now (out .exit)) (now (slots .exit)) r)
+fn may_execute_block(slots: &mut [u32], out: &mut [u8], threads: u8, step: u8, n: u32) -> u32
+    requires { ⌜ (n + 16 ≤ lastIndex) × (threads ≤ 4) ⌝ }
+    ensures { λ r. ⌜ ((S : Set) (cs members lists : List ℕ) → S .threads ≡ threads → Ready S cs members lists (now (slots .entry)) n
+        → Writes (blockOf S cs step mayExecute) (now (out .entry)) (now (slots .entry)) n (now (out .exit)) (now (slots .exit)) r)
         × (r ≤ n + 16) ⌝ }
 {
     let mut next = n;
@@ -124,9 +134,8 @@ fn may_block(slots: &mut [u32], out: &mut [u8], threads: u8, step: u8, n: u32) -
 
 // Writes a value that there is one of, whose links the choices or the threads give.
 fn single_block(slots: &mut [u32], out: &mut [u8], threads: u8, step: u8, kind: u8, n: u32) -> u32
-    requires { ⌜ (n ≤ 1600000000) × (threads ≤ 4) × (kind < 41) × (ofStatement kind ≡ false) × (kind ≡ 31 → ⊥) ⌝ }
-    ensures { λ r. ⌜ ((S : Set) (cs : List ℕ) → S .threads ≡ threads → chained kind ≡ true → shape (kindAt kind) ≡ single → length (now (slots .entry)) ≡ placesCount
-        → ((s : Slot) → placeOf (now (slots .entry)) s < n)
+    requires { ⌜ (n + 12 ≤ lastIndex) × (threads ≤ 4) × (kind < kindCount) × (ofStatement kind ≡ false) × (kind ≡ kindNumber flag → ⊥) ⌝ }
+    ensures { λ r. ⌜ ((S : Set) (cs members lists : List ℕ) → S .threads ≡ threads → chained kind ≡ true → shape (kindAt kind) ≡ single → Ready S cs members lists (now (slots .entry)) n
         → Writes (blockOf S cs step (kindAt kind)) (now (out .entry)) (now (slots .entry)) n (now (out .exit)) (now (slots .exit)) r)
         × (r ≤ n + 12) ⌝ }
 {
@@ -150,9 +159,8 @@ fn given_entry(
     t: u8,
     n: u32,
 ) -> u32
-    requires { ⌜ (n ≤ 1800000000) × (a < 4) × (b < 9) × (t < 4) ⌝ }
-    ensures { λ r. ⌜ ((S : Set) (cs : List ℕ) → S .threads ≡ threads → GivenEntry S cs kind a b t → Members S (now (members .entry)) → length (now (slots .entry)) ≡ placesCount
-        → ((s : Slot) → placeOf (now (slots .entry)) s < n)
+    requires { ⌜ (n + 36 ≤ lastIndex) × (a < 4) × (b < 9) × (t < 4) ⌝ }
+    ensures { λ r. ⌜ ((S : Set) (cs lists : List ℕ) → S .threads ≡ threads → GivenEntry S cs kind a b t → Ready S cs (now (members .entry)) lists (now (slots .entry)) n
         → Writes (entryOf S cs step (kindAt kind) a b) (now (out .entry)) (now (slots .entry)) n (now (out .exit)) (now (slots .exit)) r)
         × (r ≤ n + 36) ⌝ }
 {
@@ -173,9 +181,8 @@ fn register_block(
     kind: u8,
     n: u32,
 ) -> u32
-    requires { ⌜ (n ≤ 1600000000) × (threads ≤ 4) ⌝ }
-    ensures { λ r. ⌜ ((S : Set) (cs : List ℕ) → S .threads ≡ threads → ByThread S cs kind → Members S (now (members .entry)) → length (now (slots .entry)) ≡ placesCount
-        → ((s : Slot) → placeOf (now (slots .entry)) s < n)
+    requires { ⌜ (n + 144 ≤ lastIndex) × (threads ≤ 4) ⌝ }
+    ensures { λ r. ⌜ ((S : Set) (cs lists : List ℕ) → S .threads ≡ threads → ByThread S cs kind → Ready S cs (now (members .entry)) lists (now (slots .entry)) n
         → Writes (blockOf S cs step (kindAt kind)) (now (out .entry)) (now (slots .entry)) n (now (out .exit)) (now (slots .exit)) r)
         × (r ≤ n + 144) ⌝ }
 {
@@ -198,9 +205,8 @@ fn running_block(
     kind: u8,
     n: u32,
 ) -> u32
-    requires { ⌜ (n ≤ 1600000000) × (threads ≤ 4) × (kind < 41) × (ofStatement kind ≡ false) × (kind ≡ 31 → ⊥) ⌝ }
-    ensures { λ r. ⌜ ((S : Set) (cs : List ℕ) → S .threads ≡ threads → AfterThread S cs kind → Members S (now (members .entry)) → length (now (slots .entry)) ≡ placesCount
-        → ((s : Slot) → placeOf (now (slots .entry)) s < n)
+    requires { ⌜ (n + 148 ≤ lastIndex) × (threads ≤ 4) ⌝ }
+    ensures { λ r. ⌜ ((S : Set) (cs lists : List ℕ) → S .threads ≡ threads → AfterThread S cs kind → Ready S cs (now (members .entry)) lists (now (slots .entry)) n
         → Writes (blockOf S cs step (kindAt kind)) (now (out .entry)) (now (slots .entry)) n (now (out .exit)) (now (slots .exit)) r)
         × (r ≤ n + 148) ⌝ }
 {
@@ -224,10 +230,10 @@ fn statement_block(
     kind: u8,
     n: u32,
 ) -> u32
-    requires { ⌜ (n ≤ 1600000000) × (layout .threads ≤ 4) × (kind < 41) × (ofStatement kind ≡ true) ⌝ }
-    ensures { λ r. ⌜ ((points : Points) (step : ℕ) → Limits layout points (now (slots .entry)) n → Members (setBy (now (set .entry)) layout) (now (members .entry)) → Idle (setBy (now (set .entry)) layout) (placeOf (now (slots .entry)))
-        → Writes (blockOf (setBy (now (set .entry)) layout) (listed points) step (kindAt kind)) (now (out .entry)) (now (slots .entry)) n (now (out .exit)) (now (slots .exit)) r)
-        × (r ≤ n + 4608) ⌝ }
+    requires { ⌜ (n + blockRoom ≤ lastIndex) × (layout .threads ≤ 4) × (kind < kindCount) × (ofStatement kind ≡ true) ⌝ }
+    ensures { λ r. ⌜ ((cs lists : List ℕ) (step : ℕ) → Ready (setBy (now (set .entry)) layout) cs (now (members .entry)) lists (now (slots .entry)) n
+        → Writes (blockOf (setBy (now (set .entry)) layout) cs step (kindAt kind)) (now (out .entry)) (now (slots .entry)) n (now (out .exit)) (now (slots .exit)) r)
+        × (r ≤ n + blockRoom) ⌝ }
 {
     let threads = layout.threads;
     let mut next = n;
@@ -248,10 +254,10 @@ fn flag_block(
     out: &mut [u8],
     n: u32,
 ) -> u32
-    requires { ⌜ (n ≤ 1600000000) × (layout .threads ≤ 4) ⌝ }
-    ensures { λ r. ⌜ ((points : Points) (step : ℕ) → Limits layout points (now (slots .entry)) n → ListTable (setBy (now (set .entry)) layout) (listed points) (now (lists .entry))
-        → Writes (blockOf (setBy (now (set .entry)) layout) (listed points) step (kindAt 31)) (now (out .entry)) (now (slots .entry)) n (now (out .exit)) (now (slots .exit)) r)
-        × (r ≤ n + 4608) ⌝ }
+    requires { ⌜ (n + blockRoom ≤ lastIndex) × (layout .threads ≤ 4) ⌝ }
+    ensures { λ r. ⌜ ((cs members : List ℕ) (step : ℕ) → Ready (setBy (now (set .entry)) layout) cs members (now (lists .entry)) (now (slots .entry)) n
+        → Writes (blockOf (setBy (now (set .entry)) layout) cs step flag) (now (out .entry)) (now (slots .entry)) n (now (out .exit)) (now (slots .exit)) r)
+        × (r ≤ n + blockRoom) ⌝ }
 {
     let threads = layout.threads;
     let mut next = n;
@@ -277,10 +283,10 @@ fn choice_kinds(
     step: u8,
     n: u32,
 ) -> u32
-    requires { ⌜ (n ≤ 1500000000) × (layout .threads ≤ 4) × (length (listed points) ≤ 8) ⌝ }
-    ensures { λ r. ⌜ (Limits layout points (now (slots .entry)) n → Members (setBy (now (set .entry)) layout) (now (members .entry)) → ListTable (setBy (now (set .entry)) layout) (listed points) (now (lists .entry)) → Idle (setBy (now (set .entry)) layout) (placeOf (now (slots .entry)))
+    requires { ⌜ (n + 5 * blockRoom ≤ lastIndex) × (layout .threads ≤ 4) × (length (listed points) ≤ 8) ⌝ }
+    ensures { λ r. ⌜ (Ready (setBy (now (set .entry)) layout) (listed points) (now (members .entry)) (now (lists .entry)) (now (slots .entry)) n
         → Writes (blocksOf (setBy (now (set .entry)) layout) (listed points) step 0 5) (now (out .entry)) (now (slots .entry)) n (now (out .exit)) (now (slots .exit)) r)
-        × (r ≤ n + 23040) ⌝ }
+        × (r ≤ n + 5 * blockRoom) ⌝ }
 {
     let threads = layout.threads;
     let choices = 2 * (threads as u16);
@@ -302,17 +308,17 @@ fn permit_kinds(
     step: u8,
     n: u32,
 ) -> u32
-    requires { ⌜ (n ≤ 1500000000) × (layout .threads ≤ 4) ⌝ }
-    ensures { λ r. ⌜ ((bytes : List ℕ) → Limits layout points (now (slots .entry)) n → ListTable (setBy bytes layout) (listed points) (now (lists .entry)) → Idle (setBy bytes layout) (placeOf (now (slots .entry)))
+    requires { ⌜ (n + 5 * blockRoom ≤ lastIndex) × (layout .threads ≤ 4) ⌝ }
+    ensures { λ r. ⌜ ((bytes members : List ℕ) → Ready (setBy bytes layout) (listed points) members (now (lists .entry)) (now (slots .entry)) n
         → Writes (blocksOf (setBy bytes layout) (listed points) step 5 5) (now (out .entry)) (now (slots .entry)) n (now (out .exit)) (now (slots .exit)) r)
-        × (r ≤ n + 23040) ⌝ }
+        × (r ≤ n + 5 * blockRoom) ⌝ }
 {
     let threads = layout.threads;
     let choices = 2 * (threads as u16);
     let checkpoints = set_index::points::points_count(points);
     let held = encoder_marks::marks(lists, slots, out, threads, checkpoints, step, HELD, n);
     let waiting = encoder_marks::waits(lists, slots, out, threads, checkpoints, step, held);
-    let may = may_block(slots, out, threads, step, waiting);
+    let may = may_execute_block(slots, out, threads, step, waiting);
     let none = bare_line(slots, out, threads, step, NONE, choices + 1, may);
     bare_line(slots, out, threads, step, PERMITTED_FIRST, choices, none)
 }
@@ -329,10 +335,10 @@ fn deciding_kinds(
     step: u8,
     n: u32,
 ) -> u32
-    requires { ⌜ (n ≤ 1400000000) × (layout .threads ≤ 4) × (length (listed points) ≤ 8) ⌝ }
-    ensures { λ r. ⌜ (Limits layout points (now (slots .entry)) n → Members (setBy (now (set .entry)) layout) (now (members .entry)) → ListTable (setBy (now (set .entry)) layout) (listed points) (now (lists .entry)) → Idle (setBy (now (set .entry)) layout) (placeOf (now (slots .entry)))
+    requires { ⌜ (n + 11 * blockRoom ≤ lastIndex) × (layout .threads ≤ 4) × (length (listed points) ≤ 8) ⌝ }
+    ensures { λ r. ⌜ (Ready (setBy (now (set .entry)) layout) (listed points) (now (members .entry)) (now (lists .entry)) (now (slots .entry)) n
         → Writes (blocksOf (setBy (now (set .entry)) layout) (listed points) step 0 11) (now (out .entry)) (now (slots .entry)) n (now (out .exit)) (now (slots .exit)) r)
-        × (r ≤ n + 50688) ⌝ }
+        × (r ≤ n + 11 * blockRoom) ⌝ }
 {
     let chosen = choice_kinds(set, layout, points, members, lists, slots, out, step, n);
     let permitted = permit_kinds(layout, points, lists, slots, out, step, chosen);
@@ -348,10 +354,10 @@ fn statement_kinds(
     out: &mut [u8],
     n: u32,
 ) -> u32
-    requires { ⌜ (n ≤ 1500000000) × (layout .threads ≤ 4) ⌝ }
-    ensures { λ r. ⌜ ((points : Points) (step : ℕ) → Limits layout points (now (slots .entry)) n → Members (setBy (now (set .entry)) layout) (now (members .entry)) → Idle (setBy (now (set .entry)) layout) (placeOf (now (slots .entry)))
-        → Writes (blocksOf (setBy (now (set .entry)) layout) (listed points) step 11 5) (now (out .entry)) (now (slots .entry)) n (now (out .exit)) (now (slots .exit)) r)
-        × (r ≤ n + 23040) ⌝ }
+    requires { ⌜ (n + 5 * blockRoom ≤ lastIndex) × (layout .threads ≤ 4) ⌝ }
+    ensures { λ r. ⌜ ((cs lists : List ℕ) (step : ℕ) → Ready (setBy (now (set .entry)) layout) cs (now (members .entry)) lists (now (slots .entry)) n
+        → Writes (blocksOf (setBy (now (set .entry)) layout) cs step 11 5) (now (out .entry)) (now (slots .entry)) n (now (out .exit)) (now (slots .exit)) r)
+        × (r ≤ n + 5 * blockRoom) ⌝ }
 {
     let addresses = statement_block(set, layout, members, slots, out, ADDRESS, n);
     let loaded = statement_block(set, layout, members, slots, out, LOADED, addresses);
@@ -370,10 +376,10 @@ fn write_kinds(
     step: u8,
     n: u32,
 ) -> u32
-    requires { ⌜ (n ≤ 1500000000) × (layout .threads ≤ 4) ⌝ }
-    ensures { λ r. ⌜ ((points : Points) → Limits layout points (now (slots .entry)) n → Members (setBy (now (set .entry)) layout) (now (members .entry)) → Idle (setBy (now (set .entry)) layout) (placeOf (now (slots .entry)))
-        → Writes (blocksOf (setBy (now (set .entry)) layout) (listed points) step 16 5) (now (out .entry)) (now (slots .entry)) n (now (out .exit)) (now (slots .exit)) r)
-        × (r ≤ n + 23040) ⌝ }
+    requires { ⌜ (n + 5 * blockRoom ≤ lastIndex) × (layout .threads ≤ 4) ⌝ }
+    ensures { λ r. ⌜ ((cs lists : List ℕ) → Ready (setBy (now (set .entry)) layout) cs (now (members .entry)) lists (now (slots .entry)) n
+        → Writes (blocksOf (setBy (now (set .entry)) layout) cs step 16 5) (now (out .entry)) (now (slots .entry)) n (now (out .exit)) (now (slots .exit)) r)
+        × (r ≤ n + 5 * blockRoom) ⌝ }
 {
     let threads = layout.threads;
     let not_tests = statement_block(set, layout, members, slots, out, NOT_TEST, n);
@@ -394,10 +400,10 @@ fn exit_kinds(
     step: u8,
     n: u32,
 ) -> u32
-    requires { ⌜ (n ≤ 1500000000) × (layout .threads ≤ 4) ⌝ }
-    ensures { λ r. ⌜ ((bytes : List ℕ) → Limits layout points (now (slots .entry)) n → Members (setBy bytes layout) (now (members .entry)) → ListTable (setBy bytes layout) (listed points) (now (lists .entry)) → Idle (setBy bytes layout) (placeOf (now (slots .entry)))
+    requires { ⌜ (n + 5 * blockRoom ≤ lastIndex) × (layout .threads ≤ 4) ⌝ }
+    ensures { λ r. ⌜ ((bytes : List ℕ) → Ready (setBy bytes layout) (listed points) (now (members .entry)) (now (lists .entry)) (now (slots .entry)) n
         → Writes (blocksOf (setBy bytes layout) (listed points) step 21 5) (now (out .entry)) (now (slots .entry)) n (now (out .exit)) (now (slots .exit)) r)
-        × (r ≤ n + 23040) ⌝ }
+        × (r ≤ n + 5 * blockRoom) ⌝ }
 {
     let threads = layout.threads;
     let checkpoints = set_index::points::points_count(points);
@@ -417,10 +423,10 @@ fn register_kinds(
     step: u8,
     n: u32,
 ) -> u32
-    requires { ⌜ (n ≤ 1500000000) × (threads ≤ 4) ⌝ }
-    ensures { λ r. ⌜ ((bytes : List ℕ) (layout : Layout) (points : Points) → layout .threads ≡ threads → Limits layout points (now (slots .entry)) n → Members (setBy bytes layout) (now (members .entry)) → Idle (setBy bytes layout) (placeOf (now (slots .entry)))
-        → Writes (blocksOf (setBy bytes layout) (listed points) step 26 5) (now (out .entry)) (now (slots .entry)) n (now (out .exit)) (now (slots .exit)) r)
-        × (r ≤ n + 23040) ⌝ }
+    requires { ⌜ (n + 5 * blockRoom ≤ lastIndex) × (threads ≤ 4) ⌝ }
+    ensures { λ r. ⌜ ((S : Set) (cs lists : List ℕ) → S .threads ≡ threads → Ready S cs (now (members .entry)) lists (now (slots .entry)) n
+        → Writes (blocksOf S cs step 26 5) (now (out .entry)) (now (slots .entry)) n (now (out .exit)) (now (slots .exit)) r)
+        × (r ≤ n + 5 * blockRoom) ⌝ }
 {
     let adr = register_block(members, slots, out, threads, step, ADR, n);
     let mem = register_block(members, slots, out, threads, step, MEM, adr);
@@ -440,10 +446,10 @@ fn end_kinds(
     step: u8,
     n: u32,
 ) -> u32
-    requires { ⌜ (n ≤ 1500000000) × (layout .threads ≤ 4) ⌝ }
-    ensures { λ r. ⌜ (Limits layout points (now (slots .entry)) n → ListTable (setBy (now (set .entry)) layout) (listed points) (now (lists .entry)) → Idle (setBy (now (set .entry)) layout) (placeOf (now (slots .entry)))
+    requires { ⌜ (n + 5 * blockRoom ≤ lastIndex) × (layout .threads ≤ 4) ⌝ }
+    ensures { λ r. ⌜ ((members : List ℕ) → Ready (setBy (now (set .entry)) layout) (listed points) members (now (lists .entry)) (now (slots .entry)) n
         → Writes (blocksOf (setBy (now (set .entry)) layout) (listed points) step 31 5) (now (out .entry)) (now (slots .entry)) n (now (out .exit)) (now (slots .exit)) r)
-        × (r ≤ n + 23040) ⌝ }
+        × (r ≤ n + 5 * blockRoom) ⌝ }
 {
     let threads = layout.threads;
     let checkpoints = set_index::points::points_count(points);
@@ -466,10 +472,10 @@ fn acting_kinds(
     step: u8,
     n: u32,
 ) -> u32
-    requires { ⌜ (n ≤ 1450000000) × (layout .threads ≤ 4) ⌝ }
-    ensures { λ r. ⌜ (Limits layout points (now (slots .entry)) n → Members (setBy (now (set .entry)) layout) (now (members .entry)) → ListTable (setBy (now (set .entry)) layout) (listed points) (now (lists .entry)) → Idle (setBy (now (set .entry)) layout) (placeOf (now (slots .entry)))
+    requires { ⌜ (n + 25 * blockRoom ≤ lastIndex) × (layout .threads ≤ 4) ⌝ }
+    ensures { λ r. ⌜ (Ready (setBy (now (set .entry)) layout) (listed points) (now (members .entry)) (now (lists .entry)) (now (slots .entry)) n
         → Writes (blocksOf (setBy (now (set .entry)) layout) (listed points) step 11 25) (now (out .entry)) (now (slots .entry)) n (now (out .exit)) (now (slots .exit)) r)
-        × (r ≤ n + 115200) ⌝ }
+        × (r ≤ n + 25 * blockRoom) ⌝ }
 {
     let statements = statement_kinds(set, layout, members, slots, out, n);
     let written = write_kinds(set, layout, members, slots, out, step, statements);
@@ -482,24 +488,24 @@ fn acting_kinds(
 
 // Writes the constraint of a step: before the end exactly one choice, and it permitted; none after.
 fn rule(layout: Layout, slots: &[u32], out: &mut [u8], n: u32) -> u32
-    requires { ⌜ (n ≤ 2000000000) × (layout .threads ≤ 4) ⌝ }
+    requires { ⌜ (n + 2 ≤ lastIndex) × (layout .threads ≤ 4) ⌝ }
     ensures { λ r. ⌜ ((bytes cs : List ℕ) (step : ℕ) → Writes (needs (ruled (setBy bytes layout) cs step) ∷ [])
         (now (out .entry)) (now (slots .entry)) n (now (out .exit)) (now (slots .entry)) r)
         × (r ≡ n + 2) ⌝ }
 {
     let choices = 2 * (layout.threads as u16);
     let test = Formula {
-        operation: 8,
-        sort: 1,
+        operation: IF,
+        sort: BIT,
         constant: 0,
-        a: encoder_slots::place(slots, ENDED, 0, 0, 0),
-        b: encoder_slots::place(slots, NONE, 0, choices, 0),
-        c: encoder_slots::place(slots, ONE_PERMITTED, 0, 0, 0),
+        a: encoder_slots::place(slots, ENDED, 0, 0, start::BIT0),
+        b: encoder_slots::place(slots, NONE, 0, choices, start::BIT0),
+        c: encoder_slots::place(slots, ONE_PERMITTED, 0, 0, start::BIT0),
     };
     table::put(out, n, test);
     let constraint = Formula {
-        operation: 15,
-        sort: 0,
+        operation: CONSTRAINT,
+        sort: NO_SORT,
         constant: 0,
         a: n as u64,
         b: 0,
@@ -521,17 +527,17 @@ pub fn one_step(
     step: u8,
     n: u32,
 ) -> u32
-    ensures { λ r. ⌜ (Limits layout points (now (slots .entry)) n → n ≤ 1400000000 → Members (setBy (now (set .entry)) layout) (now (members .entry)) → ListTable (setBy (now (set .entry)) layout) (listed points) (now (lists .entry)) → Idle (setBy (now (set .entry)) layout) (placeOf (now (slots .entry)))
+    ensures { λ r. ⌜ (Ready (setBy (now (set .entry)) layout) (listed points) (now (members .entry)) (now (lists .entry)) (now (slots .entry)) n → n + stepRoom ≤ lastIndex
         → Writes (stepOf (setBy (now (set .entry)) layout) (listed points) step) (now (out .entry)) (now (slots .entry)) n (now (out .exit)) (now (slots .exit)) r)
-        × (n ≤ 1400000000 → r ≤ n + 377858) ⌝ }
+        × (r ≤ n + stepRoom) ⌝ }
 {
-    if slots.len() != 2304 {
+    if slots.len() != SIZE {
         return n;
     }
-    if 1400000000 < n {
+    if LIMIT < n {
         return n;
     }
-    if 4 < layout.threads {
+    if THREADS < layout.threads {
         return n;
     }
     let decided = deciding_kinds(set, layout, points, members, lists, slots, out, step, n);
@@ -548,14 +554,14 @@ pub fn shared(
     out: &mut [u8],
     n: u32,
 ) -> u32
-    ensures { λ r. ⌜ ((points : Points) → Limits layout points (now (slots .entry)) n → n ≤ 1400000000 → Members (setBy (now (set .entry)) layout) (now (members .entry)) → Idle (setBy (now (set .entry)) layout) (placeOf (now (slots .entry)))
-        → Writes (starting (setBy (now (set .entry)) layout) (listed points)) (now (out .entry)) (now (slots .entry)) n (now (out .exit)) (now (slots .exit)) r)
-        × (n ≤ 1400000000 → r ≤ n + 4612) ⌝ }
+    ensures { λ r. ⌜ ((cs lists : List ℕ) → Ready (setBy (now (set .entry)) layout) cs (now (members .entry)) lists (now (slots .entry)) n → n + stepRoom ≤ lastIndex
+        → Writes (starting (setBy (now (set .entry)) layout) cs) (now (out .entry)) (now (slots .entry)) n (now (out .exit)) (now (slots .exit)) r)
+        × (r ≤ n + 4 + blockRoom) ⌝ }
 {
-    if 1400000000 < n {
+    if LIMIT < n {
         return n;
     }
-    if 4 < layout.threads {
+    if THREADS < layout.threads {
         return n;
     }
     let one = bare_entry(slots, out, layout.threads, 0, WORD_ONE, 0, 0, n);

@@ -6,7 +6,7 @@ use borrow.Author.Tests.{eqb-true, eqb-false, eq-eqb, ne-eqb}
 use lib.Dec.{eqb, ltb}
 use Rattle.base.proofs.Choice.{clash}
 use Rattle.base.specs.Words.{topBit}
-use Rattle.records.specs.Instructions.{JMP, HALT, EXIT, instructions}
+use Rattle.records.specs.Instructions.{HALT, EXIT, instructions}
 use Rattle.machine.specs.Machine.{jumps}
 use Rattle.table.specs.Formulas.{bitSort}
 use Rattle.table.specs.Values.{Value, bit, asBit}

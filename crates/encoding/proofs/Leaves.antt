@@ -1,18 +1,18 @@
 -- After the choice bits no tree of a step has a leaf, so that each record there has operands. Assumes nothing.
 use Prim.Native.Nat.{ℕ, zero, suc, _<_}
 use mathlib.Core.Path.{_≡_, refl, sym}
-use mathlib.Core.Bool.{Bool, true, false, cond, _&&_, _||_, true≢false}
+use mathlib.Core.Bool.{Bool, true, false, cond, _&&_, true≢false}
 use mathlib.Core.List.{List, [], _∷_}
 use native.Mathlib.Omega.{arith}
 use lib.Dec.{eqb}
-use Rattle.base.proofs.Choice.{cond-both, and-true, and-left, and-right}
-use Rattle.records.specs.Instructions.{ADD, ADDI, SUB, SUBI, MUL, MULI, JZ, JNZ, JS, JNS, JNZNS, CAS}
+use Rattle.base.proofs.Choice.{cond-both, and-left, and-right}
+use Rattle.records.specs.Instructions.{CAS}
 use Rattle.records.specs.Sets.{Set}
-use Rattle.table.specs.Formulas.{wordSort}
 use Rattle.table.specs.declared.Formula.{Formula}
 use Rattle.table.specs.Programs.{Unary, not1, top1, Binary, and2, or2, equal2, plus2, minus2, times2, read2, Ternary, if3, write3, unaryNumber, binaryNumber, ternaryNumber, ref, leaf, unary, binary, ternary, records, root, next, Command, sets, needs, aims, put, compiled}
 use Rattle.encoding.specs.Slots.{Kind, choice, active, opening, shut, barred, held, waits, mayExecute, none, permittedFirst, onePermitted, address, loaded, swaps, result, test, notTest, flushTo, writeTo, flushValue, writeValue, raised, exits, codes, sharedMemory, val, adr, mem, accu, full, halted, flag, mark, halts, ended, code, bitZero as bit0, bitOne as bit1, wordZero, wordOne, argument, Slot, slot, same, Term, kindNumber}
 use Rattle.encoding.specs.Steps.{Link, skip, ifThen, andWith, orWith, linked, chain, only, word0, loads, isConditional, rests, numberOf, loadTree, indirectTree, resultTree, testTree, noneTree, leavingTree, base, links, link}
+use Rattle.encoding.proofs.Results.{result-each, test-each}
 use Rattle.encoding.proofs.Split.{rest}
 use Rattle.encoding.proofs.Walks.{with, Along, along-rest}
 
@@ -40,27 +40,10 @@ chain-bare link (suc n) base e = over (link n) (chain link n base) (chain-bare l
 
 module _ (S : Set) (cs : List ℕ) where
   result-bare : (n t i : ℕ) → bare (resultTree S cs 0 n t i) ≡ true
-  result-bare n t i =
-      let X = ref (slot accu t 0) in
-      let W = ref (slot loaded t i) in
-      let N = ref (slot argument t i) in
-      let r6 = cond (eqb n CAS) (ternary (if3 wordSort) (ref (slot swaps t i)) (ref (only wordOne)) (ref word0)) W in
-      let r5 = cond (eqb n MULI) (binary times2 X N) r6 in
-      let r4 = cond (eqb n MUL) (binary times2 X W) r5 in
-      let r3 = cond (eqb n SUBI) (binary minus2 X N) r4 in
-      let r2 = cond (eqb n SUB) (binary minus2 X W) r3 in
-      let r1 = cond (eqb n ADDI) (binary plus2 X N) r2 in
-      either (eqb n ADD) (binary plus2 X W) r1 refl (either (eqb n ADDI) (binary plus2 X N) r2 refl (either (eqb n SUB) (binary minus2 X W) r3 refl
-      (either (eqb n SUBI) (binary minus2 X N) r4 refl (either (eqb n MUL) (binary times2 X W) r5 refl (either (eqb n MULI) (binary times2 X N) r6 refl
-      (either (eqb n CAS) (ternary (if3 wordSort) (ref (slot swaps t i)) (ref (only wordOne)) (ref word0)) W refl refl))))))
+  result-bare n t i = result-each S cs 0 (λ (u : Term). bare u ≡ true) n t i (λ o. refl) (λ o. refl) refl refl
 
   test-bare : (n t : ℕ) → bare (testTree S cs 0 n t) ≡ true
-  test-bare n t =
-      let X = ref (slot accu t 0) in
-      let r2 = cond (eqb n JNZNS) (binary or2 (unary top1 X) (binary equal2 X (ref word0))) (ref (only bit0)) in
-      let r1 = cond (eqb n JS || eqb n JNS) (unary top1 X) r2 in
-      either (eqb n JZ || eqb n JNZ) (binary equal2 X (ref word0)) r1 refl (either (eqb n JS || eqb n JNS) (unary top1 X) r2 refl
-      (either (eqb n JNZNS) (binary or2 (unary top1 X) (binary equal2 X (ref word0))) (ref (only bit0)) refl refl))
+  test-bare n t = test-each S cs 0 (λ (u : Term). bare u ≡ true) n t refl refl refl refl
 
   base-bare : (kind : Kind) → 0 < kindNumber kind → kindNumber kind < 36 → (a b : ℕ) → bare (base S cs 0 kind a b) ≡ true
   base-bare choice l n a b = absurd (omega arith)

@@ -21,6 +21,7 @@ pub mod Permits
 pub mod Raised
 pub mod Registers
 pub mod Repeats
+pub mod Results
 pub mod Rows
 pub mod Ruled
 mod Samples

@@ -1,21 +1,22 @@
 -- Which slots of its own kind a tree names: its own alone, or those before it; so what a kind's slots are after its block. Assumes nothing.
 use Prim.Native.Nat.{ℕ, suc, _-_, _<_}
 use mathlib.Core.Path.{_≡_, refl}
-use mathlib.Core.Bool.{Bool, true, false, cond, _&&_, _||_}
+use mathlib.Core.Bool.{Bool, true, false, cond, _&&_}
 use mathlib.Core.List.{List}
 use native.Mathlib.Omega.{arith}
 use borrow.Author.Tests.{lt-ltb, eqb-false, eq-eqb}
 use lib.Dec.{eqb, ltb}
 use Rattle.base.proofs.Choice.{and-true, clash, cond-both}
-use Rattle.records.specs.Instructions.{STORE, ADD, ADDI, SUB, SUBI, MUL, MULI, JMP, JZ, JNZ, JS, JNS, JNZNS, MEM, CAS, HALT, EXIT, CHECK}
+use Rattle.records.specs.Instructions.{STORE, MEM, CAS, HALT, EXIT, CHECK}
 use Rattle.records.specs.Sets.{Set}
 use Rattle.machine.specs.Machine.{needsEmpty}
 use Rattle.table.specs.Formulas.{bitSort, wordSort}
-use Rattle.table.specs.Programs.{ref, unary, binary, ternary, not1, top1, and2, or2, equal2, plus2, minus2, times2, read2, if3, treeValue}
+use Rattle.table.specs.Programs.{ref, unary, binary, not1, and2, equal2, read2, treeValue}
 use Rattle.table.specs.Values.{Assignment, Value}
 use Rattle.encoding.specs.Slots.{Kind, choice, active, opening, shut, barred, held, waits, mayExecute, none, permittedFirst, onePermitted, address, loaded, swaps, result, test, notTest, flushTo, writeTo, flushValue, writeValue, raised, exits, codes, sharedMemory, val, adr, mem, accu, full, halted, flag, mark, halts, ended, code, bitZero, bitOne, wordZero, wordOne, argument, Slot, slot, Term}
-use Rattle.encoding.specs.Steps.{Link, skip, ifThen, andWith, orWith, only, word0, shape, loads, setsAccu, isConditional, isOneWay, isPlain, rests, numberOf, argumentOf, checkpoint, has, executes, loadTree, resultTree, testTree, base, leads, links, link, tree, rows, columns, kept, indirectTree, noneTree, leavingTree}
+use Rattle.encoding.specs.Steps.{Link, skip, ifThen, andWith, orWith, only, word0, shape, loads, setsAccu, isConditional, isOneWay, isPlain, rests, numberOf, argumentOf, checkpoint, has, loadTree, resultTree, testTree, base, leads, links, link, tree, rows, columns, kept, indirectTree, noneTree, leavingTree}
 use Rattle.encoding.proofs.Blocks.{refs, linkRefs, chain-refs, own, earlier, afterBlock, settled, scanned}
+use Rattle.encoding.proofs.Results.{result-each, test-each}
 
 -- kinds whose trees name the slot before theirs
 abbrev pub scans : Kind → Bool
@@ -114,32 +115,10 @@ module _ (S : Set) (cs : List ℕ) (k : ℕ) where
       named b l m = cond-both (λ (l : Kind). own flag t j (slot l t i) ≡ true) b {x = l} {y = m}
 
   result-own : (n t i : ℕ) → refs (own result t i) (resultTree S cs k n t i) ≡ true
-  result-own n t i =
-      let x = ref (slot accu t 0) in
-      let w = ref (slot loaded t i) in
-      let v = ref (slot argument t i) in
-      let r6 = cond (eqb n CAS) (ternary (if3 wordSort) (ref (slot swaps t i)) (ref (only wordOne)) (ref word0)) w in
-      let r5 = cond (eqb n MULI) (binary times2 x v) r6 in
-      let r4 = cond (eqb n MUL) (binary times2 x w) r5 in
-      let r3 = cond (eqb n SUBI) (binary minus2 x v) r4 in
-      let r2 = cond (eqb n SUB) (binary minus2 x w) r3 in
-      let r1 = cond (eqb n ADDI) (binary plus2 x v) r2 in
-      tree-both (own result t i) (eqb n ADD) (binary plus2 x w) r1 refl
-      (tree-both (own result t i) (eqb n ADDI) (binary plus2 x v) r2 refl
-      (tree-both (own result t i) (eqb n SUB) (binary minus2 x w) r3 refl
-      (tree-both (own result t i) (eqb n SUBI) (binary minus2 x v) r4 refl
-      (tree-both (own result t i) (eqb n MUL) (binary times2 x w) r5 refl
-      (tree-both (own result t i) (eqb n MULI) (binary times2 x v) r6 refl
-      (tree-both (own result t i) (eqb n CAS) (ternary (if3 wordSort) (ref (slot swaps t i)) (ref (only wordOne)) (ref word0)) w refl refl))))))
+  result-own n t i = result-each S cs k (λ (u : Term). refs (own result t i) u ≡ true) n t i (λ o. refl) (λ o. refl) refl refl
 
   test-own : (n t i : ℕ) → refs (own test t i) (testTree S cs k n t) ≡ true
-  test-own n t i =
-      let x = ref (slot accu t 0) in
-      let r2 = cond (eqb n JNZNS) (binary or2 (unary top1 x) (binary equal2 x (ref word0))) (ref (only bitZero)) in
-      let r1 = cond (eqb n JS || eqb n JNS) (unary top1 x) r2 in
-      tree-both (own test t i) (eqb n JZ || eqb n JNZ) (binary equal2 x (ref word0)) r1 refl
-      (tree-both (own test t i) (eqb n JS || eqb n JNS) (unary top1 x) r2 refl
-      (tree-both (own test t i) (eqb n JNZNS) (binary or2 (unary top1 x) (binary equal2 x (ref word0))) (ref (only bitZero)) refl refl))
+  test-own n t i = test-each S cs k (λ (u : Term). refs (own test t i) u ≡ true) n t refl refl refl refl
 
   -- the base of a kind that is not scanned, and its links, name of their own kind their own slot alone
   base-own : (kind : Kind) → scans kind ≡ false → (a b : ℕ) → a < rows S cs k (shape kind) → b < columns S cs k (shape kind) a → refs (own kind a b) (base S cs k kind a b) ≡ true

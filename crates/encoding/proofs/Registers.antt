@@ -1,13 +1,13 @@
 -- A step's next registers and flags are the machine's. Assumes nothing.
 use Prim.Native.Nat.{ℕ, suc, _+_, _≤_, _<_}
 use mathlib.Core.Path.{_≡_, refl, ap, sym, _∙_}
-use mathlib.Core.Bool.{Bool, true, false, cond, _&&_, _||_}
+use mathlib.Core.Bool.{Bool, true, false, cond, _&&_}
 use mathlib.Core.List.{List}
 use native.Mathlib.Omega.{arith}
 use borrow.Author.Tests.{ltb-true, ltb-false, lt-ltb, eqb-true, eq-eqb, ne-eqb}
 use lib.Dec.{eqb, ltb}
 use Rattle.base.proofs.Choice.{and-true, and-right-false, clash, passed}
-use Rattle.records.specs.Instructions.{STORE, JMP, MEM, CAS, HALT, instructions}
+use Rattle.records.specs.Instructions.{STORE, MEM, CAS, HALT, instructions}
 use Rattle.records.specs.Sets.{Set}
 use Rattle.records.specs.declared.Statement.{Statement}
 use Rattle.machine.specs.Machine.{State, current, executed, flushed, nextPc}

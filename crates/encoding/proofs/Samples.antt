@@ -1,7 +1,7 @@
 -- Tables of small sets: document 01's case 3, counted and evaluated, and the table that docs/TABLE.md writes out. Assumes nothing.
 use Prim.Native.Nat.{ℕ, zero, suc}
 use mathlib.Core.Path.{_≡_, refl}
-use mathlib.Core.Bool.{Bool, true, false, cond}
+use mathlib.Core.Bool.{Bool, true, false}
 use mathlib.Core.List.{List, [], _∷_}
 use lib.ListN.{length, getD}
 use Rattle.base.specs.Below.{some}

@@ -1,22 +1,22 @@
 -- Each tree of a step names values that stay, or that were set before it in the step. Assumes nothing.
 use Prim.Native.Nat.{ℕ, suc, _+_, _-_, _<_}
 use mathlib.Core.Path.{_≡_, refl, ap, _∙_}
-use mathlib.Core.Bool.{Bool, true, false, cond, _&&_, _||_}
+use mathlib.Core.Bool.{Bool, true, false, cond, _&&_}
 use mathlib.Core.List.{List}
 use native.Mathlib.Omega.{arith}
 use borrow.Author.Tests.{eqb-false, ltb-true}
 use lib.Dec.{eqb, ltb}
-use lib.ListN.{length}
 use Rattle.base.proofs.Choice.{cond-both, and-true}
-use Rattle.records.specs.Instructions.{STORE, ADD, ADDI, SUB, SUBI, MUL, MULI, JZ, JNZ, JS, JNS, JNZNS, MEM, CAS, HALT, EXIT, CHECK}
+use Rattle.records.specs.Instructions.{STORE, MEM, CAS, HALT, EXIT, CHECK}
 use Rattle.records.specs.Sets.{Set}
 use Rattle.machine.specs.Machine.{needsEmpty}
 use Rattle.table.specs.Formulas.{bitSort, wordSort}
-use Rattle.table.specs.Programs.{ref, unary, binary, ternary, not1, top1, and2, or2, equal2, plus2, minus2, times2, read2, if3}
+use Rattle.table.specs.Programs.{ref, unary, binary, ternary, not1, and2, equal2, read2, if3}
 use Rattle.encoding.specs.Slots.{Kind, choice, active, opening, shut, barred, held, waits, mayExecute, none, permittedFirst, onePermitted, address, loaded, swaps, result, test, notTest, flushTo, writeTo, flushValue, writeValue, raised, exits, codes, sharedMemory, val, adr, mem, accu, full, halted, flag, mark, halts, ended, code, bitZero as bit0, bitOne as bit1, wordZero, wordOne, argument, Slot, slot, Term, kindNumber}
 use Rattle.encoding.specs.Steps.{Link, skip, ifThen, andWith, orWith, only, word0, loads, setsAccu, isConditional, isOneWay, isPlain, rests, numberOf, argumentOf, checkpoint, has, loadTree, indirectTree, resultTree, testTree, noneTree, leavingTree, base, leads, links, link, ruled, step}
 use Rattle.encoding.proofs.Blocks.{refs, linkRefs, chain-refs}
 use Rattle.encoding.proofs.Sources.{steady}
+use Rattle.encoding.proofs.Results.{result-each, test-each}
 use Rattle.encoding.proofs.Walks.{There, Below, SetBefore, Along, along-step}
 
 module _ (S : Set) (cs : List ℕ) (done : Slot → Bool) where
@@ -30,32 +30,10 @@ module _ (S : Set) (cs : List ℕ) (done : Slot → Bool) where
 
   result-known : (n t i : ℕ) → done (slot accu t 0) ≡ true → done (slot loaded t i) ≡ true → done (slot argument t i) ≡ true → (refs done (ternary (if3 wordSort) (ref (slot swaps t i)) (ref (only wordOne)) (ref word0))) ≡ true →
       refs done (resultTree S cs 0 n t i) ≡ true
-  result-known n t i x w v s =
-      let X = ref (slot accu t 0) in
-      let W = ref (slot loaded t i) in
-      let N = ref (slot argument t i) in
-      let r6 = cond (eqb n CAS) (ternary (if3 wordSort) (ref (slot swaps t i)) (ref (only wordOne)) (ref word0)) W in
-      let r5 = cond (eqb n MULI) (binary times2 X N) r6 in
-      let r4 = cond (eqb n MUL) (binary times2 X W) r5 in
-      let r3 = cond (eqb n SUBI) (binary minus2 X N) r4 in
-      let r2 = cond (eqb n SUB) (binary minus2 X W) r3 in
-      let r1 = cond (eqb n ADDI) (binary plus2 X N) r2 in
-      either (eqb n ADD) (binary plus2 X W) r1 (and-true x w)
-      (either (eqb n ADDI) (binary plus2 X N) r2 (and-true x v)
-      (either (eqb n SUB) (binary minus2 X W) r3 (and-true x w)
-      (either (eqb n SUBI) (binary minus2 X N) r4 (and-true x v)
-      (either (eqb n MUL) (binary times2 X W) r5 (and-true x w)
-      (either (eqb n MULI) (binary times2 X N) r6 (and-true x v)
-      (either (eqb n CAS) (ternary (if3 wordSort) (ref (slot swaps t i)) (ref (only wordOne)) (ref word0)) W s w))))))
+  result-known n t i x w v s = result-each S cs 0 (λ (u : Term). refs done u ≡ true) n t i (λ o. and-true x w) (λ o. and-true x v) s w
 
   test-known : (n t : ℕ) → done (slot accu t 0) ≡ true → done word0 ≡ true → done (only bit0) ≡ true → refs done (testTree S cs 0 n t) ≡ true
-  test-known n t x z o =
-      let X = ref (slot accu t 0) in
-      let r2 = cond (eqb n JNZNS) (binary or2 (unary top1 X) (binary equal2 X (ref word0))) (ref (only bit0)) in
-      let r1 = cond (eqb n JS || eqb n JNS) (unary top1 X) r2 in
-      either (eqb n JZ || eqb n JNZ) (binary equal2 X (ref word0)) r1 (and-true x z)
-      (either (eqb n JS || eqb n JNS) (unary top1 X) r2 x
-      (either (eqb n JNZNS) (binary or2 (unary top1 X) (binary equal2 X (ref word0))) (ref (only bit0)) (and-true x (and-true x z)) o))
+  test-known n t x z o = test-each S cs 0 (λ (u : Term). refs done u ≡ true) n t (and-true x z) x (and-true x (and-true x z)) o
 
   leads-known : (t j i : ℕ) → done (slot active t i) ≡ true → done (slot test t i) ≡ true → done (slot notTest t i) ≡ true → done (only bit1) ≡ true → linkRefs done (leads S cs 0 t j i) ≡ true
   leads-known t j i x p q y =
@@ -104,10 +82,6 @@ module _ (S : Set) (cs : List ℕ) (done : Slot → Bool) where
     -- the choice bits: thread a executes, or flushes
     pub choice-known : (j : ℕ) → 0 < kindNumber kind → j < S .threads + S .threads → done (slot choice 0 j) ≡ true
     choice-known j l e = early choice 0 j l (record { row = omega arith; column = e; is = refl })
-
-    -- a value of statement i of thread t
-    of-statement : (l : Kind) (t i : ℕ) → There S cs active t i → (There S cs active t i → There S cs l t i) → kindNumber l < kindNumber kind → done (slot l t i) ≡ true
-    of-statement l t i e f n = early l t i n (f e)
 
     -- of the thread before b
     prior : (i : ℕ) → i < cond (eqb b 0) 0 (S .count (b - 1)) → b < suc (S .threads) → There S cs active (b - 1) i

@@ -10,7 +10,7 @@ use lib.ListN.{getD}
 use Rattle.base.specs.Below.{every}
 use Rattle.base.proofs.Below.{every-at}
 use Rattle.base.proofs.Choice.{cond-both, and-left}
-use Rattle.records.specs.Instructions.{STORE, ADD, ADDI, SUB, SUBI, MUL, MULI, JMP, JZ, JNZ, JS, JNS, JNZNS, MEM, CAS, HALT, EXIT, CHECK}
+use Rattle.records.specs.Instructions.{STORE, ADD, ADDI, SUB, SUBI, MUL, MULI, JZ, JNZ, JS, JNS, JNZNS, MEM, CAS, HALT, EXIT, CHECK}
 use Rattle.records.specs.Sets.{Set}
 use Rattle.machine.specs.Machine.{contains, needsEmpty}
 use Rattle.table.specs.Formulas.{noSort, bitSort, wordSort, memorySort}

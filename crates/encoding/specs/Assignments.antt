@@ -1,4 +1,4 @@
--- The assignment that stands for a first memory and a run (demand 3). Assumes nothing.
+-- The assignment that stands for a first memory and a run (demand 3). A reader of the calls believes this. Assumes nothing.
 use Prim.Native.Nat.{ℕ, zero, suc}
 use mathlib.Core.Bool.{Bool, false, _&&_}
 use mathlib.Core.List.{List, [], _∷_}

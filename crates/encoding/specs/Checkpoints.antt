@@ -1,4 +1,4 @@
--- The checkpoints of a set, in the order of their first CHECK. Assumes nothing.
+-- The checkpoints of a set, in the order of their first CHECK. The claims say what this means; a reader need not believe it. Assumes nothing.
 use Prim.Native.Nat.{ℕ, zero, suc}
 use mathlib.Core.Bool.{Bool, false, cond, not, _&&_, _||_}
 use mathlib.Core.List.{List, [], _∷_, _++_}

@@ -1,8 +1,7 @@
--- The table of a set, a map and a bound (docs/TABLE.md). Assumes nothing.
+-- The table of a set, a map and a bound (docs/TABLE.md). The claims say what this means; a reader need not believe it. Assumes nothing.
 use Prim.Native.Nat.{ℕ}
 use mathlib.Core.Bool.{true, false}
 use mathlib.Core.List.{List, [], _∷_, _++_}
-use lib.ListN.{length}
 use Rattle.records.specs.Maps.{cells, addressAt, valueAt}
 use Rattle.records.specs.Sets.{Set, setOf}
 use Rattle.table.specs.declared.Formula.{Formula}

@@ -1,5 +1,6 @@
--- What a table's values are of: kinds of values, each for the numbers a and b, and where they lie at the start. Assumes nothing.
-use Prim.Native.Nat.{ℕ, zero, suc}
+-- What a table's values are of: kinds of values, each for the numbers a and b, and where they lie at the start. The claims say what this means; a
+-- reader need not believe it. Assumes nothing.
+use Prim.Native.Nat.{ℕ}
 use mathlib.Core.Bool.{Bool, cond, _&&_, _||_}
 use mathlib.Core.List.{List, [], _∷_}
 use lib.Dec.{eqb}
@@ -37,6 +38,10 @@ kinds =
     ∷ flushTo ∷ writeTo ∷ flushValue ∷ writeValue ∷ raised ∷ exits ∷ codes
     ∷ sharedMemory ∷ val ∷ adr ∷ mem ∷ accu ∷ full ∷ halted ∷ flag ∷ mark ∷ halts ∷ ended ∷ code
     ∷ bitZero ∷ bitOne ∷ wordZero ∷ wordOne ∷ argument ∷ []
+
+-- how many there are
+abbrev pub kindCount : ℕ
+kindCount = 41
 
 abbrev pub kindAt : ℕ → Kind
 kindAt n = getD kinds n choice

@@ -1,4 +1,5 @@
--- One step of a table: of each kind of value its trees (docs/TABLE.md). A tree is a base and a chain of links over it. Assumes nothing.
+-- One step of a table: of each kind of value its trees (docs/TABLE.md). A tree is a base and a chain of links over it. The claims say what this
+-- means; a reader need not believe it. Assumes nothing.
 use Prim.Native.Nat.{ℕ, zero, suc, _+_, _-_}
 use mathlib.Core.Bool.{Bool, true, cond, not, _&&_, _||_}
 use mathlib.Core.List.{List, [], _∷_, _++_}
@@ -8,7 +9,7 @@ use Rattle.records.specs.Instructions.{LOAD, STORE, ADD, ADDI, SUB, SUBI, MUL, 
 use Rattle.records.specs.Sets.{Set}
 use Rattle.machine.specs.Machine.{contains, needsEmpty}
 use Rattle.table.specs.Formulas.{bitSort, wordSort}
-use Rattle.table.specs.Programs.{Tree, ref, leaf, unary, binary, ternary, choiceBit, constantWord, not1, top1, and2, or2, equal2, plus2, minus2, times2, read2, if3, write3, Command, sets, needs, upto}
+use Rattle.table.specs.Programs.{ref, leaf, unary, binary, ternary, choiceBit, constantWord, not1, top1, and2, or2, equal2, plus2, minus2, times2, read2, if3, write3, Command, sets, needs, upto}
 use Rattle.encoding.specs.Slots.{Kind, choice, active, opening, shut, barred, held, waits, mayExecute, none, permittedFirst, onePermitted, address, loaded, swaps, result, test, notTest, flushTo, writeTo, flushValue, writeValue, raised, exits, codes, sharedMemory, val, adr, mem, accu, full, halted, flag, mark, halts, ended, code, bitZero, bitOne, wordZero, wordOne, argument, Slot, slot, Term, kindAt}
 
 -- ---- chains

@@ -8,13 +8,13 @@ use native.Mathlib.Decide.{decLt, ℕ-discrete}
 use lib.ListN.{length, getD, set, replicate, length-set, length-replicate, getD-replicate, List·getD-append, List·getD-eq-default}
 use lib.Seq.{getD-set-same, getD-set-other}
 use Rattle.records.specs.Sets.{Set}
-use Rattle.set_index.specs.Members.{inClass, added, members, membersOf, rowIndex, Row, Members, Filled}
+use Rattle.set_index.specs.Members.{inClass, members, membersOf, rowIndex, Row, Members, Filled}
 use Rattle.set_index.proofs.Listed.{added-length, added-last, members-few, members-more, members-none}
 
 -- ---- rows
 
 -- a table of zeros
-zero-at : (n i : ℕ) → _≡_ {A = ℕ} (getD (replicate n 0) i 0) 0
+pub zero-at : (n i : ℕ) → _≡_ {A = ℕ} (getD (replicate n 0) i 0) 0
 zero-at n i = elim (decLt i n) [
   | yes h ↦ getD-replicate n i 0 0 h
   | no h ↦

@@ -3,7 +3,7 @@ pub mod Contains
 pub mod Counted
 pub mod Filling
 pub mod Growing
-pub mod Held
+pub mod StatementRecords
 pub mod Listed
 pub mod Making
 pub mod Noted

@@ -1,7 +1,7 @@
 -- Laws of the members of a class: how many, in which order, what they are, and the chain over them. Assumes nothing.
 use Prim.Native.Nat.{ℕ, zero, suc, _+_, _≤_, _<_}
 use mathlib.Core.Path.{_≡_, refl, ap, sym, _∙_, subst}
-use mathlib.Core.Bool.{Bool, true, false, cond, _&&_, true≢false}
+use mathlib.Core.Bool.{Bool, true, false, cond, true≢false}
 use mathlib.Core.List.{List, [], _∷_, _++_}
 use native.Mathlib.Numerals.{add-one}
 use native.Mathlib.Omega.{arith}
@@ -9,7 +9,7 @@ use native.Mathlib.Decide.{decLt, ℕ-discrete}
 use lib.ListN.{length, getD, length-append, List·getD-append}
 use lib.Seq.{getD-append-seam}
 use borrow.Author.Tests.{ne-eqb}
-use Rattle.base.proofs.Choice.{passed, and-false, and-right-false}
+use Rattle.base.proofs.Choice.{passed}
 use Rattle.records.specs.Sets.{Set}
 use Rattle.encoding.specs.Slots.{Term}
 use Rattle.encoding.specs.Steps.{Link, skip, linked, chain}
@@ -172,30 +172,3 @@ module _ (links : ℕ → Link) (base : Term) where
   members-chain S c t zero = refl
   members-chain S c t (suc k) =
       added-chain (inClass c (S .statement t k .number)) (members S c t k) k (chain (ofClass S c t links) k base) (members-chain S c t k)
-
--- ---- a test that no statement of the class passes
-
-module _ (S : Set) (c t k : ℕ) (rest : ℕ → Bool) (q from to : ℕ) where
-  -- the first q members do not pass it; the statements of the class between two bounds and before the next member are among these
-  pub members-miss : ((p : ℕ) → p < q → p < length (members S c t k) → from ≤ getD (members S c t k) p 0 → getD (members S c t k) p 0 < to → rest (getD (members S c t k) p 0) ≡ false) →
-      (x : ℕ) → from ≤ x → x < to → x < k → (q < length (members S c t k) → x ≤ getD (members S c t k) q 0) → (q < length (members S c t k) → x ≡ getD (members S c t k) q 0 → ⊥) →
-      (inClass c (S .statement t x .number) && rest x) ≡ false
-  members-miss none x low high below next other = go (inClass c (S .statement t x .number)) refl
-    where
-      go : (b : Bool) → inClass c (S .statement t x .number) ≡ b → (inClass c (S .statement t x .number) && rest x) ≡ false
-      go false e = and-false (rest x) e
-      go true e =
-          let a = members-at S c t k x below e in
-          let h = a .here in
-          let i = a .inside in
-          and-right-false (inClass c (S .statement t x .number))
-          (elim (decLt (a .place) q) [
-            | yes l ↦ ap rest (sym h) ∙ none (a .place) l i (omega arith) (omega arith)
-            | no l ↦ elim (ℕ-discrete (a .place) q) [
-              | yes same ↦ absurd (other (omega arith) (sym h ∙ ap (λ (p : ℕ). getD (members S c t k) p 0) same))
-              | no apart ↦
-                  let o = members-order S c t k q (a .place) (omega arith) i in
-                  let n = next (omega arith) in
-                  absurd (omega arith)
-            ]
-          ])

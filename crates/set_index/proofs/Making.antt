@@ -13,7 +13,7 @@ use Rattle.records.specs.Sets.{Set}
 use Rattle.machine.specs.Machine.{isCheck, contains}
 use Rattle.set_index.specs.Members.{inClass, membersOf}
 use Rattle.set_index.proofs.Listed.{members-below, members-belong}
-use Rattle.set_index.specs.Tables.{ListTable, Distinct, ListsAt, ChecksOf, JumpsOf, Listing, Made, allOf, inList, many, name, onward, put}
+use Rattle.set_index.specs.ListTables.{ListTable, Distinct, ListsAt, ChecksOf, JumpsOf, Listing, Made, allOf, inList, many, name, onward, put}
 use Rattle.set_index.proofs.Contains.{contains-at, contains-none}
 use Rattle.set_index.proofs.Growing.{lists-as, put-head, put-next, put-others, From, from-none, from-all, from-same, from-more}
 

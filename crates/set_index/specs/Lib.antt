@@ -1,6 +1,6 @@
 -- What is kept of a set while its table is written: checkpoints, members of classes, lists of statements.
-pub mod Held
+pub mod StatementRecords
 pub mod Lists
 pub mod Members
 pub mod Points
-pub mod Tables
+pub mod ListTables

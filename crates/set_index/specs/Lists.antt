@@ -1,4 +1,5 @@
--- Lists of statements, each kept as its first number and a next one for each number. Assumes nothing.
+-- Lists of statements, each kept as its first number and a next one for each number. This serves the code; no call's promise needs it. Assumes
+-- nothing.
 use Prim.Native.Nat.{ℕ, _+_, _≤_, _<_}
 use mathlib.Core.Path.{_≡_}
 use mathlib.Core.Bool.{Bool, true}

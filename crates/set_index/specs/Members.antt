@@ -1,4 +1,4 @@
--- Classes of statements, and a table of the statements of each class. Assumes nothing.
+-- Classes of statements, and a table of the statements of each class. This serves the code; no call's promise needs it. Assumes nothing.
 use Prim.Native.Nat.{ℕ, zero, suc, _+_, _*_, _≤_, _<_}
 use mathlib.Core.Path.{_≡_}
 use mathlib.Core.Bool.{Bool, true, false, cond, _&&_}
@@ -13,20 +13,58 @@ use Rattle.encoding.specs.Steps.{Link, skip, setsAccu, loads, isConditional}
 
 -- ---- classes
 
--- instruction n is of class c; there are 11 classes
+-- the classes by number
+abbrev pub storeClass : ℕ
+storeClass = 0
+
+abbrev pub memClass : ℕ
+memClass = 1
+
+abbrev pub accuClass : ℕ
+accuClass = 2
+
+abbrev pub haltClass : ℕ
+haltClass = 3
+
+abbrev pub casClass : ℕ
+casClass = 4
+
+abbrev pub exitClass : ℕ
+exitClass = 5
+
+abbrev pub emptyClass : ℕ
+emptyClass = 6
+
+abbrev pub checkClass : ℕ
+checkClass = 7
+
+abbrev pub jumpClass : ℕ
+jumpClass = 8
+
+abbrev pub loadClass : ℕ
+loadClass = 9
+
+abbrev pub conditionalClass : ℕ
+conditionalClass = 10
+
+-- how many there are
+abbrev pub classCount : ℕ
+classCount = 11
+
+-- instruction n is of class c
 abbrev pub inClass : (c n : ℕ) → Bool
 inClass c n =
-    cond (eqb c 0) (eqb n STORE)
-    (cond (eqb c 1) (eqb n MEM)
-    (cond (eqb c 2) (setsAccu n)
-    (cond (eqb c 3) (eqb n HALT)
-    (cond (eqb c 4) (eqb n CAS)
-    (cond (eqb c 5) (eqb n EXIT)
-    (cond (eqb c 6) (needsEmpty n)
-    (cond (eqb c 7) (eqb n CHECK)
-    (cond (eqb c 8) (isJump n)
-    (cond (eqb c 9) (loads n)
-    (cond (eqb c 10) (isConditional n) false))))))))))
+    cond (eqb c storeClass) (eqb n STORE)
+    (cond (eqb c memClass) (eqb n MEM)
+    (cond (eqb c accuClass) (setsAccu n)
+    (cond (eqb c haltClass) (eqb n HALT)
+    (cond (eqb c casClass) (eqb n CAS)
+    (cond (eqb c exitClass) (eqb n EXIT)
+    (cond (eqb c emptyClass) (needsEmpty n)
+    (cond (eqb c checkClass) (eqb n CHECK)
+    (cond (eqb c jumpClass) (isJump n)
+    (cond (eqb c loadClass) (loads n)
+    (cond (eqb c conditionalClass) (isConditional n) false))))))))))
 
 -- a list with one number more at its end, or as it is
 abbrev pub added : Bool → List ℕ → ℕ → List ℕ
@@ -48,9 +86,16 @@ ofClass S c t links i = cond (inClass c (S .statement t i .number)) (links i) sk
 
 -- ---- the table
 
--- where the row of class c and thread t starts
+-- the length of the table, and of a row
+abbrev pub membersLength : ℕ
+membersLength = 1452
+
+abbrev pub rowLength : ℕ
+rowLength = 33
+
+-- where the row of class c and thread t starts: a class has four rows
 abbrev pub rowIndex : (c t : ℕ) → ℕ
-rowIndex c t = 132 * c + 33 * t
+rowIndex c t = 132 * c + rowLength * t
 
 -- a row: how many members, then the members
 pub record Row (bytes : List ℕ) (c t : ℕ) (ms : List ℕ) : Type 0 where
@@ -59,18 +104,18 @@ pub record Row (bytes : List ℕ) (c t : ℕ) (ms : List ℕ) : Type 0 where
 
 -- the bytes are the table of a set whose threads have at most 32 statements each
 pub record Members (S : Set) (bytes : List ℕ) : Type 0 where
-  pub whole : length bytes ≡ 1452
+  pub whole : length bytes ≡ membersLength
   pub few : (t : ℕ) → t < 4 → S .count t ≤ 32
-  pub row : (c t : ℕ) → c < 11 → t < 4 → Row bytes c t (membersOf S c t)
+  pub row : (c t : ℕ) → c < classCount → t < 4 → Row bytes c t (membersOf S c t)
 
 -- the table while it is made, of the threads before t, of the first i statements of thread t, and for the first m classes of statement i too
 pub record Filled (S : Set) (t i m : ℕ) (bytes : List ℕ) : Type 0 where
-  pub whole : length bytes ≡ 1452
+  pub whole : length bytes ≡ membersLength
   pub few : (u : ℕ) → u < 4 → S .count u ≤ 32
-  pub before : (c u : ℕ) → c < 11 → u < 4 → u < t → Row bytes c u (membersOf S c u)
-  pub done : (c : ℕ) → c < 11 → t < 4 → c < m → Row bytes c t (members S c t (i + 1))
-  pub due : (c : ℕ) → c < 11 → t < 4 → m ≤ c → Row bytes c t (members S c t i)
-  pub after : (c u : ℕ) → c < 11 → u < 4 → t < u → Row bytes c u []
+  pub before : (c u : ℕ) → c < classCount → u < 4 → u < t → Row bytes c u (membersOf S c u)
+  pub done : (c : ℕ) → c < classCount → t < 4 → c < m → Row bytes c t (members S c t (i + 1))
+  pub due : (c : ℕ) → c < classCount → t < 4 → m ≤ c → Row bytes c t (members S c t i)
+  pub after : (c u : ℕ) → c < classCount → u < 4 → t < u → Row bytes c u []
 
 -- ---- jumps
 

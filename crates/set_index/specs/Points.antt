@@ -1,4 +1,4 @@
--- The checkpoints of a set, as a list of at most eight. Assumes nothing.
+-- The checkpoints of a set, as a list of at most eight. This serves the code; no call's promise needs it. Assumes nothing.
 use Prim.Native.Nat.{ℕ}
 use mathlib.Core.List.{List}
 use lib.ListN.{take}

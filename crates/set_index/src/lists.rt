@@ -4,8 +4,8 @@ ghost use Prim.Native.Nat.{ℕ, _+_, _≤_, _<_};
 ghost use lib.ListN.{length, getD, replicate};
 ghost use Rattle.records.specs.Sets.{setBy};
 ghost use Rattle.set_index.specs.Points.{listed};
-ghost use Rattle.set_index.specs.Members.{Members};
-ghost use Rattle.set_index.specs.Tables.{ListTable, Distinct, many, name, allOf, Listing, Made};
+ghost use Rattle.set_index.specs.Members.{Members, classCount};
+ghost use Rattle.set_index.specs.ListTables.{ListTable, Distinct, many, name, allOf, Listing, Made, listsLength, noStatement};
 use crate::members::IS_CHECK;
 use crate::members::IS_JUMP;
 use crate::members::count_of;
@@ -15,7 +15,28 @@ use crate::points;
 use crate::points::Points;
 use records::Layout;
 
-// The checkpoint that has number c, 32 if none.
+// No statement.
+pub const NONE: u16 = 32;
+
+// The length of the table.
+pub const LENGTH: usize = 416;
+
+// The numbers of a thread in a part of the table: a number for each checkpoint or for each statement.
+pub const POINT_ROW: u16 = Layout::CHECKPOINTS as u16;
+
+pub const STATEMENT_ROW: u16 = Layout::STATEMENTS;
+
+const THREADS: u8 = Layout::THREADS as u8;
+
+// Where the parts of the table begin: the CHECK after each CHECK, the first jump to each statement, the jump after each jump.
+// The part with the first CHECK of each checkpoint comes first.
+pub const NEXT_CHECKS: u16 = 32;
+
+pub const FIRST_JUMPS: u16 = 160;
+
+pub const NEXT_JUMPS: u16 = 288;
+
+// The checkpoint that has number c, NONE if there is none.
 fn point_of(points: Points, c: u16) -> u16
     ensures { λ r. ⌜ (r < 32 → (r < length (listed points)) × (getD (listed points) r 0 ≡ c))
         × (32 ≤ r → (p : ℕ) → p < length (listed points) → getD (listed points) p 0 ≡ c → ⊥) ⌝ }
@@ -28,10 +49,10 @@ fn point_of(points: Points, c: u16) -> u16
         }
         p += 1;
     }
-    32
+    NONE
 }
 
-// Which list of its class a statement with this argument is of: a CHECK of its checkpoint's, a jump of that of the statement it names; 32 or more if none.
+// Which list of its class a statement with this argument is of: a CHECK of its checkpoint's, a jump of that of the statement it names; NONE or more if none.
 fn list_of(points: Points, class: u8, argument: u16) -> u16
     ensures { λ r. ⌜ (r < 32 → (r < many (listed points) class) × (name (listed points) class r ≡ argument))
         × (32 ≤ r → (p : ℕ) → p < many (listed points) class → name (listed points) class p ≡ argument → ⊥) ⌝ }
@@ -55,9 +76,9 @@ fn list_members(
     t: u8,
 )
     ensures { λ _. ⌜ (length (now (table .exit)) ≡ length (now (table .entry)))
-        × (class < 11 → t < 4 → Members (setBy (now (set .entry)) layout) (now (members .entry)) → Distinct (listed points)
+        × (class < classCount → t < 4 → Members (setBy (now (set .entry)) layout) (now (members .entry)) → Distinct (listed points)
         → heads + many (listed points) class ≤ nexts → nexts + 32 ≤ length (now (table .entry))
-        → ((p : ℕ) → p < many (listed points) class → getD (now (table .entry)) (heads + p) 0 ≡ 32)
+        → ((p : ℕ) → p < many (listed points) class → getD (now (table .entry)) (heads + p) 0 ≡ noStatement)
         → Listing (setBy (now (set .entry)) layout) (listed points) class t (allOf (setBy (now (set .entry)) layout) t) heads nexts (now (table .entry)) (now (table .exit))) ⌝ }
 {
     let first = records::first(layout, t);
@@ -77,8 +98,8 @@ fn make_thread(set: &[u8], layout: Layout, points: Points, members: &[u8], table
         → Made (setBy (now (set .entry)) layout) (listed points) t (now (table .entry))
         → Made (setBy (now (set .entry)) layout) (listed points) (t + 1) (now (table .exit))) ⌝ }
 {
-    let row = 32 * (t as u16);
-    let checks = 8 * (t as u16);
+    let row = STATEMENT_ROW * (t as u16);
+    let checks = POINT_ROW * (t as u16);
     list_members(
         set,
         layout,
@@ -87,7 +108,7 @@ fn make_thread(set: &[u8], layout: Layout, points: Points, members: &[u8], table
         table,
         IS_CHECK,
         checks,
-        32 + row,
+        NEXT_CHECKS + row,
         t,
     );
     list_members(
@@ -97,20 +118,20 @@ fn make_thread(set: &[u8], layout: Layout, points: Points, members: &[u8], table
         members,
         table,
         IS_JUMP,
-        160 + row,
-        288 + row,
+        FIRST_JUMPS + row,
+        NEXT_JUMPS + row,
         t,
     );
 }
 
-// Makes the table, from one whose numbers are all 32.
+// Makes the table, from one whose numbers are all NONE.
 pub fn make(set: &[u8], layout: Layout, points: Points, members: &[u8], table: &mut [u8])
     ensures { λ _. ⌜ (length (now (table .exit)) ≡ length (now (table .entry)))
-        × (now (table .entry) ≡ replicate 416 32 → layout .threads ≤ 4 → Members (setBy (now (set .entry)) layout) (now (members .entry)) → Distinct (listed points)
+        × (now (table .entry) ≡ replicate listsLength noStatement → layout .threads ≤ 4 → Members (setBy (now (set .entry)) layout) (now (members .entry)) → Distinct (listed points)
         → ListTable (setBy (now (set .entry)) layout) (listed points) (now (table .exit))) ⌝ }
 {
     let threads = layout.threads;
-    if 4 < threads {
+    if THREADS < threads {
         return;
     }
     let mut t: u8 = 0;

@@ -3,7 +3,7 @@ ghost use mathlib.Core.Path.{_≡_};
 ghost use Prim.Native.Nat.{ℕ, _+_, _≤_, _<_};
 ghost use lib.ListN.{length, getD, replicate};
 ghost use Rattle.records.specs.Sets.{Set, setBy};
-ghost use Rattle.set_index.specs.Members.{inClass, membersOf, Members, Filled};
+ghost use Rattle.set_index.specs.Members.{inClass, membersOf, Members, Filled, classCount, membersLength};
 use crate::classes::is_conditional;
 use crate::classes::loads;
 use crate::classes::sets_accu;
@@ -43,36 +43,50 @@ pub const IS_CONDITIONAL: u8 = 10;
 // How many classes there are.
 pub const CLASSES: u8 = 11;
 
+// The length of a row, which is of a class and a thread: how many members, then the members.
+const ROW: usize = 33;
+
+// The length of the rows of a class.
+const CLASS: usize = Layout::THREADS * ROW;
+
+// The length of the table.
+pub const LENGTH: usize = 1452;
+
+// The most members of a row.
+const STATEMENTS: u8 = Layout::STATEMENTS as u8;
+
+const THREADS: u8 = Layout::THREADS as u8;
+
 // How many statements of thread t are of a class.
 pub fn count_of(members: &[u8], class: u8, t: u8) -> u16
-    ensures { λ r. ⌜ ((S : Set) → Members S (now (members .entry)) → class < 11 → t < 4 → r ≡ length (membersOf S class t)) × (r ≤ 32) ⌝ }
+    ensures { λ r. ⌜ ((S : Set) → Members S (now (members .entry)) → class < classCount → t < 4 → r ≡ length (membersOf S class t)) × (r ≤ 32) ⌝ }
 {
-    let many = base::byte_at(members, 132 * (class as usize) + 33 * (t as usize));
-    if many < 32 {
+    let many = base::byte_at(members, CLASS * (class as usize) + ROW * (t as usize));
+    if many < STATEMENTS {
         return many as u16;
     }
-    32
+    Layout::STATEMENTS
 }
 
 // Which statement is the one of number j among them.
 pub fn member(members: &[u8], class: u8, t: u8, j: u16) -> u16
-    ensures { λ r. ⌜ ((S : Set) → Members S (now (members .entry)) → class < 11 → t < 4 → j < length (membersOf S class t)
+    ensures { λ r. ⌜ ((S : Set) → Members S (now (members .entry)) → class < classCount → t < 4 → j < length (membersOf S class t)
         → r ≡ getD (membersOf S class t) j 0) ⌝ }
 {
-    let row = 132 * (class as usize) + 33 * (t as usize);
+    let row = CLASS * (class as usize) + ROW * (t as usize);
     base::byte_at(members, row + 1 + (j as usize)) as u16
 }
 
 // Adds statement i of thread t to the members of a class, where it belongs to them.
 fn visit(members: &mut [u8], class: u8, t: u8, i: u8, belongs: bool)
     ensures { λ _. ⌜ (length (now (members .exit)) ≡ length (now (members .entry)))
-        × ((S : Set) → class < 11 → t < 4 → i < 32 → belongs ≡ inClass class (S .statement t i .number)
+        × ((S : Set) → class < classCount → t < 4 → i < 32 → belongs ≡ inClass class (S .statement t i .number)
         → Filled S t i class (now (members .entry)) → Filled S t i (class + 1) (now (members .exit))) ⌝ }
 {
     if belongs {
-        let row = 132 * (class as usize) + 33 * (t as usize);
+        let row = CLASS * (class as usize) + ROW * (t as usize);
         let many = base::byte_at(members, row);
-        if many < 32 {
+        if many < STATEMENTS {
             let at = row + 1 + (many as usize);
             if at < members.len() {
                 members[at] = i;
@@ -115,13 +129,13 @@ fn visit_last(members: &mut [u8], t: u8, i: u8, n: u8)
 }
 
 // How many of a thread's statements the table is of.
-fn few(count: u16) -> u8
+fn listed_count(count: u16) -> u8
     ensures { λ r. ⌜ (r ≤ 32) × (count ≤ 32 → r ≡ count) ⌝ }
 {
-    if count < 32 {
+    if count < Layout::STATEMENTS {
         return count as u8;
     }
-    32
+    STATEMENTS
 }
 
 // Makes the table for a thread.
@@ -131,14 +145,14 @@ fn make_thread(set: &[u8], layout: Layout, members: &mut [u8], t: u8)
         → Filled (setBy (now (set .entry)) layout) (t + 1) 0 0 (now (members .exit))) ⌝ }
 {
     // With these known, the compiler drops the tests of places in the loop.
-    if 4 <= t {
+    if THREADS <= t {
         return;
     }
-    if members.len() != 1452 {
+    if members.len() != LENGTH {
         return;
     }
     let start = records::first(layout, t);
-    let end = few(records::count(layout, t));
+    let end = listed_count(records::count(layout, t));
     let mut i: u8 = 0;
     while i < end {
         let s = records::statement_at(set, start + (i as u32));
@@ -153,7 +167,7 @@ fn make_thread(set: &[u8], layout: Layout, members: &mut [u8], t: u8)
 // Makes the table.
 pub fn make(set: &[u8], layout: Layout, members: &mut [u8])
     ensures { λ _. ⌜ (length (now (members .exit)) ≡ length (now (members .entry)))
-        × (now (members .entry) ≡ replicate 1452 0 → ((t : ℕ) → t < 4 → getD (layout .counts) t 0 ≤ 32)
+        × (now (members .entry) ≡ replicate membersLength 0 → ((t : ℕ) → t < 4 → getD (layout .counts) t 0 ≤ 32)
         → Members (setBy (now (set .entry)) layout) (now (members .exit))) ⌝ }
 {
     make_thread(set, layout, members, 0);

@@ -1,8 +1,10 @@
-// The numbers of the table: of each list its first statement, and of each statement the next one of its list; 32 where there is none.
+// The numbers of the table: of each list its first statement, and of each statement the next one of its list; NONE where there is none.
 ghost use mathlib.Core.Path.{_≡_};
 ghost use Prim.Native.Nat.{_+_, _≤_, _<_};
 ghost use lib.ListN.{length, getD};
-ghost use Rattle.set_index.specs.Tables.{onward, put};
+ghost use Rattle.set_index.specs.ListTables.{onward, put};
+use crate::lists::NONE;
+use crate::lists::STATEMENT_ROW;
 
 // The number that stands in a row at place i.
 pub fn number(table: &[u8], row: u16, i: u16) -> u16
@@ -19,7 +21,7 @@ pub fn next(table: &[u8], row: u16, i: u16) -> u16
     if i < it {
         return it;
     }
-    32
+    NONE
 }
 
 // Puts statement i before the others of a list. The first ones stand from `heads` on, the next ones from `nexts` on.
@@ -29,10 +31,10 @@ pub fn add(table: &mut [u8], heads: u16, nexts: u16, list: u16, i: u16)
         → now (table .exit) ≡ put (now (table .entry)) (heads + list) (nexts + i) i)
         × (32 ≤ list → now (table .exit) ≡ now (table .entry)) ⌝ }
 {
-    if 32 <= list {
+    if NONE <= list {
         return;
     }
-    if 32 <= i {
+    if STATEMENT_ROW <= i {
         return;
     }
     let head = (heads as usize) + (list as usize);

@@ -10,20 +10,25 @@ use records::Layout;
 use records::Statement;
 use records::instructions::CHECK;
 
+// The most checkpoints of a set.
+const MOST: usize = Layout::CHECKPOINTS as usize;
+
+const MANY: u16 = Layout::CHECKPOINTS as u16;
+
 // The checkpoints of a set, in the order of their first CHECK.
 pub struct Points {
     pub count: u8,
-    pub numbers: [u16; 8],
+    pub numbers: [u16; MOST],
 }
 
 // How many checkpoints there are.
 pub fn points_count(points: Points) -> u16
     ensures { λ r. ⌜ r ≡ length (listed points) ⌝ }
 {
-    if points.count < 8 {
+    if points.count < Layout::CHECKPOINTS {
         return points.count as u16;
     }
-    8
+    MANY
 }
 
 // Checkpoint p, 0 past the last.
@@ -32,7 +37,7 @@ pub fn checkpoint(points: Points, p: u16) -> u16
 {
     let i = p as usize;
     if i < (points.count as usize) {
-        if i < 8 {
+        if i < MOST {
             return points.numbers[i];
         }
     }
@@ -66,7 +71,7 @@ fn note(points: Points, statement: Statement) -> Points
         return points;
     }
     let count = points.count as usize;
-    if 8 <= count {
+    if MOST <= count {
         return points;
     }
     let mut numbers = points.numbers;
@@ -100,7 +105,7 @@ pub fn of_set(set: &[u8], layout: Layout) -> Points
     let threads = layout.threads;
     let mut points = Points {
         count: 0,
-        numbers: [0; 8],
+        numbers: [0; MOST],
     };
     let mut t: u8 = 0;
     while t < threads {

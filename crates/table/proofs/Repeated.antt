@@ -2,14 +2,14 @@
 use Prim.Native.Nat.{ℕ, zero, suc, _+_, _-_, _*_, _/_, _%_, _≤_, _<_}
 use mathlib.Core.Path.{_≡_, refl, ap, sym, _∙_}
 use mathlib.Core.Bool.{Bool, true, false, cond, _&&_}
-use mathlib.Core.List.{List, [], _∷_, _++_, map, append-nil}
+use mathlib.Core.List.{List, [], _∷_, _++_, map}
 use native.Mathlib.Omega.{arith}
 use native.Mathlib.Decide.{decLt}
 use lib.Dec.{leb, ltb}
 use lib.ListN.{length, getD}
 use borrow.Author.Tests.{leb-true, le-leb}
 use Rattle.base.proofs.Choice.{chosen, passed, and-true, and-left, and-right}
-use Rattle.table.specs.Repeats.{movedBy, repeated, repeatable, repeatedAt}
+use Rattle.table.specs.Repeats.{movedBy, repeated, repeatable, repeatedAt, lastIndex}
 use Rattle.table.specs.declared.Formula.{Formula}
 use Rattle.table.specs.Formulas.{long, formulaBytes, writtenAt, longAt, formulaAt}
 use Rattle.table.specs.Programs.{upto}
@@ -186,7 +186,7 @@ module _ (none : Formula) (out : List ℕ) (n : ℕ) (table : List Formula) (fit
 -- ---- what the code writes
 
 module _ (size at count stride : ℕ) where
-  pub repeatable-room : repeatable size at count stride ≡ true → (count ≤ stride) × (stride ≤ at) × (at + count ≤ 2000000000) × (16 * (at + count) ≤ size)
+  pub repeatable-room : repeatable size at count stride ≡ true → (count ≤ stride) × (stride ≤ at) × (at + count ≤ lastIndex) × (16 * (at + count) ≤ size)
   repeatable-room e =
       let three = and-left (leb count stride && leb stride at && leb (at + count) 2000000000) (leb (16 * (at + count)) size) e in
       let two = and-left (leb count stride && leb stride at) (leb (at + count) 2000000000) three in (
@@ -196,12 +196,12 @@ module _ (size at count stride : ℕ) where
         leb-true (16 * (at + count)) size (and-right (leb count stride && leb stride at && leb (at + count) 2000000000) (leb (16 * (at + count)) size) e),
       )
 
-  pub room-repeatable : count ≤ stride → stride ≤ at → at + count ≤ 2000000000 → 16 * (at + count) ≤ size → repeatable size at count stride ≡ true
+  pub room-repeatable : count ≤ stride → stride ≤ at → at + count ≤ lastIndex → 16 * (at + count) ≤ size → repeatable size at count stride ≡ true
   room-repeatable p q r s = and-true (and-true (and-true (le-leb _ _ p) (le-leb _ _ q)) (le-leb _ _ r)) (le-leb _ _ s)
 
 module _ (out : List ℕ) (at count first stride : ℕ) where
   -- where there is room the records are repeated
-  pub repeats : count ≤ stride → stride ≤ at → at + count ≤ 2000000000 → 16 * (at + count) ≤ length out →
+  pub repeats : count ≤ stride → stride ≤ at → at + count ≤ lastIndex → 16 * (at + count) ≤ length out →
       repeatedAt out at count first stride ≡ writtenAt out at (upto (λ j. repeated first stride (formulaAt out (at - stride + j)) ∷ []) count)
   unfolding repeatedAt
   repeats p q r s = chosen _ _ (room-repeatable (length out) at count stride p q r s)
@@ -254,7 +254,7 @@ module _ (start out : List ℕ) (n e : ℕ) (before part after : List Formula)
       upto-map blank (λ j. repeated first stride (formulaAt out (e + j))) (repeated first stride) part (λ j h. ap (repeated first stride) (part-read blank j h))
 
   -- what the code writes where the part lies `stride` before record `at`
-  pub part-written : (at first stride : ℕ) → at ≡ e + stride → length part ≤ stride → at + length part ≤ 2000000000 → 16 * (at + length part) ≤ length start →
+  pub part-written : (at first stride : ℕ) → at ≡ e + stride → length part ≤ stride → at + length part ≤ lastIndex → 16 * (at + length part) ≤ length start →
       repeatedAt out at (length part) first stride ≡ writtenAt out at (map (repeated first stride) part)
   part-written at first stride place p q room =
       let kept = ap length written ∙ written-length start n (before ++ (part ++ after)) in
@@ -262,15 +262,3 @@ module _ (start out : List ℕ) (n e : ℕ) (before part after : List Formula)
       repeats out at (length part) first stride p (omega arith) q (omega arith)
       ∙ ap (writtenAt out at)
       (ap (λ (m : ℕ). upto (λ j. repeated first stride (formulaAt out (m + j)) ∷ []) (length part)) here ∙ part-repeated first stride)
-
--- the same of the table's last records
-module _ (start out : List ℕ) (n e : ℕ) (before last : List Formula) (written : out ≡ writtenAt start n (before ++ last)) (from : e ≡ n + length before)
-    (fits : 16 * (e + length last) ≤ length start) (range : AllInRange last) where
-  none-after : out ≡ writtenAt start n (before ++ (last ++ []))
-  none-after = written ∙ ap (λ (l : List Formula). writtenAt start n (before ++ l)) (sym (append-nil last))
-
-  pub last-read : (none : Formula) (j : ℕ) → j < length last → formulaAt out (e + j) ≡ getD last j none
-  last-read = part-read start out n e before last [] none-after from fits range
-
-  pub last-repeated : (first stride : ℕ) → upto (λ j. repeated first stride (formulaAt out (e + j)) ∷ []) (length last) ≡ map (repeated first stride) last
-  last-repeated = part-repeated start out n e before last [] none-after from fits range

@@ -1,4 +1,4 @@
--- Formula records: their operations and sorts, and their bytes (document 01, "Records"). Assumes nothing.
+-- Formula records: their operations and sorts, and their bytes (document 01, "Records"). A reader of the calls believes this. Assumes nothing.
 use Prim.Native.Nat.{ℕ, suc, _+_, _*_, _/_, _%_}
 use mathlib.Core.List.{List, [], _∷_, _++_}
 use lib.ListN.{getD}

@@ -1,4 +1,5 @@
--- Programs of trees over slots, which a table is written from, and what they mean without any index. Assumes nothing.
+-- Programs of trees over slots, which a table is written from, and what they mean without any index. The claims say what this means; a reader need
+-- not believe it. Assumes nothing.
 use Prim.Native.Nat.{ℕ, zero, suc}
 use mathlib.Core.Bool.{Bool, true, not, cond, _&&_, _||_}
 use mathlib.Core.List.{List, [], _∷_, _++_}

@@ -1,4 +1,5 @@
--- Records that repeat earlier ones of the same table, with their operands moved on. Assumes nothing.
+-- Records that repeat earlier ones of the same table, with their operands moved on. This serves the code; no call's promise needs it. Assumes
+-- nothing.
 use Prim.Native.Nat.{ℕ, _+_, _-_, _*_}
 use mathlib.Core.Bool.{Bool, cond, _&&_}
 use mathlib.Core.List.{List, [], _∷_}
@@ -24,9 +25,13 @@ repeated first stride x =
       c = movedBy first stride (x .c);
     }) x
 
+-- the last index that the encoder writes from
+abbrev pub lastIndex : ℕ
+lastIndex = 2000000000
+
 -- whether so many records from record `at` on can repeat those `stride` before them: these are all written earlier, and there is room
 abbrev pub repeatable : (size at count stride : ℕ) → Bool
-repeatable size at count stride = leb count stride && leb stride at && leb (at + count) 2000000000 && leb (16 * (at + count)) size
+repeatable size at count stride = leb count stride && leb stride at && leb (at + count) lastIndex && leb (16 * (at + count)) size
 
 -- bytes with `count` records from record `at` on, each repeating the one `stride` before it; the bytes as they are where that cannot be
 unfoldable pub repeatedAt : (out : List ℕ) (at count first stride : ℕ) → List ℕ

@@ -1,7 +1,7 @@
--- Which tables are well formed (document 01, "Records", formula records). Assumes nothing.
+-- Which tables are well formed (document 01, "Records", formula records). A reader of the calls believes this. Assumes nothing.
 use Prim.Native.Nat.{ℕ, zero, suc, _+_, _≤_, _<_}
 use mathlib.Core.Path.{_≡_}
-use mathlib.Core.Bool.{Bool, true, false, not, cond, _&&_, _||_}
+use mathlib.Core.Bool.{Bool, true, false, cond, _&&_, _||_}
 use mathlib.Core.List.{List, [], _∷_, _++_}
 use lib.Dec.{eqb, ltb}
 use Rattle.table.specs.declared.Formula.{Formula}

@@ -1,5 +1,5 @@
--- The values of a table's records under an assignment, front to back, and when an assignment satisfies (document 01, "Records").
--- Assumes nothing.
+-- The values of a table's records under an assignment, front to back, and when an assignment satisfies (document 01, "Records"). A reader of the
+-- calls believes this. Assumes nothing.
 use Prim.Native.Nat.{ℕ, suc}
 use mathlib.Core.Bool.{Bool, true, false, not, cond, _&&_, _||_}
 use mathlib.Core.List.{List, [], _∷_}

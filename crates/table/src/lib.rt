@@ -19,11 +19,18 @@ pub struct Formula {
     pub c: u64,
 }
 
+impl Formula {
+    // Bytes of a record.
+    pub const BYTES: usize = 16;
+    // The last index that the encoder writes from: an index and a small number have a sum of 32 bits.
+    pub const LAST: u32 = 2000000000;
+}
+
 // Writes record n as four numbers, if it fits there: operation, sort and constant as one, and the operands.
 fn put_longs(out: &mut [u8], n: u32, head: u32, a: u64, b: u64, c: u64)
     ensures { λ _. ⌜ now (out .exit) ≡ placed (now (out .entry)) (16 * n) (longBytes head (longBytes a (longBytes b (longBytes c [])))) ⌝ }
 {
-    let bytes: [u8; 16] = [
+    let bytes: [u8; Formula::BYTES] = [
         (head % 256) as u8,
         (head / 256 % 256) as u8,
         (head / 65536 % 256) as u8,
@@ -41,8 +48,8 @@ fn put_longs(out: &mut [u8], n: u32, head: u32, a: u64, b: u64, c: u64)
         (c / 65536 % 256) as u8,
         (c / 16777216 % 256) as u8,
     ];
-    let at = 16 * (n as usize);
-    if at + 16 <= out.len() {
+    let at = Formula::BYTES * (n as usize);
+    if at + Formula::BYTES <= out.len() {
         base::place(out, at, &bytes);
     }
 }

@@ -8,7 +8,13 @@ ghost use lib.ListN.{length, getD};
 ghost use Rattle.base.specs.Bytes.{placed};
 ghost use Rattle.table.specs.Formulas.{long as longBytes, longAt, formulaAt, formulaBytes};
 ghost use Rattle.table.specs.Repeats.{movedBy, repeated, repeatable, repeatedAt};
+use crate::Formula;
+use crate::operations::CONSTANT;
 use crate::put_longs;
+
+const LAST: u64 = Formula::LAST as u64;
+
+const BYTES: u64 = Formula::BYTES as u64;
 
 // The number of four bytes, low byte first.
 fn long(a: u8, b: u8, c: u8, d: u8) -> u32
@@ -36,11 +42,11 @@ fn moved(first: u32, stride: u32, x: u32) -> u64
     (x as u64) + (stride as u64)
 }
 
-// How far the operands of an operation move; the operations up to 3 have none.
+// How far the operands of an operation move; the operations up to CONSTANT have none.
 fn distance(operation: u8, stride: u32) -> u32
     ensures { λ r. ⌜ r ≡ cond (ltb 3 operation) stride 0 ⌝ }
 {
-    if 3 < operation {
+    if CONSTANT < operation {
         return stride;
     }
     0
@@ -51,7 +57,7 @@ fn repeat_record(out: &mut [u8], from: u32, n: u32, first: u32, stride: u32)
     requires { ⌜ 16 * from + 16 ≤ length (now out) ⌝ }
     ensures { λ _. ⌜ now (out .exit) ≡ placed (now (out .entry)) (16 * n) (formulaBytes (repeated first stride (formulaAt (now (out .entry)) from))) ⌝ }
 {
-    let i = 16 * (from as usize);
+    let i = Formula::BYTES * (from as usize);
     let head = long_at(out, i);
     let by = distance((head % 256) as u8, stride);
     let a = moved(first, by, long_at(out, i + 4));
@@ -65,7 +71,7 @@ fn can_repeat(size: usize, at: u32, count: u32, stride: u32) -> bool
     ensures { λ r. ⌜ r ≡ repeatable size at count stride ⌝ }
 {
     let end = (at as u64) + (count as u64);
-    (count <= stride) & (stride <= at) & (end <= 2000000000) & (16 * end <= (size as u64))
+    (count <= stride) & (stride <= at) & (end <= LAST) & (BYTES * end <= (size as u64))
 }
 
 // Writes `count` records from record `at` on, each repeating the one `stride` before it; nothing where that cannot be.

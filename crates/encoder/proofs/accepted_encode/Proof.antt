@@ -2,7 +2,7 @@
 use Prim.Native.Nat.{_*_, _≤_}
 use denote.Ref.{now}
 use lib.ListN.{length}
-use mathlib.Core.Path.{_≡_, refl, ap, sym, _∙_}
+use mathlib.Core.Path.{refl, ap, sym, _∙_}
 use native.Mathlib.Omega.{arith}
 use borrow.Author.Needs.{needs}
 use borrow.Author.Tests.{lt-ltb, le-ltb}
@@ -13,7 +13,7 @@ use Rattle.table.proofs.Written.{written-table}
 use Rattle.encoding.specs.Encodings.{tableOf}
 use Rattle.encoder.specs.Answers.{encodeAnswer}
 use Rattle.encoder.specs.declared.TableAnswer.the-variants.{Encoded}
-use Rattle.encoder.proofs.Accepted.{bound-zero, bound-large, bound-fits, limits-start, points-differ, table-is}
+use Rattle.encoder.proofs.Accepted.{bound-zero, bound-large, bound-fits, limits, points-differ, table-is}
 use Rattle.encoder.proofs.accepted_encode.Statement.{statement}
 use Rattle.encoder.proofs.accepted_encode.Tie as tie
 
@@ -45,8 +45,8 @@ mul-if3 c =
     let a = c .before .before .before .before .before .before .before .args in
     let p = c .before .before .before .before .before .before .before .pre in
     let points = c .before .of-set in
-    let l = limits-start (now (a .set)) (a .layout) (points .result) (p .0) (p .2) (points .ensures) in
-    let few = c .table-records .ensures .1 (l .fourThreads) (l .fewStatements) (few-cells 128 (now (a .map)) (p .1)) (omega arith) in
+    let l = limits (now (a .set)) (a .layout) (points .result) (p .0) (p .2) (points .ensures) in
+    let few = c .table-records .ensures .1 l (few-cells 128 (now (a .map)) (p .1)) (omega arith) in
     omega arith
 
 returns-3 : tie.Need-returns-3
@@ -67,15 +67,15 @@ write-requires c κs =
     let p = c .before .before .before .before .before .before .before .before .before .pre in
     let points = c .before .before .before .of-set in
     let t = c .before .before .table-records .ensures .0 in
-    (limits-start (now (a .set)) (a .layout) (points .result) (p .0) (p .2) (points .ensures), few-cells 128 (now (a .map)) (p .1), omega arith, omega arith, points-differ (now (a .set)) (a .layout) (points .result) (p .0) (p .2) (points .ensures))
+    (limits (now (a .set)) (a .layout) (points .result) (p .0) (p .2) (points .ensures), few-cells 128 (now (a .map)) (p .1), omega arith, omega arith, points-differ (now (a .set)) (a .layout) (points .result) (p .0) (p .2) (points .ensures))
 
 cast-t16 : tie.Need-cast-t16
 cast-t16 c =
     let a = c .before .before .before .before .before .before .before .before .before .before .before .before .args in
     let p = c .before .before .before .before .before .before .before .before .before .before .before .before .pre in
     let points = c .before .before .before .before .before .before .of-set in
-    let l = limits-start (now (a .set)) (a .layout) (points .result) (p .0) (p .2) (points .ensures) in
-    let few = c .before .before .before .before .before .table-records .ensures .1 (l .fourThreads) (l .fewStatements) (few-cells 128 (now (a .map)) (p .1)) (omega arith) in
+    let l = limits (now (a .set)) (a .layout) (points .result) (p .0) (p .2) (points .ensures) in
+    let few = c .before .before .before .before .before .table-records .ensures .1 l (few-cells 128 (now (a .map)) (p .1)) (omega arith) in
     omega arith
 
 same-length : tie.Need-same-length

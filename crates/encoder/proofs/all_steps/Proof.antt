@@ -41,7 +41,7 @@ later-steps-requires c κs =
     let few = f .ensures .1 in
     let next = w .stepped .next in
     let below = program-below (upto (step S cs) 2) start (a .first) (p .0 .below) in (
-      p .0 .fourThreads,
+      p .0 .byName .fourThreads,
       omega arith,
       p .2,
       two-steps-room S cs start (a .first) (f .result .next) next (p .0 .below),
@@ -61,7 +61,7 @@ returns-2 c =
     let a = c .before .before .before .before .before .before .before .before .before .before .before .before .before .before .before .before .before .args in
     let p = c .before .before .before .before .before .before .before .before .before .before .before .before .before .before .before .before .before .pre in
     let l = c .before .before .later-steps .ensures in
-    (l .0 (setBy (now (a .set)) (a .layout)) (listed (a .points)) (placeOf (now (a .slots))) (now (a .out)) refl (p .0 .below) (p .5) (c .before .before .before .before .before .before .before .before .few-steps2 .ensures .0), l .1)
+    (l .0 (setBy (now (a .set)) (a .layout)) (listed (a .points)) (placeOf (now (a .slots))) (now (a .out)) refl (p .0 .below) (p .3) (c .before .before .before .before .before .before .before .before .few-steps2 .ensures .0), l .1)
 
 pub all-steps-spec : {M : Type 1} → statement M
 all-steps-spec =

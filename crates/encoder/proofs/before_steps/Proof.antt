@@ -16,8 +16,8 @@ shared-requires c κs = search needs
 
 demands-requires : tie.Need-demands-requires
 demands-requires c κs =
-    let most = c .before .before .before .before .before .before .shared .ensures .1 (omega arith) in
-    (omega arith, c .before .before .before .before .before .before .before .before .before .before .before .before .before .before .pre .1)
+    let most = c .before .before .before .before .before .before .shared .ensures .1 in
+    (omega arith, c .before .before .before .before .before .before .before .before .before .before .before .before .before .before .pre)
 
 same-length : tie.Need-same-length
 same-length c = search needs
@@ -28,14 +28,15 @@ same-length-2 c = search needs
 returns : tie.Need-returns
 returns c =
     let a = c .before .before .before .before .before .before .before .before .before .before .before .before .before .before .before .before .before .args in
-    let q = c .before .before .before .before .before .before .before .before .before .before .before .before .before .before .before .before .before .pre in
+    let most = c .before .before .before .before .before .before .before .before .before .before .before .before .before .before .before .before .before .pre in
     let r1 = c .before .before .before .before .before .before .before .before .before .shared in
     let r2 = c .before .before .demands in
-    let m1 = r1 .ensures .1 (omega arith) in
+    let m1 = r1 .ensures .1 in
     let m2 = r2 .ensures .1 in
     let S = setBy (now (a .set)) (a .layout) in (
-      writes-++ (starting S (listed (a .points))) (upto (mapDemand (now (a .map))) (cells (now (a .map)))) (now (a .out)) (now (a .slots)) 4 _ _ _ _ _ _
-          (r1 .ensures .0 (a .points) (q .0) (omega arith) (q .2) (q .3)) (r2 .ensures .0),
+      λ lists ready.
+          writes-++ (starting S (listed (a .points))) (upto (mapDemand (now (a .map))) (cells (now (a .map)))) (now (a .out)) (now (a .slots)) 4 _ _ _ _ _ _
+          (r1 .ensures .0 (listed (a .points)) lists ready (omega arith)) (r2 .ensures .0),
       omega arith,
     )
 

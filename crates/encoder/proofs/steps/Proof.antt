@@ -5,24 +5,24 @@ use denote.Ref.{now}
 use native.Mathlib.Omega.{arith}
 use mathlib.Core.Path.{_≡_, refl, subst}
 use Prim.Native.Nat.{ℕ, _+_, _-_, _*_, _≤_}
-use Rattle.encoder_slots.specs.Places.{placeOf}
 use Rattle.set_index.specs.Points.{listed}
-use Rattle.encoder_slots.specs.Idle.{Idle}
-use Rattle.encoder_slots.proofs.Idle.{idle-step, idle-written}
+use Rattle.encoder_slots.proofs.Idle.{idle-step}
 use Rattle.encoding.specs.Steps.{step}
 use Rattle.table.specs.Programs.{upto}
 use Rattle.records.specs.Sets.{setBy}
-use Rattle.encoder_slots.proofs.Pieces.{writes-row, writes-more, limits-after}
-use Rattle.encoder_slots.specs.Pieces.{Writes, Limits}
+use Rattle.encoder_step.specs.Entries.{stepRoom}
+use Rattle.encoder_slots.proofs.Ready.{ready-after}
+use Rattle.encoder_slots.proofs.Pieces.{writes-row, writes-more}
+use Rattle.encoder_slots.specs.Pieces.{Writes, Ready}
 use Rattle.encoder.proofs.steps.Statement.{statement}
 use Rattle.encoder.proofs.steps.Tie as tie
+use Rattle.table.specs.Repeats.{lastIndex}
 
 abbrev Inv-loop : tie.InvT-loop
 Inv-loop set layout points members lists slots₀ out₀ bound n next₀ k₀ slots out next k =
-    (k ≤ bound) × (bound ≤ 64) × (next ≤ n + 377858 * k) × (length out ≡ length out₀) × (length slots ≡ length slots₀)
-    × (Limits layout points slots next)
+    (k ≤ bound) × (bound ≤ 64) × (next ≤ n + stepRoom * k) × (length out ≡ length out₀) × (length slots ≡ length slots₀)
+    × (Ready (setBy set layout) (listed points) members lists slots next)
     × (Writes (upto (step (setBy set layout) (listed points)) k) out₀ slots₀ n out slots next)
-    × (Idle (setBy set layout) (placeOf slots))
 
 abbrev μ-loop : tie.MeasureT-loop
 μ-loop set layout points members lists slots₀ out₀ bound n next₀ k₀ slots out next k = bound - k
@@ -31,7 +31,7 @@ loop-holds : tie.Need-loop-holds Inv-loop μ-loop
 loop-holds c =
     let a = c .before .before .before .before .before .args in
     let l = c .before .before .before .before .before .pre .0 in
-    (omega arith, omega arith, omega arith, refl, refl, l, writes-row (step (setBy (now (a .set)) (a .layout)) (listed (a .points))) (now (a .out)) (now (a .slots)) (a .n), c .before .before .before .before .before .pre .5)
+    (omega arith, omega arith, omega arith, refl, refl, l, writes-row (step (setBy (now (a .set)) (a .layout)) (listed (a .points))) (now (a .out)) (now (a .slots)) (a .n))
 
 one-step-requires : tie.Need-one-step-requires Inv-loop μ-loop
 one-step-requires c κs = search needs
@@ -52,17 +52,16 @@ loop-again c =
     let little = q .1 in
     let most = l .inv .1 in
     let so-far = l .inv .2 in
-    let room : l .next ≤ 1400000000 = omega arith in
-    let more = r .ensures .1 room in
-    let w = r .ensures .0 (l .inv .5) room (q .3) (q .4) (l .inv .7) in (
+    let room : l .next + stepRoom ≤ lastIndex = omega arith in
+    let more = r .ensures .1 in
+    let w = r .ensures .0 (l .inv .5) room in (
       omega arith,
       l .inv .1,
       omega arith,
       search needs,
       search needs,
-      limits-after (a .layout) (a .points) (f (l .k)) _ _ _ _ _ _ w (l .inv .5),
+      ready-after (f (l .k)) (idle-step (setBy (now (a .set)) (a .layout)) (listed (a .points)) (l .k)) w (l .inv .5),
       writes-more f (l .k) (now (a .out)) (now (a .slots)) (a .n) _ _ _ _ _ _ (l .inv .6) w,
-      idle-written (setBy (now (a .set)) (a .layout)) (f (l .k)) (idle-step (setBy (now (a .set)) (a .layout)) (listed (a .points)) (l .k)) _ _ _ _ _ _ w (l .inv .7),
     )
 
 same-length : tie.Need-same-length Inv-loop μ-loop

@@ -10,9 +10,10 @@ use Rattle.table.specs.Programs.{upto}
 use Rattle.encoding.specs.Slots.{wordOne, argument}
 use Rattle.encoding.specs.Steps.{block}
 use Rattle.encoding.specs.Encodings.{mapDemand, starting}
-use Rattle.encoder_slots.proofs.Idle.{idle-none, idle-needs, idle-++, idle-upto, idle-block, idle-written, idle-start}
+use Rattle.encoder_slots.proofs.Idle.{idle-none, idle-needs, idle-++, idle-upto, idle-block}
 use Rattle.set_index.specs.Points.{listed}
-use Rattle.encoder_slots.proofs.Pieces.{limits-after}
+use Rattle.encoder_slots.proofs.Ready.{ready-after}
+use Rattle.encoder.proofs.Accepted.{ready-start}
 use Rattle.encoder.proofs.Repeating.{encoded-ended, ended-room}
 use Rattle.encoder.proofs.Sizes.{early}
 use Rattle.encoder.proofs.write.Statement.{statement}
@@ -44,9 +45,7 @@ slice-aggregate-before-steps-2 c = search needs
 
 before-steps-requires : tie.Need-before-steps-requires
 before-steps-requires c κs =
-    let a = c .before .before .before .before .before .before .before .before .before .before .before .before .before .before .before .before .before .args in
-    let p = c .before .before .before .before .before .before .before .before .before .before .before .before .before .before .before .before .before .pre in
-    (p .0, p .1, c .before .before .before .before .before .before .before .before .before .before .before .before .make .ensures .1 refl (λ t h. p .0 .fewStatements t), idle-start (setBy (now (a .set)) (a .layout)) 2304)
+    c .before .before .before .before .before .before .before .before .before .before .before .before .before .before .before .before .before .pre .1
 
 slice-aggregate-all-steps : tie.Need-slice-aggregate-all-steps
 slice-aggregate-all-steps c = search needs
@@ -64,15 +63,15 @@ all-steps-requires c κs =
     let S = setBy (now (a .set)) (a .layout) in
     let cs = listed (a .points) in
     let members = c .before .before .before .before .before .before .before .before .before .before .before .before .before .before .before .before .before .before .before .before .make .ensures .1 refl (λ t h. p .0 .fewStatements t) in
-    let w = c .before .before .before .before .before .before .before .before-steps .ensures in (
-      limits-after (a .layout) (a .points) (early S cs (now (a .map))) _ _ _ _ _ _ (w .0) (p .0),
-      (let l = w .1 in omega arith),
+    let lists = c .before .before .before .before .before .before .before .before .before .before .before .before .before .before .before .before .make2 .ensures .1 refl (p .0 .fourThreads) members (p .4) in
+    let start = ready-start members lists in
+    let b = c .before .before .before .before .before .before .before .before-steps .ensures in
+    let w = b .0 _ start in (
+      ready-after (early S cs (now (a .map))) (idle-++ S (starting S cs) (upto (mapDemand (now (a .map))) (cells (now (a .map)))) (idle-++ S (block S cs 0 wordOne) (block S cs 0 argument) (idle-block S cs 0 wordOne) (idle-block S cs 0 argument))
+          (idle-upto S (mapDemand (now (a .map))) (λ j. idle-needs S _ [] (idle-none S)) (cells (now (a .map))))) w start,
+      (let l = b .1 in omega arith),
       p .2,
-      members,
-      c .before .before .before .before .before .before .before .before .before .before .before .before .before .before .before .before .make2 .ensures .1 refl (p .0 .fourThreads) members (p .4),
-      ended-room S cs (now (a .map)) (a .bound) (now (a .table)) _ _ _ _ (c .before .before .before .before .before .before .before .before .before .before .before .before .before .firsts .ensures) (w .0) (p .3),
-      idle-written S (early S cs (now (a .map))) (idle-++ S (starting S cs) (upto (mapDemand (now (a .map))) (cells (now (a .map)))) (idle-++ S (block S cs 0 wordOne) (block S cs 0 argument) (idle-block S cs 0 wordOne) (idle-block S cs 0 argument))
-          (idle-upto S (mapDemand (now (a .map))) (λ j. idle-needs S _ [] (idle-none S)) (cells (now (a .map))))) _ _ _ _ _ _ (w .0) (idle-start S 2304),
+      ended-room S cs (now (a .map)) (a .bound) (now (a .table)) _ _ _ _ (c .before .before .before .before .before .before .before .before .before .before .before .before .before .firsts .ensures) w (p .3),
     )
 
 goal-requires : tie.Need-goal-requires
@@ -86,8 +85,11 @@ returns c =
     let a = c .before .before .before .before .before .before .before .before .before .before .before .before .before .before .before .before .before .before .before .before .before .before .before .before .before .before .before .before .before .before .before .before .before .args in
     let S = setBy (now (a .set)) (a .layout) in
     let cs = listed (a .points) in
+    let p = c .before .before .before .before .before .before .before .before .before .before .before .before .before .before .before .before .before .before .before .before .before .before .before .before .before .before .before .before .before .before .before .before .before .pre in
+    let members = c .before .before .before .before .before .before .before .before .before .before .before .before .before .before .before .before .before .before .before .before .before .before .before .before .before .before .before .before .make .ensures .1 refl (λ t h. p .0 .fewStatements t) in
+    let lists = c .before .before .before .before .before .before .before .before .before .before .before .before .before .before .before .before .before .before .before .before .before .before .before .before .make2 .ensures .1 refl (p .0 .fourThreads) members (p .4) in
     let e = c .before .before .before .before .before .before .before .all-steps .ensures .0 in
-    encoded-ended S cs (now (a .map)) (a .bound) (now (a .table)) _ _ _ _ _ _ _ _ _ (c .before .before .before .before .before .before .before .before .before .before .before .before .before .before .before .before .before .before .before .before .before .firsts .ensures) (c .before .before .before .before .before .before .before .before .before .before .before .before .before .before .before .before-steps .ensures .0) e
+    encoded-ended S cs (now (a .map)) (a .bound) (now (a .table)) _ _ _ _ _ _ _ _ _ (c .before .before .before .before .before .before .before .before .before .before .before .before .before .before .before .before .before .before .before .before .before .firsts .ensures) (c .before .before .before .before .before .before .before .before .before .before .before .before .before .before .before .before-steps .ensures .0 _ (ready-start members lists)) e
     (c .before .before .goal .ensures _ (e .codeIs) (e .wordZeroIs))
 
 pub write-spec : {M : Type 1} → statement M

@@ -3,7 +3,7 @@ use denote.Ref.{now}
 use mathlib.Core.Path.{refl, ap, _∙_}
 use Rattle.encoder_slots.specs.Places.{placeOf}
 use Rattle.encoding.specs.Steps.{base as baseOf}
-use Rattle.encoding.specs.Slots.{Kind, kinds, choice, shut, flushTo, writeTo, flushValue, writeValue, raised, exits, codes, val, adr, mem, accu, halted, mark, halts, ended, code, bitZero, bitOne, wordZero}
+use Rattle.encoding.specs.Slots.{Kind, kinds, choice, shut, flushTo, writeTo, flushValue, writeValue, raised, exits, codes, val, adr, mem, accu, halted, mark, halts, ended, code, bitZero, bitOne, wordZero, kindNumber, barred, full, held, mayExecute, none, onePermitted, opening, permittedFirst, sharedMemory, waits, wordOne}
 use Rattle.table.specs.Programs.{and2, or2}
 use Rattle.encoder_bases.proofs.Given.{withThreads, puts-as, puts-base, kind-past, kind-other}
 use borrow.Author.Needs.{needs}
@@ -28,14 +28,14 @@ put-joined-requires c κs = search needs
 put-none-requires-3 : tie.Need-put-none-requires-3
 put-none-requires-3 c κs = search needs
 
-put-may-requires : tie.Need-put-may-requires
-put-may-requires c κs = search needs
+put-may-execute-requires : tie.Need-put-may-execute-requires
+put-may-execute-requires c κs = search needs
 
 put-none-before-requires : tie.Need-put-none-before-requires
 put-none-before-requires c κs = search needs
 
-put-fit-requires : tie.Need-put-fit-requires
-put-fit-requires c κs = search needs
+put-permitted-first-requires : tie.Need-put-permitted-first-requires
+put-permitted-first-requires c κs = search needs
 
 put-none-requires-4 : tie.Need-put-none-requires-4
 put-none-requires-4 c κs = search needs
@@ -116,13 +116,13 @@ returns : tie.Need-returns
 unfolding kinds
 returns c =
     let a = c .before .before .before .before .before .before .before .args in
-    (λ S cs same other flagless h. puts-base S cs (a .threads) (a .step) (a .a) (a .b) (a .kind) 0 same (c .before .before .before .before .match .keys1) (c .before .before .put-choice .ensures .0 (placeOf (a .slots .now))), c .before .before .put-choice .ensures .1)
+    (λ S cs same other flagless h. puts-base S cs (a .threads) (a .step) (a .a) (a .b) (a .kind) (kindNumber choice) same (c .before .before .before .before .match .keys1) (c .before .before .put-choice .ensures .0 (placeOf (a .slots .now))), c .before .before .put-choice .ensures .1)
 
 returns-2 : tie.Need-returns-2
 unfolding kinds
 returns-2 c =
     let a = c .before .before .before .before .args in
-    (λ S cs same other flagless h. puts-base S cs (a .threads) (a .step) (a .a) (a .b) (a .kind) 2 same (c .before .match .keys2) (c .put-none .ensures .0 (a .n) bitOne (now (a .out)) refl refl), c .put-none .ensures .1)
+    (λ S cs same other flagless h. puts-base S cs (a .threads) (a .step) (a .a) (a .b) (a .kind) (kindNumber opening) same (c .before .match .keys2) (c .put-none .ensures .0 (a .n) bitOne (now (a .out)) refl refl), c .put-none .ensures .1)
 
 same-length-2 : tie.Need-same-length-2
 same-length-2 c = search needs
@@ -131,13 +131,13 @@ returns-3 : tie.Need-returns-3
 unfolding kinds
 returns-3 c =
     let a = c .before .before .before .before .before .before .before .args in
-    (λ S cs same other flagless h. puts-base S cs (a .threads) (a .step) (a .a) (a .b) (a .kind) 3 same (c .before .before .before .before .match .keys3) (c .before .before .put-shut .ensures .0), c .before .before .put-shut .ensures .1)
+    (λ S cs same other flagless h. puts-base S cs (a .threads) (a .step) (a .a) (a .b) (a .kind) (kindNumber shut) same (c .before .before .before .before .match .keys3) (c .before .before .put-shut .ensures .0), c .before .before .put-shut .ensures .1)
 
 returns-4 : tie.Need-returns-4
 unfolding kinds
 returns-4 c =
     let a = c .before .before .before .before .args in
-    (λ S cs same other flagless h. puts-base S cs (a .threads) (a .step) (a .a) (a .b) (a .kind) 4 same (c .before .match .keys4) (c .put-none2 .ensures .0 (a .n) bitZero (now (a .out)) refl refl), c .put-none2 .ensures .1)
+    (λ S cs same other flagless h. puts-base S cs (a .threads) (a .step) (a .a) (a .b) (a .kind) (kindNumber barred) same (c .before .match .keys4) (c .put-none2 .ensures .0 (a .n) bitZero (now (a .out)) refl refl), c .put-none2 .ensures .1)
 
 same-length-3 : tie.Need-same-length-3
 same-length-3 c = search needs
@@ -146,13 +146,13 @@ returns-5 : tie.Need-returns-5
 unfolding kinds
 returns-5 c =
     let a = c .before .before .before .before .before .before .before .args in
-    (λ S cs same other flagless h. puts-base S cs (a .threads) (a .step) (a .a) (a .b) (a .kind) 5 same (c .before .before .before .before .match .keys5) (c .before .before .put-joined .ensures .0 and2 mark shut refl refl refl refl refl refl), c .before .before .put-joined .ensures .1)
+    (λ S cs same other flagless h. puts-base S cs (a .threads) (a .step) (a .a) (a .b) (a .kind) (kindNumber held) same (c .before .before .before .before .match .keys5) (c .before .before .put-joined .ensures .0 and2 mark shut refl refl refl refl refl refl), c .before .before .put-joined .ensures .1)
 
 returns-6 : tie.Need-returns-6
 unfolding kinds
 returns-6 c =
     let a = c .before .before .before .before .args in
-    (λ S cs same other flagless h. puts-base S cs (a .threads) (a .step) (a .a) (a .b) (a .kind) 6 same (c .before .match .keys6) (c .put-none3 .ensures .0 (a .n) halted (now (a .out)) refl refl), c .put-none3 .ensures .1)
+    (λ S cs same other flagless h. puts-base S cs (a .threads) (a .step) (a .a) (a .b) (a .kind) (kindNumber waits) same (c .before .match .keys6) (c .put-none3 .ensures .0 (a .n) halted (now (a .out)) refl refl), c .put-none3 .ensures .1)
 
 same-length-4 : tie.Need-same-length-4
 same-length-4 c = search needs
@@ -161,7 +161,7 @@ returns-7 : tie.Need-returns-7
 unfolding kinds
 returns-7 c =
     let a = c .before .before .before .before .before .before .before .args in
-    (λ S cs same other flagless h. puts-base S cs (a .threads) (a .step) (a .a) (a .b) (a .kind) 7 same (c .before .before .before .before .match .keys7) (c .before .before .put-may .ensures .0 h), c .before .before .put-may .ensures .1)
+    (λ S cs same other flagless h. puts-base S cs (a .threads) (a .step) (a .a) (a .b) (a .kind) (kindNumber mayExecute) same (c .before .before .before .before .match .keys7) (c .before .before .put-may-execute .ensures .0 h), c .before .before .put-may-execute .ensures .1)
 
 same-length-5 : tie.Need-same-length-5
 same-length-5 c = search needs
@@ -170,7 +170,7 @@ returns-8 : tie.Need-returns-8
 unfolding kinds
 returns-8 c =
     let a = c .before .before .before .before .before .before .before .args in
-    (λ S cs same other flagless h. puts-base S cs (a .threads) (a .step) (a .a) (a .b) (a .kind) 8 same (c .before .before .before .before .match .keys8) (c .before .before .put-none-before .ensures .0), c .before .before .put-none-before .ensures .1)
+    (λ S cs same other flagless h. puts-base S cs (a .threads) (a .step) (a .a) (a .b) (a .kind) (kindNumber none) same (c .before .before .before .before .match .keys8) (c .before .before .put-none-before .ensures .0), c .before .before .put-none-before .ensures .1)
 
 same-length-6 : tie.Need-same-length-6
 same-length-6 c = search needs
@@ -179,25 +179,25 @@ returns-9 : tie.Need-returns-9
 unfolding kinds
 returns-9 c =
     let a = c .before .before .before .before .before .before .before .args in
-    (λ S cs same other flagless h. puts-base S cs (a .threads) (a .step) (a .a) (a .b) (a .kind) 9 same (c .before .before .before .before .match .keys9) (c .before .before .put-fit .ensures .0), c .before .before .put-fit .ensures .1)
+    (λ S cs same other flagless h. puts-base S cs (a .threads) (a .step) (a .a) (a .b) (a .kind) (kindNumber permittedFirst) same (c .before .before .before .before .match .keys9) (c .before .before .put-permitted-first .ensures .0), c .before .before .put-permitted-first .ensures .1)
 
 returns-10 : tie.Need-returns-10
 unfolding kinds
 returns-10 c =
     let a = c .before .before .before .before .args in
-    (λ S cs same other flagless h. puts-base S cs (a .threads) (a .step) (a .a) (a .b) (a .kind) 10 same (c .before .match .keys10) (c .put-none4 .ensures .0 (a .n) bitZero (now (a .out)) refl refl), c .put-none4 .ensures .1)
+    (λ S cs same other flagless h. puts-base S cs (a .threads) (a .step) (a .a) (a .b) (a .kind) (kindNumber onePermitted) same (c .before .match .keys10) (c .put-none4 .ensures .0 (a .n) bitZero (now (a .out)) refl refl), c .put-none4 .ensures .1)
 
 returns-11 : tie.Need-returns-11
 unfolding kinds
 returns-11 c =
     let a = c .before .before .before .before .args in
-    (λ S cs same other flagless h. puts-base S cs (a .threads) (a .step) (a .a) (a .b) (a .kind) 17 same (c .before .match .keys11) (c .put-none5 .ensures .0 (a .n) wordZero (now (a .out)) refl refl), c .put-none5 .ensures .1)
+    (λ S cs same other flagless h. puts-base S cs (a .threads) (a .step) (a .a) (a .b) (a .kind) (kindNumber flushTo) same (c .before .match .keys11) (c .put-none5 .ensures .0 (a .n) wordZero (now (a .out)) refl refl), c .put-none5 .ensures .1)
 
 returns-12 : tie.Need-returns-12
 unfolding kinds
 returns-12 c =
     let a = c .before .before .before .before .args in
-    (λ S cs same other flagless h. puts-base S cs (a .threads) (a .step) (a .a) (a .b) (a .kind) 18 same (c .before .match .keys12) (c .put-previous .ensures .0 (a .n) writeTo flushTo (now (a .out)) refl refl refl refl), c .put-previous .ensures .1)
+    (λ S cs same other flagless h. puts-base S cs (a .threads) (a .step) (a .a) (a .b) (a .kind) (kindNumber writeTo) same (c .before .match .keys12) (c .put-previous .ensures .0 (a .n) writeTo flushTo (now (a .out)) refl refl refl refl), c .put-previous .ensures .1)
 
 same-length-7 : tie.Need-same-length-7
 same-length-7 c = search needs
@@ -206,31 +206,31 @@ returns-13 : tie.Need-returns-13
 unfolding kinds
 returns-13 c =
     let a = c .before .before .before .before .before .before .before .args in
-    (λ S cs same other flagless h. puts-base S cs (a .threads) (a .step) (a .a) (a .b) (a .kind) 19 same (c .before .before .before .before .match .keys13) (c .before .before .put-flush-value .ensures .0), c .before .before .put-flush-value .ensures .1)
+    (λ S cs same other flagless h. puts-base S cs (a .threads) (a .step) (a .a) (a .b) (a .kind) (kindNumber flushValue) same (c .before .before .before .before .match .keys13) (c .before .before .put-flush-value .ensures .0), c .before .before .put-flush-value .ensures .1)
 
 returns-14 : tie.Need-returns-14
 unfolding kinds
 returns-14 c =
     let a = c .before .before .before .before .args in
-    (λ S cs same other flagless h. puts-base S cs (a .threads) (a .step) (a .a) (a .b) (a .kind) 20 same (c .before .match .keys14) (c .put-previous2 .ensures .0 (a .n) writeValue flushValue (now (a .out)) refl refl refl refl), c .put-previous2 .ensures .1)
+    (λ S cs same other flagless h. puts-base S cs (a .threads) (a .step) (a .a) (a .b) (a .kind) (kindNumber writeValue) same (c .before .match .keys14) (c .put-previous2 .ensures .0 (a .n) writeValue flushValue (now (a .out)) refl refl refl refl), c .put-previous2 .ensures .1)
 
 returns-15 : tie.Need-returns-15
 unfolding kinds
 returns-15 c =
     let a = c .before .before .before .before .args in
-    (λ S cs same other flagless h. puts-base S cs (a .threads) (a .step) (a .a) (a .b) (a .kind) 21 same (c .before .match .keys15) (c .put-none6 .ensures .0 (a .n) mark (now (a .out)) refl refl), c .put-none6 .ensures .1)
+    (λ S cs same other flagless h. puts-base S cs (a .threads) (a .step) (a .a) (a .b) (a .kind) (kindNumber raised) same (c .before .match .keys15) (c .put-none6 .ensures .0 (a .n) mark (now (a .out)) refl refl), c .put-none6 .ensures .1)
 
 returns-16 : tie.Need-returns-16
 unfolding kinds
 returns-16 c =
     let a = c .before .before .before .before .args in
-    (λ S cs same other flagless h. puts-base S cs (a .threads) (a .step) (a .a) (a .b) (a .kind) 22 same (c .before .match .keys16) (c .put-previous3 .ensures .0 (a .n) exits ended (now (a .out)) refl refl refl refl), c .put-previous3 .ensures .1)
+    (λ S cs same other flagless h. puts-base S cs (a .threads) (a .step) (a .a) (a .b) (a .kind) (kindNumber exits) same (c .before .match .keys16) (c .put-previous3 .ensures .0 (a .n) exits ended (now (a .out)) refl refl refl refl), c .put-previous3 .ensures .1)
 
 returns-17 : tie.Need-returns-17
 unfolding kinds
 returns-17 c =
     let a = c .before .before .before .before .args in
-    (λ S cs same other flagless h. puts-base S cs (a .threads) (a .step) (a .a) (a .b) (a .kind) 23 same (c .before .match .keys17) (c .put-previous4 .ensures .0 (a .n) codes code (now (a .out)) refl refl refl refl), c .put-previous4 .ensures .1)
+    (λ S cs same other flagless h. puts-base S cs (a .threads) (a .step) (a .a) (a .b) (a .kind) (kindNumber codes) same (c .before .match .keys17) (c .put-previous4 .ensures .0 (a .n) codes code (now (a .out)) refl refl refl refl), c .put-previous4 .ensures .1)
 
 same-length-8 : tie.Need-same-length-8
 same-length-8 c = search needs
@@ -239,31 +239,31 @@ returns-18 : tie.Need-returns-18
 unfolding kinds
 returns-18 c =
     let a = c .before .before .before .before .before .before .before .args in
-    (λ S cs same other flagless h. puts-base S cs (a .threads) (a .step) (a .a) (a .b) (a .kind) 24 same (c .before .before .before .before .match .keys18) (c .before .before .put-memory .ensures .0), c .before .before .put-memory .ensures .1)
+    (λ S cs same other flagless h. puts-base S cs (a .threads) (a .step) (a .a) (a .b) (a .kind) (kindNumber sharedMemory) same (c .before .before .before .before .match .keys18) (c .before .before .put-memory .ensures .0), c .before .before .put-memory .ensures .1)
 
 returns-19 : tie.Need-returns-19
 unfolding kinds
 returns-19 c =
     let a = c .before .before .before .before .args in
-    (λ S cs same other flagless h. puts-base S cs (a .threads) (a .step) (a .a) (a .b) (a .kind) 25 same (c .before .match .keys19) (c .put-none7 .ensures .0 (a .n) val (now (a .out)) refl refl), c .put-none7 .ensures .1)
+    (λ S cs same other flagless h. puts-base S cs (a .threads) (a .step) (a .a) (a .b) (a .kind) (kindNumber val) same (c .before .match .keys19) (c .put-none7 .ensures .0 (a .n) val (now (a .out)) refl refl), c .put-none7 .ensures .1)
 
 returns-20 : tie.Need-returns-20
 unfolding kinds
 returns-20 c =
     let a = c .before .before .before .before .args in
-    (λ S cs same other flagless h. puts-base S cs (a .threads) (a .step) (a .a) (a .b) (a .kind) 26 same (c .before .match .keys20) (c .put-none8 .ensures .0 (a .n) adr (now (a .out)) refl refl), c .put-none8 .ensures .1)
+    (λ S cs same other flagless h. puts-base S cs (a .threads) (a .step) (a .a) (a .b) (a .kind) (kindNumber adr) same (c .before .match .keys20) (c .put-none8 .ensures .0 (a .n) adr (now (a .out)) refl refl), c .put-none8 .ensures .1)
 
 returns-21 : tie.Need-returns-21
 unfolding kinds
 returns-21 c =
     let a = c .before .before .before .before .args in
-    (λ S cs same other flagless h. puts-base S cs (a .threads) (a .step) (a .a) (a .b) (a .kind) 27 same (c .before .match .keys21) (c .put-none9 .ensures .0 (a .n) mem (now (a .out)) refl refl), c .put-none9 .ensures .1)
+    (λ S cs same other flagless h. puts-base S cs (a .threads) (a .step) (a .a) (a .b) (a .kind) (kindNumber mem) same (c .before .match .keys21) (c .put-none9 .ensures .0 (a .n) mem (now (a .out)) refl refl), c .put-none9 .ensures .1)
 
 returns-22 : tie.Need-returns-22
 unfolding kinds
 returns-22 c =
     let a = c .before .before .before .before .args in
-    (λ S cs same other flagless h. puts-base S cs (a .threads) (a .step) (a .a) (a .b) (a .kind) 28 same (c .before .match .keys22) (c .put-none10 .ensures .0 (a .n) accu (now (a .out)) refl refl), c .put-none10 .ensures .1)
+    (λ S cs same other flagless h. puts-base S cs (a .threads) (a .step) (a .a) (a .b) (a .kind) (kindNumber accu) same (c .before .match .keys22) (c .put-none10 .ensures .0 (a .n) accu (now (a .out)) refl refl), c .put-none10 .ensures .1)
 
 same-length-9 : tie.Need-same-length-9
 same-length-9 c = search needs
@@ -272,13 +272,13 @@ returns-23 : tie.Need-returns-23
 unfolding kinds
 returns-23 c =
     let a = c .before .before .before .before .before .before .before .args in
-    (λ S cs same other flagless h. puts-base S cs (a .threads) (a .step) (a .a) (a .b) (a .kind) 29 same (c .before .before .before .before .match .keys23) (c .before .before .put-full .ensures .0), c .before .before .put-full .ensures .1)
+    (λ S cs same other flagless h. puts-base S cs (a .threads) (a .step) (a .a) (a .b) (a .kind) (kindNumber full) same (c .before .before .before .before .match .keys23) (c .before .before .put-full .ensures .0), c .before .before .put-full .ensures .1)
 
 returns-24 : tie.Need-returns-24
 unfolding kinds
 returns-24 c =
     let a = c .before .before .before .before .args in
-    (λ S cs same other flagless h. puts-base S cs (a .threads) (a .step) (a .a) (a .b) (a .kind) 30 same (c .before .match .keys24) (c .put-none11 .ensures .0 (a .n) halted (now (a .out)) refl refl), c .put-none11 .ensures .1)
+    (λ S cs same other flagless h. puts-base S cs (a .threads) (a .step) (a .a) (a .b) (a .kind) (kindNumber halted) same (c .before .match .keys24) (c .put-none11 .ensures .0 (a .n) halted (now (a .out)) refl refl), c .put-none11 .ensures .1)
 
 same-length-10 : tie.Need-same-length-10
 same-length-10 c = search needs
@@ -287,13 +287,13 @@ returns-25 : tie.Need-returns-25
 unfolding kinds
 returns-25 c =
     let a = c .before .before .before .before .before .before .before .args in
-    (λ S cs same other flagless h. puts-base S cs (a .threads) (a .step) (a .a) (a .b) (a .kind) 32 same (c .before .before .before .before .match .keys25) (c .before .before .put-joined2 .ensures .0 and2 shut raised refl refl refl refl refl refl), c .before .before .put-joined2 .ensures .1)
+    (λ S cs same other flagless h. puts-base S cs (a .threads) (a .step) (a .a) (a .b) (a .kind) (kindNumber mark) same (c .before .before .before .before .match .keys25) (c .before .before .put-joined2 .ensures .0 and2 shut raised refl refl refl refl refl refl), c .before .before .put-joined2 .ensures .1)
 
 returns-26 : tie.Need-returns-26
 unfolding kinds
 returns-26 c =
     let a = c .before .before .before .before .args in
-    (λ S cs same other flagless h. puts-base S cs (a .threads) (a .step) (a .a) (a .b) (a .kind) 33 same (c .before .match .keys26) (c .put-none12 .ensures .0 (a .n) bitOne (now (a .out)) refl refl), c .put-none12 .ensures .1)
+    (λ S cs same other flagless h. puts-base S cs (a .threads) (a .step) (a .a) (a .b) (a .kind) (kindNumber halts) same (c .before .match .keys26) (c .put-none12 .ensures .0 (a .n) bitOne (now (a .out)) refl refl), c .put-none12 .ensures .1)
 
 same-length-11 : tie.Need-same-length-11
 same-length-11 c = search needs
@@ -302,31 +302,31 @@ returns-27 : tie.Need-returns-27
 unfolding kinds
 returns-27 c =
     let a = c .before .before .before .before .before .before .before .args in
-    (λ S cs same other flagless h. puts-base S cs (a .threads) (a .step) (a .a) (a .b) (a .kind) 34 same (c .before .before .before .before .match .keys27) (c .before .before .put-joined3 .ensures .0 or2 halts exits refl refl refl refl refl refl), c .before .before .put-joined3 .ensures .1)
+    (λ S cs same other flagless h. puts-base S cs (a .threads) (a .step) (a .a) (a .b) (a .kind) (kindNumber ended) same (c .before .before .before .before .match .keys27) (c .before .before .put-joined3 .ensures .0 or2 halts exits refl refl refl refl refl refl), c .before .before .put-joined3 .ensures .1)
 
 returns-28 : tie.Need-returns-28
 unfolding kinds
 returns-28 c =
     let a = c .before .before .before .before .args in
-    (λ S cs same other flagless h. puts-base S cs (a .threads) (a .step) (a .a) (a .b) (a .kind) 35 same (c .before .match .keys28) (c .put-none13 .ensures .0 (a .n) codes (now (a .out)) refl refl), c .put-none13 .ensures .1)
+    (λ S cs same other flagless h. puts-base S cs (a .threads) (a .step) (a .a) (a .b) (a .kind) (kindNumber code) same (c .before .match .keys28) (c .put-none13 .ensures .0 (a .n) codes (now (a .out)) refl refl), c .put-none13 .ensures .1)
 
 returns-29 : tie.Need-returns-29
 unfolding kinds
 returns-29 c =
     let a = c .before .before .before .before .args in
-    (λ S cs same other flagless h. puts-base S cs (a .threads) (a .step) (a .a) (a .b) (a .kind) 36 same (c .before .match .keys29) (c .put-none14 .ensures .0 (a .n) bitZero (now (a .out)) refl refl), c .put-none14 .ensures .1)
+    (λ S cs same other flagless h. puts-base S cs (a .threads) (a .step) (a .a) (a .b) (a .kind) (kindNumber bitZero) same (c .before .match .keys29) (c .put-none14 .ensures .0 (a .n) bitZero (now (a .out)) refl refl), c .put-none14 .ensures .1)
 
 returns-30 : tie.Need-returns-30
 unfolding kinds
 returns-30 c =
     let a = c .before .before .before .before .args in
-    (λ S cs same other flagless h. puts-base S cs (a .threads) (a .step) (a .a) (a .b) (a .kind) 37 same (c .before .match .keys30) (c .put-none15 .ensures .0 (a .n) bitOne (now (a .out)) refl refl), c .put-none15 .ensures .1)
+    (λ S cs same other flagless h. puts-base S cs (a .threads) (a .step) (a .a) (a .b) (a .kind) (kindNumber bitOne) same (c .before .match .keys30) (c .put-none15 .ensures .0 (a .n) bitOne (now (a .out)) refl refl), c .put-none15 .ensures .1)
 
 returns-31 : tie.Need-returns-31
 unfolding kinds
 returns-31 c =
     let a = c .before .before .before .before .args in
-    (λ S cs same other flagless h. puts-base S cs (a .threads) (a .step) (a .a) (a .b) (a .kind) 38 same (c .before .match .keys31) (c .put-none16 .ensures .0 (a .n) wordZero (now (a .out)) refl refl), c .put-none16 .ensures .1)
+    (λ S cs same other flagless h. puts-base S cs (a .threads) (a .step) (a .a) (a .b) (a .kind) (kindNumber wordZero) same (c .before .match .keys31) (c .put-none16 .ensures .0 (a .n) wordZero (now (a .out)) refl refl), c .put-none16 .ensures .1)
 
 same-length-12 : tie.Need-same-length-12
 same-length-12 c = search needs
@@ -335,7 +335,7 @@ returns-32 : tie.Need-returns-32
 unfolding kinds
 returns-32 c =
     let a = c .before .before .before .before .before .before .before .args in
-    (λ S cs same other flagless h. puts-base S cs (a .threads) (a .step) (a .a) (a .b) (a .kind) 39 same (c .before .before .before .before .match .keys32) (c .before .before .put-constant .ensures .0 (placeOf (a .slots .now))), c .before .before .put-constant .ensures .1)
+    (λ S cs same other flagless h. puts-base S cs (a .threads) (a .step) (a .a) (a .b) (a .kind) (kindNumber wordOne) same (c .before .before .before .before .match .keys32) (c .before .before .put-constant .ensures .0 (placeOf (a .slots .now))), c .before .before .put-constant .ensures .1)
 
 same-length-13 : tie.Need-same-length-13
 same-length-13 c = search needs
@@ -359,9 +359,9 @@ put-base-spec =
     put-none-requires-2
     put-joined-requires
     put-none-requires-3
-    put-may-requires
+    put-may-execute-requires
     put-none-before-requires
-    put-fit-requires
+    put-permitted-first-requires
     put-none-requires-4
     put-none-requires-5
     put-previous-requires

@@ -1,6 +1,6 @@
 -- `encoder_flags::each_flag` meets its contract. Assumes nothing.
-use Rattle.set_index.specs.Held.{StandsFrom}
-use Rattle.set_index.specs.Tables.{JumpsOf}
+use Rattle.set_index.specs.StatementRecords.{Stands}
+use Rattle.set_index.specs.ListTables.{JumpsOf}
 use Rattle.encoder_slots.proofs.Entries.{row-others}
 use Rattle.encoder_slots.proofs.Pieces.{writes-row, writes-more, below-after}
 use Rattle.encoder_slots.specs.Pieces.{Writes}
@@ -24,7 +24,7 @@ use Rattle.encoder_flags.proofs.each_flag.Tie as tie
 abbrev Inv-loop : tie.InvT-loop
 Inv-loop set first lists slots₀ out₀ t count n executes no' next₀ j₀ slots out next j =
     (j ≤ count) × (next ≤ n + 36 * j) × (length out ≡ length out₀) × (length slots ≡ length slots₀)
-    × ((S : Set) (cs : List ℕ) (k : ℕ) → count ≡ S .count t → JumpsOf S t count lists → StandsFrom S set t first count
+    × ((S : Set) (cs : List ℕ) (k : ℕ) → JumpsOf S t count lists → Stands S set first count t
     → length slots₀ ≡ size → ((s : Slot) → placeOf slots₀ s < n)
     → (Writes (upto (entry S cs k flag t) j) out₀ slots₀ n out slots next) × ((s : Slot) → placeOf slots s < next))
 
@@ -44,7 +44,7 @@ loop-holds c =
       omega arith,
       refl,
       refl,
-      λ (S : Set) (cs : List ℕ) (k : ℕ) count-is listed known all below. (writes-row (entry S cs k flag (a .t)) (now (a .out)) (now (a .slots)) (a .n), below),
+      λ (S : Set) (cs : List ℕ) (k : ℕ) listed known all below. (writes-row (entry S cs k flag (a .t)) (now (a .out)) (now (a .slots)) (a .n), below),
     )
 
 flag-requires : tie.Need-flag-requires Inv-loop μ-loop
@@ -72,12 +72,12 @@ loop-again c =
       omega arith,
       search needs,
       search needs,
-      λ (S : Set) (cs : List ℕ) (k : ℕ) count-is listed known all below.
+      λ (S : Set) (cs : List ℕ) (k : ℕ) listed known all below.
           let f = entry S cs k flag (a .t) in
-          let so-far = l .inv .4 S cs k count-is listed known all below in
+          let so-far = l .inv .4 S cs k listed known all below in
           let kept : (other : Kind) (x y : ℕ) → eqb (kindNumber other) (kindNumber flag) ≡ false → placeOf (now (a .slots)) (slot other x y) ≡ placeOf (l .slots) (slot other x y) =
           λ other x y apart. sym (row-others S cs k flag (a .t) other x y apart (l .j) (now (a .out)) (now (a .slots)) (a .n) (l .out) (l .slots) (l .next) (so-far .0)) in
-          let w = r .ensures .0 S cs k count-is listed known (choice-place .ensures ∙ kept choice 0 (a .t) refl) (no-place .ensures ∙ kept bitZero 0 0 refl) (l .inv .3 ∙ all) (so-far .1) in
+          let w = r .ensures .0 S cs k listed known (choice-place .ensures ∙ kept choice 0 (a .t) refl) (no-place .ensures ∙ kept bitZero 0 0 refl) (l .inv .3 ∙ all) (so-far .1) in
           (writes-more f (l .j) (now (a .out)) (now (a .slots)) (a .n) _ _ _ _ _ _ (so-far .0) w, below-after (f (l .j)) _ _ _ _ _ _ w (so-far .1)),
     )
 
@@ -93,9 +93,9 @@ returns c =
     let l = c .before .loop in
     let few = c .before .before .before .before .before .before .before .before .before .before .pre .1 in
     let j-is : l .j ≡ a .count = omega arith in (
-      λ (S : Set) (cs : List ℕ) (k : ℕ) count-is listed known all below.
+      λ (S : Set) (cs : List ℕ) (k : ℕ) listed known all below.
           subst (λ (i : ℕ). Writes (upto (entry S cs k flag (a .t)) i) (now (a .out)) (now (a .slots)) (a .n) (l .out) (l .slots) (l .next))
-          (j-is ∙ count-is) (l .inv .4 S cs k count-is listed known all below .0),
+          (j-is ∙ sym (known .countIs)) (l .inv .4 S cs k listed known all below .0),
       omega arith,
     )
 

@@ -16,6 +16,7 @@ use denote.Ref.{now}
 use borrow.Author.Needs.{needs}
 use Rattle.encoder_flags.proofs.flag.Statement.{statement}
 use Rattle.encoder_flags.proofs.flag.Tie as tie
+use Rattle.table.specs.Repeats.{lastIndex}
 
 add-statement-at : tie.Need-add-statement-at
 add-statement-at c = search needs
@@ -47,19 +48,19 @@ returns c =
     let a = c .before .before .before .before .before .before .before .before .before .before .before .before .before .before .before .before .before .before .before .before .args in
     let q = c .before .before .before .before .before .before .before .before .before .before .before .before .before .before .before .before .before .before .before .before .pre in
     let within = q .2 in
-    let room : a .n ≤ 2000000000 = let p = q .4 in omega arith in
+    let room : a .n ≤ lastIndex = let p = q .4 in omega arith in
     let g = c .before .before .before .before .before .before .before .before .before .before .before .before .put-flag in
     let s = c .before .before .before .before .before .before .before .before .before .before .before .before .before .before .before .statement-at in
     let r = c .before .before .before .before .before .before .flag-links in
     let p = c .before .before .set-place .ensures in
     let most = g .ensures .1 in
     let links = r .ensures .1 in (
-      λ (S : Set) (cs : List ℕ) (k : ℕ) count-is listed known executes-is no-is all below.
+      λ (S : Set) (cs : List ℕ) (k : ℕ) listed known executes-is no-is all below.
           let places = placeOf (now (a .slots)) in
-          let put = g .ensures .0 S cs k (s .ensures ∙ sym (known (a .j) (omega arith))) executes-is no-is room in
+          let put = g .ensures .0 S cs k (s .ensures ∙ sym (known .statementIs (a .j) (omega arith))) executes-is no-is room in
           let w : WritesTree places (treeOf S cs k flag (a .t) (a .j)) (now (a .out)) (a .n) _ (r .result .next) (r .result .at) =
-          flag-chained S cs k (a .t) (a .j) (a .count) count-is places (now (a .out)) (a .n) _ (r .result .next) (r .result .at)
-          (r .ensures .0 S (base S cs k flag (a .t) (a .j)) (now (a .out)) (a .n) listed known
+          flag-chained S cs k (a .t) (a .j) (a .count) (sym (known .countIs)) places (now (a .out)) (a .n) _ (r .result .next) (r .result .at)
+          (r .ensures .0 S (base S cs k flag (a .t) (a .j)) (now (a .out)) (a .n) listed (known .statementIs)
           (put-written (g .result) places (a .n) (base S cs k flag (a .t) (a .j)) (now (a .out)) _ put)) in
           let small : r .result .at < 4294967295 =
           let i = inside places (treeOf S cs k flag (a .t) (a .j)) (a .n) below in

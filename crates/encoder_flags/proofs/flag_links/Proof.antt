@@ -15,6 +15,7 @@ use lib.ListN.{getD}
 use borrow.Author.Needs.{needs}
 use Rattle.encoder_flags.proofs.flag_links.Statement.{statement}
 use Rattle.encoder_flags.proofs.flag_links.Tie as tie
+use Rattle.table.specs.Repeats.{lastIndex}
 
 first-requires : tie.Need-first-requires
 first-requires c κs = search needs
@@ -63,7 +64,7 @@ returns-2 c =
     let few = q .1 in
     let jump = c .before .before .before .before .before .before .before .before .first .ensures in
     let left = c .before .before .before .before .before .before .before .if1 .left in
-    let room : a .n ≤ 2000000000 = omega arith in (
+    let room : a .n ≤ lastIndex = omega arith in (
       λ (S : Set) (tree : Term) (start : List ℕ) (m : ℕ) listed known w.
           let unnamed = jumps-unnamed S (a .t) (a .count) (a .j) (omega arith) few (now (a .lists)) listed (λ (e : getD (now (a .lists)) (160 + 32 * a .t + a .j) 0 < 32). omega arith) in
           let places = placeOf (now (a .slots)) in

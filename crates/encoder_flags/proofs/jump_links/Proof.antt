@@ -9,12 +9,13 @@ use mathlib.Core.Path.{_≡_, sym, _∙_, subst}
 use mathlib.Core.List.{List, []}
 use native.Mathlib.Omega.{arith}
 use denote.Ref.{now}
-use Rattle.set_index.specs.Tables.{JumpsOf}
+use Rattle.set_index.specs.ListTables.{JumpsOf}
 use Rattle.encoder_flags.specs.Named.{NamedFirst}
 use Rattle.encoder_flags.proofs.Lists.{named-past, past-ahead}
 use borrow.Author.Needs.{needs}
 use Rattle.encoder_flags.proofs.jump_links.Statement.{statement}
 use Rattle.encoder_flags.proofs.jump_links.Tie as tie
+use Rattle.table.specs.Repeats.{lastIndex}
 
 -- the first jump that names j
 heads : (c : tie.After-first) → let a = c .before .before .before .before .before .args in
@@ -79,8 +80,13 @@ named-links-requires-3 c κs =
     let few = q .1 in
     let inside = q .2 in
     let small = q .3 in
-    let most = c .before .before .before .before .before .before .before .before .before .before .named-links2 .ensures .2 in
+    let j = c .before .before .before .before .before .before .before .before .before .before .before .before .before .before .before .before .before .before .args .j in
+    let earlier = c .before .before .before .before .before .before .before .before .before .before .named-links2 in
+    let due = earlier .ensures .1 in
+    let most = earlier .ensures .2 in
     let one = c .before .before .before .before .put-link .ensures .1 in
+    let g = c .before .past in
+    let ahead = past-ahead (j - 1) (earlier .result .hit) (g .result) _ (omega arith) (g .ensures .0) (g .ensures .1) in
     (q .0, q .1, omega arith, q .4)
 
 same-length-2 : tie.Need-same-length-2
@@ -104,7 +110,7 @@ returns-2 c =
     let one = p .ensures .1 in
     let rest = later .ensures .2 in
     let ahead = past-ahead (a .j - 1) (earlier .result .hit) (g .result) _ (omega arith) (g .ensures .0) (g .ensures .1) in
-    let room : earlier .result .tree .next ≤ 2000000000 = omega arith in (
+    let room : earlier .result .tree .next ≤ lastIndex = omega arith in (
       λ (S : Set) (tree : Term) (start : List ℕ) (m : ℕ) listed known w.
           let places = placeOf (now (a .slots)) in
           let links = leads S [] 0 (a .t) (a .j) in

@@ -1,5 +1,5 @@
 -- `encoder_flags::named_links` meets its contract. Assumes nothing.
-use Rattle.set_index.specs.Held.{StandsFrom}
+use Rattle.set_index.specs.StatementRecords.{StandsFrom}
 use Rattle.set_index.specs.Members.{namesTarget}
 use Rattle.encoder_slots.specs.Pieces.{WritesTree}
 use Rattle.encoder_slots.specs.Places.{placeOf}
@@ -14,13 +14,14 @@ use mathlib.Core.List.{List, []}
 use native.Mathlib.Omega.{arith}
 use denote.Ref.{now}
 use lib.ListN.{length}
-use Rattle.set_index.specs.Tables.{JumpsOf}
+use Rattle.set_index.specs.ListTables.{JumpsOf}
 use Rattle.set_index.proofs.Making.{onward-after}
 use Rattle.encoder_flags.specs.Named.{NamedFirst}
 use Rattle.encoder_flags.proofs.Written.{Reached, reached-more, reached-all}
 use borrow.Author.Needs.{needs}
 use Rattle.encoder_flags.proofs.named_links.Statement.{statement}
 use Rattle.encoder_flags.proofs.named_links.Tie as tie
+use Rattle.table.specs.Repeats.{lastIndex}
 
 abbrev Inv-loop : tie.InvT-loop
 Inv-loop set first lists slots out₀ t hit end n base tree₀ i₀ out tree i =
@@ -92,7 +93,7 @@ loop-again c =
     let one = p .ensures .1 in
     let started = l .inv .0 in
     let so-far = l .inv .1 going in
-    let room : l .tree .next ≤ 2000000000 = let n = q .2 in omega arith in (
+    let room : l .tree .next ≤ lastIndex = let n = q .2 in omega arith in (
       omega arith,
       λ more. omega arith,
       omega arith,

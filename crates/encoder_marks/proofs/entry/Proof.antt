@@ -1,11 +1,11 @@
 -- `encoder_marks::entry` meets its contract. Assumes nothing.
 use Rattle.encoder_marks.specs.Marked.{marked}
 use Rattle.encoder_marks.proofs.Marked.{marked-known, marked-kept, raised-written, mark-written}
-use Rattle.encoder_slots.specs.Pieces.{WritesTree}
+use Rattle.encoder_slots.specs.Pieces.{WritesTree, Ready}
 use Rattle.encoder_slots.specs.Places.{placeOf}
 use Rattle.encoder_slots.proofs.Entries.{entry-none, entry-kept, treeOf}
 use Rattle.encoder_slots.proofs.Rows.{width-least}
-use Rattle.set_index.specs.Tables.{ListTable}
+use Rattle.set_index.specs.ListTables.{ListTable}
 use Rattle.encoder_bases.proofs.Given.{put-written}
 use Rattle.encoding.specs.Steps.{base, shape, kept}
 use Rattle.encoding.specs.Slots.{kindAt}
@@ -64,19 +64,19 @@ returns c =
     let most = g .ensures .1 in
     let r = c .before .before .before .before .before .before .raised-chain in
     let links = r .ensures .1 in (
-      λ (S : Set) (cs : List ℕ) threads is inside-row inside-column k all below.
+      λ (S : Set) (cs members : List ℕ) threads is inside-row inside-column (ready : Ready S cs members (now (a .table)) (now (a .slots)) (a .n)).
           let bare = base S cs (a .step) (kindAt (a .kind)) (a .t) (a .p) in
           let put = put-written (g .result) places (a .n) bare (now (a .out)) _ (g .ensures .0 S cs threads is (omega arith)) in
           let w : WritesTree places (treeOf S cs (a .step) (kindAt (a .kind)) (a .t) (a .p)) (now (a .out)) (a .n) _ (r .result .next) (r .result .at) =
           raised-written S cs (a .step) (a .t) (a .p) places (now (a .out)) (a .n) _ (r .result .next) (r .result .at) (a .kind) (c .before .before .before .before .before .before .before .before .before .if2 .taken)
-          (r .ensures .0 S cs bare (now (a .out)) (a .n) inside-row inside-column (omega arith) all k put) in
+          (r .ensures .0 S cs bare (now (a .out)) (a .n) inside-row inside-column (omega arith) (ready .allPlaces) (ready .byName) put) in
           let small : r .result .at < 4294967295 =
-          let i = inside places (treeOf S cs (a .step) (kindAt (a .kind)) (a .t) (a .p)) (a .n) below in
+          let i = inside places (treeOf S cs (a .step) (kindAt (a .kind)) (a .t) (a .p)) (a .n) (ready .below) in
           let e = w .treeRoot in
           let f = w .treeNext in
           omega arith in
           entry-kept S cs (a .step) (kindAt (a .kind)) (a .t) (a .p) (now (a .out)) (now (a .slots)) (a .n) _ _ (r .result .next) (r .result .at)
-          (there (c .before .before .before .before .before .before .before .before .before .before .before .before .before .before .before .before .before) S cs is inside-row inside-column k ∙ c .before .before .before .before .before .before .before .before .before .before .before .before .before .before .before .before .if1 .taken) w (p .1 all (marked-known (a .kind) is) (q .1) (omega arith) small) (p .0),
+          (there (c .before .before .before .before .before .before .before .before .before .before .before .before .before .before .before .before .before) S cs is inside-row inside-column (ready .byName) ∙ c .before .before .before .before .before .before .before .before .before .before .before .before .before .before .before .before .if1 .taken) w (p .1 (ready .allPlaces) (marked-known (a .kind) is) (q .1) (omega arith) small) (p .0),
       omega arith,
     )
 
@@ -100,27 +100,27 @@ returns-2 c =
     let g = c .before .before .before .before .before .before .before .before .put-marked in
     let p = c .before .before .set-place2 .ensures in
     let most = g .ensures .1 in (
-      λ (S : Set) (cs : List ℕ) threads is inside-row inside-column k all below.
+      λ (S : Set) (cs members : List ℕ) threads is inside-row inside-column (ready : Ready S cs members (now (a .table)) (now (a .slots)) (a .n)).
           let bare = base S cs (a .step) (kindAt (a .kind)) (a .t) (a .p) in
           let put = put-written (g .result) places (a .n) bare (now (a .out)) _ (g .ensures .0 S cs threads is (omega arith)) in
           let w : WritesTree places (treeOf S cs (a .step) (kindAt (a .kind)) (a .t) (a .p)) (now (a .out)) (a .n) _ (a .n + g .result .count) (g .result .root) =
           mark-written S cs (a .step) (a .t) (a .p) places (now (a .out)) (a .n) _ (a .n + g .result .count) (g .result .root) (a .kind) is (c .before .before .before .before .if2 .left) put in
           let small : g .result .root < 4294967295 =
-          let i = inside places (treeOf S cs (a .step) (kindAt (a .kind)) (a .t) (a .p)) (a .n) below in
+          let i = inside places (treeOf S cs (a .step) (kindAt (a .kind)) (a .t) (a .p)) (a .n) (ready .below) in
           let e = w .treeRoot in
           let f = w .treeNext in
           omega arith in
           entry-kept S cs (a .step) (kindAt (a .kind)) (a .t) (a .p) (now (a .out)) (now (a .slots)) (a .n) _ _ (a .n + g .result .count) (g .result .root)
-          (there (c .before .before .before .before .before .before .before .before .before .before .before .before) S cs is inside-row inside-column k ∙ c .before .before .before .before .before .before .before .before .before .before .before .if1 .taken) w (p .1 all (marked-known (a .kind) is) (q .1) (omega arith) small) (p .0),
+          (there (c .before .before .before .before .before .before .before .before .before .before .before .before) S cs is inside-row inside-column (ready .byName) ∙ c .before .before .before .before .before .before .before .before .before .before .before .if1 .taken) w (p .1 (ready .allPlaces) (marked-known (a .kind) is) (q .1) (omega arith) small) (p .0),
       omega arith,
     )
 
 returns-3 : tie.Need-returns-3
 returns-3 c =
     let a = c .before .before .before .before .before .args in (
-      λ (S : Set) (cs : List ℕ) threads is inside-row inside-column k all below.
+      λ (S : Set) (cs members : List ℕ) threads is inside-row inside-column (ready : Ready S cs members (now (a .table)) (now (a .slots)) (a .n)).
           entry-none S cs (a .step) (kindAt (a .kind)) (a .t) (a .p) (now (a .out)) (now (a .slots)) (a .n)
-          (there (c .before) S cs is inside-row inside-column k ∙ c .if1 .left),
+          (there (c .before) S cs is inside-row inside-column (ready .byName) ∙ c .if1 .left),
       omega arith,
     )
 

@@ -1,12 +1,11 @@
 -- `encoder_marks::line` meets its contract. Assumes nothing.
-use Rattle.encoder_slots.specs.Pieces.{Writes}
-use Rattle.encoder_slots.specs.Places.{placeOf, size}
-use Rattle.encoder_slots.proofs.Pieces.{writes-row, writes-more, below-after}
-use Rattle.set_index.specs.Tables.{ListTable}
+use Rattle.encoder_slots.specs.Pieces.{Writes, Ready}
+use Rattle.encoder_slots.proofs.Ready.{ready-entry}
+use Rattle.encoder_slots.proofs.Pieces.{writes-row, writes-more}
 use Rattle.encoder_marks.specs.Marked.{marked}
 use Rattle.encoder_marks.proofs.Marked.{marked-columns}
 use Rattle.encoding.specs.Steps.{entry}
-use Rattle.encoding.specs.Slots.{Slot, kindAt}
+use Rattle.encoding.specs.Slots.{kindAt}
 use Rattle.table.specs.Programs.{upto}
 use Rattle.records.specs.Sets.{Set}
 use Prim.Native.Nat.{ℕ, _+_, _-_, _*_, _≤_, _<_}
@@ -23,9 +22,8 @@ use Rattle.encoder_marks.proofs.line.Tie as tie
 abbrev Inv-loop : tie.InvT-loop
 Inv-loop table slots₀ out₀ threads count step kind t n next₀ p₀ slots out next p =
     (p ≤ count) × (next ≤ n + 36 * p) × (length out ≡ length out₀) × (length slots ≡ length slots₀)
-    × ((S : Set) (cs : List ℕ) → S .threads ≡ threads → length cs ≡ count → marked kind ≡ true → t < S .threads → ListTable S cs table → length slots₀ ≡ size
-    → ((s : Slot) → placeOf slots₀ s < n)
-    → ((s : Slot) → placeOf slots s < next) × (Writes (upto (entry S cs step (kindAt kind) t) p) out₀ slots₀ n out slots next))
+    × ((S : Set) (cs members : List ℕ) → S .threads ≡ threads → length cs ≡ count → marked kind ≡ true → t < S .threads → Ready S cs members table slots₀ n
+    → (Ready S cs members table slots next) × (Writes (upto (entry S cs step (kindAt kind) t) p) out₀ slots₀ n out slots next))
 
 abbrev μ-loop : tie.MeasureT-loop
 μ-loop table slots₀ out₀ threads count step kind t n next₀ p₀ slots out next p = count - p
@@ -37,7 +35,7 @@ loop-holds c =
       omega arith,
       refl,
       refl,
-      λ (S : Set) (cs : List ℕ) threads columns is row k all below. (below, writes-row (entry S cs (a .step) (kindAt (a .kind)) (a .t)) (now (a .out)) (now (a .slots)) (a .n)),
+      λ (S : Set) (cs members : List ℕ) threads columns is row ready. (ready, writes-row (entry S cs (a .step) (kindAt (a .kind)) (a .t)) (now (a .out)) (now (a .slots)) (a .n)),
     )
 
 entry-requires : tie.Need-entry-requires Inv-loop μ-loop
@@ -65,12 +63,12 @@ loop-again c =
       omega arith,
       search needs,
       search needs,
-      λ (S : Set) (cs : List ℕ) threads (columns : length cs ≡ a .count) is row k (all : length (now (a .slots)) ≡ size) below.
+      λ (S : Set) (cs members : List ℕ) threads (columns : length cs ≡ a .count) is row (ready : Ready S cs members (now (a .table)) (now (a .slots)) (a .n)).
           let f = entry S cs (a .step) (kindAt (a .kind)) (a .t) in
-          let before = l .inv .4 S cs threads columns is row k all below in
+          let before = l .inv .4 S cs members threads columns is row ready in
           let here : l .p < length cs = omega arith in
-          let w = r .ensures .0 S cs threads is row here k (l .inv .3 ∙ all) (before .0) in
-          (below-after (f (l .p)) _ _ _ _ _ _ w (before .0), writes-more f (l .p) (now (a .out)) (now (a .slots)) (a .n) _ _ _ _ _ _ (before .1) w),
+          let w = r .ensures .0 S cs members threads is row here (before .0) in
+          (ready-entry (a .step) (kindAt (a .kind)) (a .t) (l .p) w (before .0), writes-more f (l .p) (now (a .out)) (now (a .slots)) (a .n) _ _ _ _ _ _ (before .1) w),
     )
 
 same-length : tie.Need-same-length Inv-loop μ-loop
@@ -84,10 +82,10 @@ returns c =
     let a = c .before .before .before .before .before .args in
     let few = c .before .before .before .before .before .pre .1 in
     let l = c .before .loop in (
-      (λ (S : Set) (cs : List ℕ) threads (columns : length cs ≡ a .count) is row k all below.
+      (λ (S : Set) (cs members : List ℕ) threads (columns : length cs ≡ a .count) is row ready.
           let end : l .p ≡ length cs = omega arith in
           subst (λ (j : ℕ). Writes (upto (entry S cs (a .step) (kindAt (a .kind)) (a .t)) j) (now (a .out)) (now (a .slots)) (a .n) (l .out) (l .slots) (l .next))
-          (end ∙ sym (marked-columns S cs (a .step) (a .t) (a .kind) is)) (l .inv .4 S cs threads columns is row k all below .1)),
+          (end ∙ sym (marked-columns S cs (a .step) (a .t) (a .kind) is)) (l .inv .4 S cs members threads columns is row ready .1)),
       omega arith,
     )
 

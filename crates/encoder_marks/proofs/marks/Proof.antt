@@ -1,12 +1,11 @@
 -- `encoder_marks::marks` meets its contract. Assumes nothing.
-use Rattle.encoder_slots.specs.Pieces.{Writes}
-use Rattle.encoder_slots.specs.Places.{placeOf, size}
-use Rattle.encoder_slots.proofs.Pieces.{writes-row, writes-more, below-after}
-use Rattle.set_index.specs.Tables.{ListTable}
+use Rattle.encoder_slots.specs.Pieces.{Writes, Ready, blockRoom}
+use Rattle.encoder_slots.proofs.Ready.{ready-line}
+use Rattle.encoder_slots.proofs.Pieces.{writes-row, writes-more}
 use Rattle.encoder_marks.specs.Marked.{marked}
 use Rattle.encoder_marks.proofs.Marked.{marked-rows}
 use Rattle.encoding.specs.Steps.{line}
-use Rattle.encoding.specs.Slots.{Slot, kindAt}
+use Rattle.encoding.specs.Slots.{kindAt}
 use Rattle.table.specs.Programs.{upto}
 use Rattle.records.specs.Sets.{Set}
 use Prim.Native.Nat.{ℕ, _+_, _-_, _*_, _≤_, _<_}
@@ -19,12 +18,13 @@ use denote.Ref.{now}
 use borrow.Author.Needs.{needs}
 use Rattle.encoder_marks.proofs.marks.Statement.{statement}
 use Rattle.encoder_marks.proofs.marks.Tie as tie
+use Rattle.table.specs.Repeats.{lastIndex}
 
 abbrev Inv-loop : tie.InvT-loop
 Inv-loop table slots₀ out₀ threads count step kind n next₀ t₀ slots out next t =
-    (t ≤ threads) × (threads ≤ 4) × (count ≤ 8) × (n ≤ 1600000000) × (next ≤ n + 288 * t) × (length out ≡ length out₀) × (length slots ≡ length slots₀)
-    × ((S : Set) (cs : List ℕ) → S .threads ≡ threads → length cs ≡ count → marked kind ≡ true → ListTable S cs table → length slots₀ ≡ size → ((s : Slot) → placeOf slots₀ s < n)
-    → ((s : Slot) → placeOf slots s < next) × (Writes (upto (line S cs step (kindAt kind)) t) out₀ slots₀ n out slots next))
+    (t ≤ threads) × (threads ≤ 4) × (count ≤ 8) × (n + blockRoom ≤ lastIndex) × (next ≤ n + 288 * t) × (length out ≡ length out₀) × (length slots ≡ length slots₀)
+    × ((S : Set) (cs members : List ℕ) → S .threads ≡ threads → length cs ≡ count → marked kind ≡ true → Ready S cs members table slots₀ n
+    → (Ready S cs members table slots next) × (Writes (upto (line S cs step (kindAt kind)) t) out₀ slots₀ n out slots next))
 
 abbrev μ-loop : tie.MeasureT-loop
 μ-loop table slots₀ out₀ threads count step kind n next₀ t₀ slots out next t = threads - t
@@ -32,27 +32,27 @@ abbrev μ-loop : tie.MeasureT-loop
 returns : tie.Need-returns Inv-loop μ-loop
 returns c =
     let a = c .before .before .before .before .args in
-    ((λ S cs row column is k all below (room : a .n ≤ 1600000000). absurd (omega arith)), λ (room : a .n ≤ 1600000000). omega arith)
+    ((λ S cs members row column is ready (room : a .n + blockRoom ≤ lastIndex). absurd (omega arith)), omega arith)
 
 returns-2 : tie.Need-returns-2 Inv-loop μ-loop
 returns-2 c =
     let a = c .before .before .before .before .before .args in
-    ((λ S cs row column is k all below room. absurd (c .if2 .taken all)), λ room. omega arith)
+    ((λ (S : Set) (cs members : List ℕ) row column is (ready : Ready S cs members (now (a .table)) (now (a .slots)) (a .n)) room. absurd (c .if2 .taken (ready .allPlaces))), omega arith)
 
 returns-3 : tie.Need-returns-3 Inv-loop μ-loop
 returns-3 c =
     let a = c .before .before .before .before .before .before .args in
-    ((λ (S : Set) (cs : List ℕ) row column is (k : ListTable S cs (now (a .table))) all below room. absurd (c .if3 .taken (k .whole))), λ room. omega arith)
+    ((λ (S : Set) (cs members : List ℕ) row column is (ready : Ready S cs members (now (a .table)) (now (a .slots)) (a .n)) room. absurd (c .if3 .taken (ready .byName .whole))), omega arith)
 
 returns-4 : tie.Need-returns-4 Inv-loop μ-loop
 returns-4 c =
     let a = c .before .before .before .before .before .before .before .args in
-    ((λ (S : Set) (cs : List ℕ) (row : S .threads ≡ a .threads) column is (k : ListTable S cs (now (a .table))) all below room. let four = k .fourThreads in absurd (omega arith)), λ room. omega arith)
+    ((λ (S : Set) (cs members : List ℕ) (row : S .threads ≡ a .threads) column is (ready : Ready S cs members (now (a .table)) (now (a .slots)) (a .n)) room. let four = ready .byName .fourThreads in absurd (omega arith)), omega arith)
 
 returns-5 : tie.Need-returns-5 Inv-loop μ-loop
 returns-5 c =
     let a = c .before .before .before .before .before .before .before .before .args in
-    ((λ (S : Set) (cs : List ℕ) row (column : length cs ≡ a .count) is (k : ListTable S cs (now (a .table))) all below room. let eight = k .eightPoints in absurd (omega arith)), λ room. omega arith)
+    ((λ (S : Set) (cs members : List ℕ) row (column : length cs ≡ a .count) is (ready : Ready S cs members (now (a .table)) (now (a .slots)) (a .n)) room. let eight = ready .byName .eightPoints in absurd (omega arith)), omega arith)
 
 loop-holds : tie.Need-loop-holds Inv-loop μ-loop
 loop-holds c =
@@ -67,7 +67,7 @@ loop-holds c =
       omega arith,
       refl,
       refl,
-      λ (S : Set) (cs : List ℕ) row column is k all below. (below, writes-row (line S cs (a .step) (kindAt (a .kind))) (now (a .out)) (now (a .slots)) (a .n)),
+      λ (S : Set) (cs members : List ℕ) row column is ready. (ready, writes-row (line S cs (a .step) (kindAt (a .kind))) (now (a .out)) (now (a .slots)) (a .n)),
     )
 
 line-requires : tie.Need-line-requires Inv-loop μ-loop
@@ -95,12 +95,12 @@ loop-again c =
       omega arith,
       search needs,
       search needs,
-      λ (S : Set) (cs : List ℕ) (row : S .threads ≡ a .threads) (column : length cs ≡ a .count) is (k : ListTable S cs (now (a .table))) (all : length (now (a .slots)) ≡ size) below.
+      λ (S : Set) (cs members : List ℕ) (row : S .threads ≡ a .threads) (column : length cs ≡ a .count) is (ready : Ready S cs members (now (a .table)) (now (a .slots)) (a .n)).
           let f = line S cs (a .step) (kindAt (a .kind)) in
-          let before = l .inv .7 S cs row column is k all below in
+          let before = l .inv .7 S cs members row column is ready in
           let here : l .t < S .threads = omega arith in
-          let w = r .ensures .0 S cs row column is here k (l .inv .6 ∙ all) (before .0) in
-          (below-after (f (l .t)) _ _ _ _ _ _ w (before .0), writes-more f (l .t) (now (a .out)) (now (a .slots)) (a .n) _ _ _ _ _ _ (before .1) w),
+          let w = r .ensures .0 S cs members row column is here (before .0) in
+          (ready-line (a .step) (kindAt (a .kind)) (l .t) w (before .0), writes-more f (l .t) (now (a .out)) (now (a .slots)) (a .n) _ _ _ _ _ _ (before .1) w),
     )
 
 same-length : tie.Need-same-length Inv-loop μ-loop
@@ -113,10 +113,10 @@ returns-6 : tie.Need-returns-6 Inv-loop μ-loop
 returns-6 c =
     let a = c .before .before .before .before .before .before .before .before .before .before .args in
     let l = c .before .loop in (
-      (λ (S : Set) (cs : List ℕ) (row : S .threads ≡ a .threads) (column : length cs ≡ a .count) is k all below room.
+      (λ (S : Set) (cs members : List ℕ) (row : S .threads ≡ a .threads) (column : length cs ≡ a .count) is ready room.
           let end : l .t ≡ S .threads = omega arith in
-          subst (λ (j : ℕ). Writes (upto (line S cs (a .step) (kindAt (a .kind))) j) (now (a .out)) (now (a .slots)) (a .n) (l .out) (l .slots) (l .next)) (end ∙ sym (marked-rows S cs (a .step) (a .kind) is)) (l .inv .7 S cs row column is k all below .1)),
-      λ room. omega arith,
+          subst (λ (j : ℕ). Writes (upto (line S cs (a .step) (kindAt (a .kind))) j) (now (a .out)) (now (a .slots)) (a .n) (l .out) (l .slots) (l .next)) (end ∙ sym (marked-rows S cs (a .step) (a .kind) is)) (l .inv .7 S cs members row column is ready .1)),
+      omega arith,
     )
 
 pub marks-spec : {M : Type 1} → statement M

@@ -1,16 +1,15 @@
 -- `encoder_marks::opening` meets its contract. Assumes nothing.
-use Rattle.encoder_slots.specs.Pieces.{WritesTree}
-use Rattle.encoder_slots.specs.Places.{placeOf, size}
+use Rattle.encoder_slots.specs.Pieces.{WritesTree, Ready}
+use Rattle.encoder_slots.specs.Places.{placeOf}
 use Rattle.encoder_slots.proofs.Entries.{entry-kept, treeOf}
 use Rattle.encoder_bases.proofs.Given.{put-written}
 use Rattle.encoding.specs.Steps.{base}
-use Rattle.encoding.specs.Slots.{Slot, kinds, opening}
+use Rattle.encoding.specs.Slots.{kinds, opening}
 use Rattle.table.proofs.Sequences.{inside}
 use Rattle.records.specs.Sets.{Set}
 use Prim.Native.Nat.{ℕ, _<_}
-use mathlib.Core.Path.{_≡_, refl}
+use mathlib.Core.Path.{refl}
 use mathlib.Core.List.{List}
-use lib.ListN.{length}
 use native.Mathlib.Omega.{arith}
 use denote.Ref.{now}
 use borrow.Author.Needs.{needs}
@@ -48,18 +47,18 @@ returns c =
     let p = c .before .before .set-place .ensures in
     let most = g .ensures .1 in
     let links = r .ensures .1 in (
-      λ (S : Set) (cs : List ℕ) row column k (all : length (now (a .slots)) ≡ size) (below : (s : Slot) → placeOf (now (a .slots)) s < a .n).
+      λ (S : Set) (cs members : List ℕ) row column (ready : Ready S cs members (now (a .table)) (now (a .slots)) (a .n)).
           let put = g .ensures .0 S cs row refl (λ e. absurd (omega arith)) (omega arith) in
           let w : WritesTree places (treeOf S cs (a .step) opening 0 (a .p)) (now (a .out)) (a .n) _ (r .result .next) (r .result .at) =
-          r .ensures .0 S cs (base S cs (a .step) opening 0 (a .p)) (now (a .out)) (a .n) row column (omega arith) all k
+          r .ensures .0 S cs (base S cs (a .step) opening 0 (a .p)) (now (a .out)) (a .n) row column (omega arith) (ready .allPlaces) (ready .byName)
           (put-written (g .result) places (a .n) (base S cs (a .step) opening 0 (a .p)) (now (a .out)) _ put) in
           let small : r .result .at < 4294967295 =
-          let i = inside places (treeOf S cs (a .step) opening 0 (a .p)) (a .n) below in
+          let i = inside places (treeOf S cs (a .step) opening 0 (a .p)) (a .n) (ready .below) in
           let e = w .treeRoot in
           let f = w .treeNext in
           omega arith in
           entry-kept S cs (a .step) opening 0 (a .p) (now (a .out)) (now (a .slots)) (a .n) _ _ (r .result .next) (r .result .at) refl w
-          (p .1 all (omega arith) (omega arith) (omega arith) small) (p .0),
+          (p .1 (ready .allPlaces) (omega arith) (omega arith) (omega arith) small) (p .0),
       omega arith,
     )
 

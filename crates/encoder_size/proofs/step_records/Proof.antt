@@ -69,7 +69,7 @@ returns c =
     let e = l .inv .1 ∙ ap (total (threadRecords S cs)) t-is in
     let p = c .points-count .ensures in
     let r : l .n + c .points-count .result + 5 ≡ stepRecords S cs = omega arith in
-    (λ (m k : ℕ). step-size S cs k m ∙ ap (λ (n : ℕ). m + n) (sym r), λ four most. let i = l .inv .3 most in omega arith, omega arith)
+    (λ (m k : ℕ). step-size S cs k m ∙ ap (λ (n : ℕ). m + n) (sym r), λ limits. let four = limits .fourThreads in let i = l .inv .3 (limits .fewStatements) in omega arith, omega arith)
 
 pub step-records-spec : {M : Type 1} → statement M
 step-records-spec =

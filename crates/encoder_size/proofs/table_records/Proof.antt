@@ -54,9 +54,9 @@ returns c =
     let all = c .all-statements .ensures .0 in
     let size = table-size S cs map (a .bound) in (
       omega arith,
-      λ four few short low.
-          let t = c .before .step-records .ensures .1 four few in
-          let u = c .all-statements .ensures .1 four few in
+      λ limits short low.
+          let t = c .before .step-records .ensures .1 limits in
+          let u = c .all-statements .ensures .1 limits in
           let most : a .bound * r ≤ 64 * 3273 = mul-le-mul low t in
           omega arith,
     )

@@ -5,15 +5,16 @@ use native.Mathlib.Omega.{arith}
 use lib.ListN.{length}
 use denote.Ref.{now}
 use borrow.Author.Needs.{needs}
-use Rattle.encoding.specs.Slots.{kinds, choice}
+use Rattle.encoding.specs.Slots.{kinds, choice, kindNumber, active}
 use Rattle.encoder_statements.proofs.Values.{Row, row-none, row-more, row-line}
 use Rattle.encoder_statements.proofs.actives.Statement.{statement}
 use Rattle.encoder_statements.proofs.actives.Tie as tie
+use Rattle.table.specs.Repeats.{lastIndex}
 
 abbrev Inv-loop : tie.InvT-loop
 Inv-loop set first count slots₀ out₀ t n executes next₀ i₀ slots out next i =
     (i ≤ count) × (next ≤ n + 4 * i) × (length out ≡ length out₀) × (length slots ≡ length slots₀)
-    × (Row 1 set first count t i out₀ slots₀ n out slots next)
+    × (Row (kindNumber active) set first count t i out₀ slots₀ n out slots next)
 
 abbrev μ-loop : tie.MeasureT-loop
 μ-loop set first count slots₀ out₀ t n executes next₀ i₀ slots out next i = count - i
@@ -24,7 +25,7 @@ place-requires c κs = search needs
 loop-holds : tie.Need-loop-holds Inv-loop μ-loop
 loop-holds c =
     let a = c .before .before .before .before .before .args in
-    (omega arith, omega arith, refl, refl, row-none 1 (now (a .set)) (a .first) (a .count) (a .t) (now (a .out)) (now (a .slots)) (a .n))
+    (omega arith, omega arith, refl, refl, row-none (kindNumber active) (now (a .set)) (a .first) (a .count) (a .t) (now (a .out)) (now (a .slots)) (a .n))
 
 put-active-requires : tie.Need-put-active-requires Inv-loop μ-loop
 put-active-requires c κs = search needs
@@ -48,12 +49,12 @@ loop-again c =
     let put = c .before .before .before .before .before .before .put-active in
     let settled = c .before .before .settle in
     let small : l .i < 32 = let few = q .0 in omega arith in
-    let room : l .next ≤ 2000000000 = let few = q .0 in let h = q .2 in let m = l .inv .1 in omega arith in (
+    let room : l .next ≤ lastIndex = let few = q .0 in let h = q .2 in let m = l .inv .1 in omega arith in (
       omega arith,
       (let m = settled .ensures .2 in let h = l .inv .1 in omega arith),
       search needs,
       search needs,
-      row-more 1 (now (a .set)) (a .first) (a .count) (a .t) (now (a .out)) (now (a .slots)) (a .n) (l .i) (l .out) (l .slots) (l .next) _ _ _ (l .inv .4)
+      row-more (kindNumber active) (now (a .set)) (a .first) (a .count) (a .t) (now (a .out)) (now (a .slots)) (a .n) (l .i) (l .out) (l .slots) (l .next) _ _ _ (l .inv .4)
           (λ S cs k stands below others. settled .ensures .0 S cs k (l .out) _ (omega arith) refl (q .1) small (l .inv .3 ∙ q .3) below
           (put .ensures .0 (lies ∙ others choice 0 (a .t) refl) room)),
     )
@@ -71,7 +72,7 @@ returns c =
     let few = c .before .before .before .before .before .before .before .pre .0 in
     let l = c .before .loop in
     let all : l .i ≡ a .count = omega arith in (
-      row-line 1 (now (a .set)) (a .first) (a .count) (a .t) (now (a .out)) (now (a .slots)) (a .n) (omega arith) refl (l .i) all (l .out) (l .slots) (l .next) (l .inv .4),
+      row-line (kindNumber active) (now (a .set)) (a .first) (a .count) (a .t) (now (a .out)) (now (a .slots)) (a .n) (omega arith) refl (l .i) all (l .out) (l .slots) (l .next) (l .inv .4),
       (let m = l .inv .1 in omega arith),
     )
 

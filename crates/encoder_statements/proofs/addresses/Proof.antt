@@ -5,15 +5,16 @@ use native.Mathlib.Omega.{arith}
 use lib.ListN.{length}
 use denote.Ref.{now}
 use borrow.Author.Needs.{needs}
-use Rattle.encoding.specs.Slots.{kinds, full, adr, val, sharedMemory}
+use Rattle.encoding.specs.Slots.{kinds, full, adr, val, sharedMemory, kindNumber, address}
 use Rattle.encoder_statements.proofs.Values.{Row, row-none, row-more, row-line}
 use Rattle.encoder_statements.proofs.addresses.Statement.{statement}
 use Rattle.encoder_statements.proofs.addresses.Tie as tie
+use Rattle.table.specs.Repeats.{lastIndex}
 
 abbrev Inv-loop : tie.InvT-loop
 Inv-loop set first count slots₀ out₀ t n load next₀ i₀ slots out next i =
     (i ≤ count) × (next ≤ n + 4 * i) × (length out ≡ length out₀) × (length slots ≡ length slots₀)
-    × (Row 11 set first count t i out₀ slots₀ n out slots next)
+    × (Row (kindNumber address) set first count t i out₀ slots₀ n out slots next)
 
 abbrev μ-loop : tie.MeasureT-loop
 μ-loop set first count slots₀ out₀ t n load next₀ i₀ slots out next i = count - i
@@ -24,7 +25,7 @@ load-of-requires c κs = search needs
 loop-holds : tie.Need-loop-holds Inv-loop μ-loop
 loop-holds c =
     let a = c .before .before .before .before .before .args in
-    (omega arith, omega arith, refl, refl, row-none 11 (now (a .set)) (a .first) (a .count) (a .t) (now (a .out)) (now (a .slots)) (a .n))
+    (omega arith, omega arith, refl, refl, row-none (kindNumber address) (now (a .set)) (a .first) (a .count) (a .t) (now (a .out)) (now (a .slots)) (a .n))
 
 cast-statement-at : tie.Need-cast-statement-at Inv-loop μ-loop
 cast-statement-at c = search needs
@@ -58,12 +59,12 @@ loop-again c =
     let settled = c .before .before .settle in
     let less : l .i < a .count = omega arith in
     let small : l .i < 32 = let few = q .0 in omega arith in
-    let room : l .next ≤ 2000000000 = let few = q .0 in let h = q .2 in let m = l .inv .1 in omega arith in (
+    let room : l .next ≤ lastIndex = let few = q .0 in let h = q .2 in let m = l .inv .1 in omega arith in (
       omega arith,
       (let m = settled .ensures .2 in let h = l .inv .1 in omega arith),
       search needs,
       search needs,
-      row-more 11 (now (a .set)) (a .first) (a .count) (a .t) (now (a .out)) (now (a .slots)) (a .n) (l .i) (l .out) (l .slots) (l .next) _ _ _ (l .inv .4)
+      row-more (kindNumber address) (now (a .set)) (a .first) (a .count) (a .t) (now (a .out)) (now (a .slots)) (a .n) (l .i) (l .out) (l .slots) (l .next) _ _ _ (l .inv .4)
           (λ S cs k stands below others. settled .ensures .0 S cs k (l .out) _ (omega arith) refl (q .1) small (l .inv .3 ∙ q .3) below
           (put .ensures .0 S cs k (c .before .before .before .before .before .before .before .before .before .statement-at .ensures ∙ sym (stands .statementIs (l .i) less))
           (found ∙ (λ z. record { full = others full (a .t) 0 refl z; adr = others adr (a .t) 0 refl z; val = others val (a .t) 0 refl z; memory = others sharedMemory 0 0 refl z })) room)),
@@ -82,7 +83,7 @@ returns c =
     let few = c .before .before .before .before .before .before .before .pre .0 in
     let l = c .before .loop in
     let all : l .i ≡ a .count = omega arith in (
-      row-line 11 (now (a .set)) (a .first) (a .count) (a .t) (now (a .out)) (now (a .slots)) (a .n) (omega arith) refl (l .i) all (l .out) (l .slots) (l .next) (l .inv .4),
+      row-line (kindNumber address) (now (a .set)) (a .first) (a .count) (a .t) (now (a .out)) (now (a .slots)) (a .n) (omega arith) refl (l .i) all (l .out) (l .slots) (l .next) (l .inv .4),
       (let m = l .inv .1 in omega arith),
     )
 

@@ -5,16 +5,17 @@ use native.Mathlib.Omega.{arith}
 use lib.ListN.{length}
 use denote.Ref.{now}
 use borrow.Author.Needs.{needs}
-use Rattle.encoding.specs.Slots.{kinds}
+use Rattle.encoding.specs.Slots.{kinds, kindNumber, argument}
 use Rattle.encoder_slots.specs.Places.{placeOf}
 use Rattle.encoder_statements.proofs.Values.{Row, row-none, row-more, row-line}
 use Rattle.encoder_statements.proofs.arguments.Statement.{statement}
 use Rattle.encoder_statements.proofs.arguments.Tie as tie
+use Rattle.table.specs.Repeats.{lastIndex}
 
 abbrev Inv-loop : tie.InvT-loop
 Inv-loop set first count slots₀ out₀ t n next₀ i₀ slots out next i =
     (i ≤ count) × (next ≤ n + 4 * i) × (length out ≡ length out₀) × (length slots ≡ length slots₀)
-    × (Row 40 set first count t i out₀ slots₀ n out slots next)
+    × (Row (kindNumber argument) set first count t i out₀ slots₀ n out slots next)
 
 abbrev μ-loop : tie.MeasureT-loop
 μ-loop set first count slots₀ out₀ t n next₀ i₀ slots out next i = count - i
@@ -22,7 +23,7 @@ abbrev μ-loop : tie.MeasureT-loop
 loop-holds : tie.Need-loop-holds Inv-loop μ-loop
 loop-holds c =
     let a = c .before .before .before .args in
-    (omega arith, omega arith, refl, refl, row-none 40 (now (a .set)) (a .first) (a .count) (a .t) (now (a .out)) (now (a .slots)) (a .n))
+    (omega arith, omega arith, refl, refl, row-none (kindNumber argument) (now (a .set)) (a .first) (a .count) (a .t) (now (a .out)) (now (a .slots)) (a .n))
 
 cast-statement-at : tie.Need-cast-statement-at Inv-loop μ-loop
 cast-statement-at c = search needs
@@ -55,12 +56,12 @@ loop-again c =
     let settled = c .before .before .settle in
     let less : l .i < a .count = omega arith in
     let small : l .i < 32 = let few = q .0 in omega arith in
-    let room : l .next ≤ 2000000000 = let few = q .0 in let h = q .2 in let m = l .inv .1 in omega arith in (
+    let room : l .next ≤ lastIndex = let few = q .0 in let h = q .2 in let m = l .inv .1 in omega arith in (
       omega arith,
       (let m = settled .ensures .2 in let h = l .inv .1 in omega arith),
       search needs,
       search needs,
-      row-more 40 (now (a .set)) (a .first) (a .count) (a .t) (now (a .out)) (now (a .slots)) (a .n) (l .i) (l .out) (l .slots) (l .next) _ _ _ (l .inv .4)
+      row-more (kindNumber argument) (now (a .set)) (a .first) (a .count) (a .t) (now (a .out)) (now (a .slots)) (a .n) (l .i) (l .out) (l .slots) (l .next) _ _ _ (l .inv .4)
           (λ S cs k stands below others. settled .ensures .0 S cs k (l .out) _ (omega arith) refl (q .1) small (l .inv .3 ∙ q .3) below
           (put .ensures .0 S (placeOf (l .slots)) cs k (a .t) (l .i) (c .before .before .before .before .before .before .before .before .statement-at .ensures ∙ sym (stands .statementIs (l .i) less)))),
     )
@@ -78,7 +79,7 @@ returns c =
     let few = c .before .before .before .before .before .pre .0 in
     let l = c .before .loop in
     let all : l .i ≡ a .count = omega arith in (
-      row-line 40 (now (a .set)) (a .first) (a .count) (a .t) (now (a .out)) (now (a .slots)) (a .n) (omega arith) refl (l .i) all (l .out) (l .slots) (l .next) (l .inv .4),
+      row-line (kindNumber argument) (now (a .set)) (a .first) (a .count) (a .t) (now (a .out)) (now (a .slots)) (a .n) (omega arith) refl (l .i) all (l .out) (l .slots) (l .next) (l .inv .4),
       (let m = l .inv .1 in omega arith),
     )
 

@@ -8,15 +8,17 @@ use denote.Ref.{now}
 use borrow.Author.Needs.{needs}
 use Rattle.base.proofs.Choice.{chosen}
 use Rattle.encoder_bases.proofs.Given.{puts-as}
-use Rattle.encoding.specs.Slots.{kinds}
+use Rattle.encoding.specs.Slots.{kinds, kindNumber, notTest}
 use Rattle.encoder_statements.proofs.Listed.{Some, some-none, some-more, some-line, rests-not-test}
 use Rattle.encoder_statements.proofs.not_tests.Statement.{statement}
 use Rattle.encoder_statements.proofs.not_tests.Tie as tie
+use Rattle.set_index.specs.Members.{conditionalClass}
+use Rattle.table.specs.Repeats.{lastIndex}
 
 abbrev Inv-loop : tie.InvT-loop
 Inv-loop members slots₀ out₀ t n next₀ not_tested j₀ slots out next j =
     (j ≤ not_tested) × (next ≤ n + 4 * j) × (length out ≡ length out₀) × (length slots ≡ length slots₀)
-    × ((set : List ℕ) (first : ℕ) → Some 16 10 set members first t j out₀ slots₀ n out slots next)
+    × ((set : List ℕ) (first : ℕ) → Some (kindNumber notTest) conditionalClass set members first t j out₀ slots₀ n out slots next)
 
 abbrev μ-loop : tie.MeasureT-loop
 μ-loop members slots₀ out₀ t n next₀ not_tested j₀ slots out next j = not_tested - j
@@ -28,7 +30,7 @@ loop-holds : tie.Need-loop-holds Inv-loop μ-loop
 loop-holds c =
     let a = c .before .before .before .before .args in
     let q = c .before .before .before .before .pre in
-    (omega arith, omega arith, refl, refl, λ set first. some-none 16 10 rests-not-test set (now (a .members)) first (a .t) (q .0) (now (a .out)) (now (a .slots)) (a .n))
+    (omega arith, omega arith, refl, refl, λ set first. some-none (kindNumber notTest) conditionalClass rests-not-test set (now (a .members)) first (a .t) (q .0) (now (a .out)) (now (a .slots)) (a .n))
 
 member-requires : tie.Need-member-requires Inv-loop μ-loop
 member-requires c κs = search needs
@@ -55,12 +57,12 @@ loop-again c =
     let named = c .before .before .before .before .before .before .before .before .before .member .ensures in
     let put = c .before .before .before .before .before .before .put-not-test in
     let settled = c .before .before .settle in
-    let room : l .next ≤ 2000000000 = let few = counted .1 in let h = q .1 in let m = l .inv .1 in omega arith in (
+    let room : l .next ≤ lastIndex = let few = counted .1 in let h = q .1 in let m = l .inv .1 in omega arith in (
       omega arith,
       (let m = settled .ensures .2 in let h = l .inv .1 in omega arith),
       search needs,
       search needs,
-      λ set first. some-more 16 10 rests-not-test set (now (a .members)) first (a .t) (q .0) (now (a .out)) (now (a .slots)) (a .n) (l .j) _ (l .out) (l .slots) (l .next) _ _ _
+      λ set first. some-more (kindNumber notTest) conditionalClass rests-not-test set (now (a .members)) first (a .t) (q .0) (now (a .out)) (now (a .slots)) (a .n) (l .j) _ (l .out) (l .slots) (l .next) _ _ _
           (λ S listed. let e = counted .0 S listed (omega arith) (q .0) in omega arith)
           (λ S listed. named S listed (omega arith) (q .0) (let e = counted .0 S listed (omega arith) (q .0) in omega arith))
           (l .inv .4 set first)
@@ -81,7 +83,7 @@ returns c =
     let q = c .before .before .before .before .before .before .pre in
     let counted = c .before .before .count-of .ensures in
     let l = c .before .loop in (
-      (λ set first. some-line 16 10 rests-not-test set (now (a .members)) first (a .t) (q .0) (now (a .out)) (now (a .slots)) (a .n) (omega arith) refl (l .j)
+      (λ set first. some-line (kindNumber notTest) conditionalClass rests-not-test set (now (a .members)) first (a .t) (q .0) (now (a .out)) (now (a .slots)) (a .n) (omega arith) refl (l .j)
           (λ S listed. let e = counted .0 S listed (omega arith) (q .0) in omega arith) (l .out) (l .slots) (l .next) (l .inv .4 set first)),
       (let few = counted .1 in let m = l .inv .1 in omega arith),
     )

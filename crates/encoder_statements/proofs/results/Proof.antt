@@ -5,15 +5,17 @@ use native.Mathlib.Omega.{arith}
 use lib.ListN.{length}
 use denote.Ref.{now}
 use borrow.Author.Needs.{needs}
-use Rattle.encoding.specs.Slots.{kinds}
+use Rattle.encoding.specs.Slots.{kinds, kindNumber, result}
 use Rattle.encoder_statements.proofs.Listed.{Some, some-none, some-more, some-line, rests-result}
 use Rattle.encoder_statements.proofs.results.Statement.{statement}
 use Rattle.encoder_statements.proofs.results.Tie as tie
+use Rattle.set_index.specs.Members.{accuClass}
+use Rattle.table.specs.Repeats.{lastIndex}
 
 abbrev Inv-loop : tie.InvT-loop
 Inv-loop set members first slots₀ out₀ t n next₀ computing j₀ slots out next j =
     (j ≤ computing) × (next ≤ n + 4 * j) × (length out ≡ length out₀) × (length slots ≡ length slots₀)
-    × (Some 14 2 set members first t j out₀ slots₀ n out slots next)
+    × (Some (kindNumber result) accuClass set members first t j out₀ slots₀ n out slots next)
 
 abbrev μ-loop : tie.MeasureT-loop
 μ-loop set members first slots₀ out₀ t n next₀ computing j₀ slots out next j = computing - j
@@ -25,7 +27,7 @@ loop-holds : tie.Need-loop-holds Inv-loop μ-loop
 loop-holds c =
     let a = c .before .before .before .before .before .args in
     let q = c .before .before .before .before .before .pre in
-    (omega arith, omega arith, refl, refl, some-none 14 2 rests-result (now (a .set)) (now (a .members)) (a .first) (a .t) (q .0) (now (a .out)) (now (a .slots)) (a .n))
+    (omega arith, omega arith, refl, refl, some-none (kindNumber result) accuClass rests-result (now (a .set)) (now (a .members)) (a .first) (a .t) (q .0) (now (a .out)) (now (a .slots)) (a .n))
 
 member-requires : tie.Need-member-requires Inv-loop μ-loop
 member-requires c κs = search needs
@@ -62,12 +64,12 @@ loop-again c =
     let read = c .before .before .before .before .before .before .before .before .before .statement-at .ensures in
     let put = c .before .before .before .before .before .before .put-result in
     let settled = c .before .before .settle in
-    let room : l .next ≤ 2000000000 = let few = counted .1 in let h = q .1 in let m = l .inv .1 in omega arith in (
+    let room : l .next ≤ lastIndex = let few = counted .1 in let h = q .1 in let m = l .inv .1 in omega arith in (
       omega arith,
       (let m = settled .ensures .2 in let h = l .inv .1 in omega arith),
       search needs,
       search needs,
-      some-more 14 2 rests-result (now (a .set)) (now (a .members)) (a .first) (a .t) (q .0) (now (a .out)) (now (a .slots)) (a .n) (l .j) _ (l .out) (l .slots) (l .next) _ _ _
+      some-more (kindNumber result) accuClass rests-result (now (a .set)) (now (a .members)) (a .first) (a .t) (q .0) (now (a .out)) (now (a .slots)) (a .n) (l .j) _ (l .out) (l .slots) (l .next) _ _ _
           (λ S listed. let e = counted .0 S listed (omega arith) (q .0) in omega arith)
           (λ S listed. named S listed (omega arith) (q .0) (let e = counted .0 S listed (omega arith) (q .0) in omega arith))
           (l .inv .4)
@@ -88,7 +90,7 @@ returns c =
     let q = c .before .before .before .before .before .before .before .pre in
     let counted = c .before .before .count-of .ensures in
     let l = c .before .loop in (
-      some-line 14 2 rests-result (now (a .set)) (now (a .members)) (a .first) (a .t) (q .0) (now (a .out)) (now (a .slots)) (a .n) (omega arith) refl (l .j)
+      some-line (kindNumber result) accuClass rests-result (now (a .set)) (now (a .members)) (a .first) (a .t) (q .0) (now (a .out)) (now (a .slots)) (a .n) (omega arith) refl (l .j)
           (λ S listed. let e = counted .0 S listed (omega arith) (q .0) in omega arith) (l .out) (l .slots) (l .next) (l .inv .4),
       (let few = counted .1 in let m = l .inv .1 in omega arith),
     )

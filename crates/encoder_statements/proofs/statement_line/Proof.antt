@@ -2,7 +2,7 @@
 use denote.Ref.{now}
 use native.Mathlib.Omega.{arith}
 use Rattle.base.proofs.Choice.{clash}
-use Rattle.encoding.specs.Slots.{kinds}
+use Rattle.encoding.specs.Slots.{kinds, kindNumber, active, address, argument, loaded, notTest, result, swaps, test}
 use Rattle.encoder_statements.proofs.Values.{line-by, statement-other}
 use Rattle.encoder_statements.proofs.Listed.{listed-by}
 use borrow.Author.Needs.{needs}
@@ -10,7 +10,7 @@ use Rattle.encoder_statements.proofs.statement_line.Statement.{statemen
 use Rattle.encoder_statements.proofs.statement_line.Tie as tie
 
 returns : tie.Need-returns
-returns c = (λ cs k of h few room full listed idle below. let e = c .if1 .taken in absurd (omega arith), λ h. omega arith)
+returns c = (λ cs lists k of h room ready. let e = c .if1 .taken in absurd (omega arith), omega arith)
 
 mul-count : tie.Need-mul-count
 mul-count c = search needs
@@ -19,16 +19,16 @@ array-read-count : tie.Need-array-read-count
 array-read-count c = search needs
 
 returns-2 : tie.Need-returns-2
-returns-2 c = (λ cs k of h few room full listed idle below. let e = c .if2 .taken in absurd (omega arith), λ h. omega arith)
+returns-2 c = (λ cs lists k of h room ready. let e = c .if2 .taken in let few = ready .byClass .few _ h in absurd (omega arith), omega arith)
 
 returns-3 : tie.Need-returns-3
-returns-3 c = (λ cs k of h few room full listed idle below. absurd (c .if3 .taken full), λ h. omega arith)
+returns-3 c = (λ cs lists k of h room ready. absurd (c .if3 .taken (ready .allPlaces)), omega arith)
 
 returns-4 : tie.Need-returns-4
-returns-4 c = (λ cs k of h few room full listed idle below. absurd (c .if4 .taken (listed .whole)), λ h. omega arith)
+returns-4 c = (λ cs lists k of h room ready. absurd (c .if4 .taken (ready .byClass .whole)), omega arith)
 
 returns-5 : tie.Need-returns-5
-returns-5 c = (λ cs k of h few room full listed idle below. let e = c .if5 .taken in absurd (omega arith), λ h. omega arith)
+returns-5 c = (λ cs lists k of h room ready. let e = c .if5 .taken in absurd (omega arith), omega arith)
 
 mul-first : tie.Need-mul-first
 mul-first c = search needs
@@ -71,8 +71,8 @@ unfolding kinds
 returns-6 c =
     let a = c .before .before .before .before .before .before .before .before .before .before .before .before .before .before .before .before .before .before .before .args in
     let line = c .before .before .before .before .actives in (
-      (λ cs k of h few room full listed idle below. line-by (now (a .set)) (a .layout) cs k (a .kind) 1 (a .t) (now (a .out)) (now (a .slots)) (a .n) _ _ _ (c .before .before .before .before .before .before .before .match .keys1) (line .ensures .0) below),
-      λ h. line .ensures .1,
+      (λ cs lists k of h room ready. line-by (now (a .set)) (a .layout) cs _ lists k (a .kind) (kindNumber active) (a .t) (now (a .out)) (now (a .slots)) (a .n) _ _ _ (c .before .before .before .before .before .before .before .match .keys1) (line .ensures .0) ready),
+      line .ensures .1,
     )
 
 same-length-3 : tie.Need-same-length-3
@@ -86,8 +86,8 @@ unfolding kinds
 returns-7 c =
     let a = c .before .before .before .before .before .before .before .before .before .before .before .before .before .before .before .before .before .before .before .args in
     let line = c .before .before .before .before .addresses in (
-      (λ cs k of h few room full listed idle below. line-by (now (a .set)) (a .layout) cs k (a .kind) 11 (a .t) (now (a .out)) (now (a .slots)) (a .n) _ _ _ (c .before .before .before .before .before .before .before .match .keys2) (line .ensures .0) below),
-      λ h. line .ensures .1,
+      (λ cs lists k of h room ready. line-by (now (a .set)) (a .layout) cs _ lists k (a .kind) (kindNumber address) (a .t) (now (a .out)) (now (a .slots)) (a .n) _ _ _ (c .before .before .before .before .before .before .before .match .keys2) (line .ensures .0) ready),
+      line .ensures .1,
     )
 
 same-length-5 : tie.Need-same-length-5
@@ -101,8 +101,8 @@ unfolding kinds
 returns-8 c =
     let a = c .before .before .before .before .before .before .before .before .before .before .before .before .before .before .before .before .before .before .before .args in
     let line = c .before .before .before .before .loads in (
-      (λ cs k of h few room full listed idle below. listed-by (now (a .set)) (a .layout) (now (a .members)) cs k (a .kind) 12 (a .t) (now (a .out)) (now (a .slots)) (a .n) _ _ _ (c .before .before .before .before .before .before .before .match .keys3) (line .ensures .0) listed idle below),
-      λ h. line .ensures .1,
+      (λ cs lists k of h room ready. listed-by (now (a .set)) (a .layout) (now (a .members)) cs lists k (a .kind) (kindNumber loaded) (a .t) (now (a .out)) (now (a .slots)) (a .n) _ _ _ (c .before .before .before .before .before .before .before .match .keys3) (line .ensures .0) ready),
+      line .ensures .1,
     )
 
 same-length-7 : tie.Need-same-length-7
@@ -116,8 +116,8 @@ unfolding kinds
 returns-9 c =
     let a = c .before .before .before .before .before .before .before .before .before .before .before .before .before .before .before .before .before .before .before .args in
     let line = c .before .before .before .before .swaps in (
-      (λ cs k of h few room full listed idle below. listed-by (now (a .set)) (a .layout) (now (a .members)) cs k (a .kind) 13 (a .t) (now (a .out)) (now (a .slots)) (a .n) _ _ _ (c .before .before .before .before .before .before .before .match .keys4) (line .ensures .0) listed idle below),
-      λ h. line .ensures .1,
+      (λ cs lists k of h room ready. listed-by (now (a .set)) (a .layout) (now (a .members)) cs lists k (a .kind) (kindNumber swaps) (a .t) (now (a .out)) (now (a .slots)) (a .n) _ _ _ (c .before .before .before .before .before .before .before .match .keys4) (line .ensures .0) ready),
+      line .ensures .1,
     )
 
 same-length-9 : tie.Need-same-length-9
@@ -131,8 +131,8 @@ unfolding kinds
 returns-10 c =
     let a = c .before .before .before .before .before .before .before .before .before .before .before .before .before .before .before .before .before .before .before .args in
     let line = c .before .before .before .before .results in (
-      (λ cs k of h few room full listed idle below. listed-by (now (a .set)) (a .layout) (now (a .members)) cs k (a .kind) 14 (a .t) (now (a .out)) (now (a .slots)) (a .n) _ _ _ (c .before .before .before .before .before .before .before .match .keys5) (line .ensures .0) listed idle below),
-      λ h. line .ensures .1,
+      (λ cs lists k of h room ready. listed-by (now (a .set)) (a .layout) (now (a .members)) cs lists k (a .kind) (kindNumber result) (a .t) (now (a .out)) (now (a .slots)) (a .n) _ _ _ (c .before .before .before .before .before .before .before .match .keys5) (line .ensures .0) ready),
+      line .ensures .1,
     )
 
 same-length-11 : tie.Need-same-length-11
@@ -146,8 +146,8 @@ unfolding kinds
 returns-11 c =
     let a = c .before .before .before .before .before .before .before .before .before .before .before .before .before .before .before .before .before .before .before .args in
     let line = c .before .before .before .before .tests in (
-      (λ cs k of h few room full listed idle below. listed-by (now (a .set)) (a .layout) (now (a .members)) cs k (a .kind) 15 (a .t) (now (a .out)) (now (a .slots)) (a .n) _ _ _ (c .before .before .before .before .before .before .before .match .keys6) (line .ensures .0) listed idle below),
-      λ h. line .ensures .1,
+      (λ cs lists k of h room ready. listed-by (now (a .set)) (a .layout) (now (a .members)) cs lists k (a .kind) (kindNumber test) (a .t) (now (a .out)) (now (a .slots)) (a .n) _ _ _ (c .before .before .before .before .before .before .before .match .keys6) (line .ensures .0) ready),
+      line .ensures .1,
     )
 
 same-length-13 : tie.Need-same-length-13
@@ -161,8 +161,8 @@ unfolding kinds
 returns-12 c =
     let a = c .before .before .before .before .before .before .before .before .before .before .before .before .before .before .before .before .before .before .before .args in
     let line = c .before .before .before .before .not-tests in (
-      (λ cs k of h few room full listed idle below. listed-by (now (a .set)) (a .layout) (now (a .members)) cs k (a .kind) 16 (a .t) (now (a .out)) (now (a .slots)) (a .n) _ _ _ (c .before .before .before .before .before .before .before .match .keys7) (line .ensures .0 _ _) listed idle below),
-      λ h. line .ensures .1,
+      (λ cs lists k of h room ready. listed-by (now (a .set)) (a .layout) (now (a .members)) cs lists k (a .kind) (kindNumber notTest) (a .t) (now (a .out)) (now (a .slots)) (a .n) _ _ _ (c .before .before .before .before .before .before .before .match .keys7) (line .ensures .0 _ _) ready),
+      line .ensures .1,
     )
 
 same-length-15 : tie.Need-same-length-15
@@ -176,12 +176,12 @@ unfolding kinds
 returns-13 c =
     let a = c .before .before .before .before .before .before .before .before .before .before .before .before .before .before .before .before .before .before .before .args in
     let line = c .before .before .before .before .arguments in (
-      (λ cs k of h few room full listed idle below. line-by (now (a .set)) (a .layout) cs k (a .kind) 40 (a .t) (now (a .out)) (now (a .slots)) (a .n) _ _ _ (c .before .before .before .before .before .before .before .match .keys8) (line .ensures .0) below),
-      λ h. line .ensures .1,
+      (λ cs lists k of h room ready. line-by (now (a .set)) (a .layout) cs _ lists k (a .kind) (kindNumber argument) (a .t) (now (a .out)) (now (a .slots)) (a .n) _ _ _ (c .before .before .before .before .before .before .before .match .keys8) (line .ensures .0) ready),
+      line .ensures .1,
     )
 
 returns-14 : tie.Need-returns-14
-returns-14 c = (λ cs k of h few room full listed idle below. clash of (statement-other _ (c .match .rest)), λ h. omega arith)
+returns-14 c = (λ cs lists k of h room ready. clash of (statement-other _ (c .match .rest)), omega arith)
 
 pub statement-line-spec : {M : Type 1} → statement M
 statement-line-spec =

@@ -3,10 +3,13 @@ use denote.Ref.{now}
 use native.Mathlib.Omega.{arith}
 use lib.ListN.{length}
 use mathlib.Core.Path.{_≡_, refl, _∙_}
-use Rattle.encoder_step.proofs.Sequence.{Ready, ready-blocks, blocks-more}
+use Rattle.encoder_slots.proofs.Ready.{ready-blocks}
+use Rattle.encoder_step.proofs.Sequence.{blocks-more}
 use borrow.Author.Needs.{needs}
 use Rattle.encoder_step.proofs.acting_kinds.Statement.{statement}
 use Rattle.encoder_step.proofs.acting_kinds.Tie as tie
+use Rattle.records.specs.Sets.{setBy}
+use Rattle.set_index.specs.Points.{listed}
 
 statement-kinds-requires : tie.Need-statement-kinds-requires
 statement-kinds-requires c κs = search needs
@@ -72,18 +75,19 @@ returns c =
     let m3 = r3 .ensures .1 in
     let m4 = r4 .ensures .1 in
     let m5 = r5 .ensures .1 in
+    let S = setBy (now (a .set)) (a .layout) in
+    let cs = listed (a .points) in
     let k = a .step in (
-      λ limits members lists idle.
-          let s0 : Ready (a .layout) (a .points) (now (a .set)) k (now (a .slots)) (a .n) = record { limits = limits; idle = idle } in
-          let w1 = r1 .ensures .0 (a .points) k limits members idle in
-          let s1 = ready-blocks (a .layout) (a .points) (now (a .set)) k 11 5 w1 s0 in
-          let w2 = blocks-more (a .layout) (a .points) (now (a .set)) k 11 5 5 w1 (r2 .ensures .0 (a .points) (s1 .limits) members (s1 .idle)) in
-          let s2 = ready-blocks (a .layout) (a .points) (now (a .set)) k 11 10 w2 s0 in
-          let w3 = blocks-more (a .layout) (a .points) (now (a .set)) k 11 10 5 w2 (r3 .ensures .0 (now (a .set)) (s2 .limits) members lists (s2 .idle)) in
-          let s3 = ready-blocks (a .layout) (a .points) (now (a .set)) k 11 15 w3 s0 in
-          let w4 = blocks-more (a .layout) (a .points) (now (a .set)) k 11 15 5 w3 (r4 .ensures .0 (now (a .set)) (a .layout) (a .points) refl (s3 .limits) members (s3 .idle)) in
-          let s4 = ready-blocks (a .layout) (a .points) (now (a .set)) k 11 20 w4 s0 in
-          blocks-more (a .layout) (a .points) (now (a .set)) k 11 20 5 w4 (r5 .ensures .0 (s4 .limits) lists (s4 .idle)),
+      λ s0.
+          let w1 = r1 .ensures .0 cs _ k s0 in
+          let s1 = ready-blocks k 11 5 w1 s0 in
+          let w2 = blocks-more S cs k 11 5 5 w1 (r2 .ensures .0 cs _ s1) in
+          let s2 = ready-blocks k 11 10 w2 s0 in
+          let w3 = blocks-more S cs k 11 10 5 w2 (r3 .ensures .0 (now (a .set)) s2) in
+          let s3 = ready-blocks k 11 15 w3 s0 in
+          let w4 = blocks-more S cs k 11 15 5 w3 (r4 .ensures .0 S cs _ refl s3) in
+          let s4 = ready-blocks k 11 20 w4 s0 in
+          blocks-more S cs k 11 20 5 w4 (r5 .ensures .0 _ s4),
       omega arith,
     )
 

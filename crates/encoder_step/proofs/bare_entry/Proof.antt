@@ -15,6 +15,7 @@ use Rattle.encoder_step.proofs.Loops.{bare-written}
 use borrow.Author.Needs.{needs}
 use Rattle.encoder_step.proofs.bare_entry.Statement.{statement}
 use Rattle.encoder_step.proofs.bare_entry.Tie as tie
+use Rattle.table.specs.Repeats.{lastIndex}
 
 put-base-requires : tie.Need-put-base-requires
 put-base-requires c κs = search needs
@@ -37,21 +38,21 @@ returns c =
     let q = c .before .before .before .before .before .before .before .before .before .before .before .before .pre in
     let g = c .before .before .before .before .before .before .before .put-base in
     let p = c .before .before .before .set-place .ensures in
-    let room : a .n ≤ 2000000000 = let m = q .0 in omega arith in
+    let room : a .n ≤ lastIndex = let m = q .0 in omega arith in
     let most = g .ensures .1 in
-    let column : a .b < width (a .kind) = let most = q .3 in let least = width-least (a .kind) in omega arith in (
-      λ (S : Set) (cs : List ℕ) threads bare all below.
+    let column : a .b < width (a .kind) = let most = q .2 in let least = width-least (a .kind) in omega arith in (
+      λ (S : Set) (cs members lists : List ℕ) threads bare ready.
           let places = placeOf (now (a .slots)) in
           let t = base S cs (a .step) (kindAt (a .kind)) (a .a) (a .b) in
-          let put = g .ensures .0 S cs threads (q .4) (q .5) room in
+          let put = g .ensures .0 S cs threads (bare .plain) (bare .noFlag) room in
           let small : g .result .root < 4294967295 =
-          let i = inside places t (a .n) below in
+          let i = inside places t (a .n) (ready .below) in
           let e = put .rootPut in
           let f = put .countPut in
           omega arith in
           entry-kept S cs (a .step) (kindAt (a .kind)) (a .a) (a .b) (now (a .out)) (now (a .slots)) (a .n) _ _ (a .n + g .result .count) (g .result .root) (bare .there)
           (bare-written S cs (a .step) (a .kind) (a .a) (a .b) bare places (now (a .out)) (a .n) _ _ _ (put-written (g .result) places (a .n) t (now (a .out)) _ put))
-          (p .1 all (q .1) (q .2) column small) (p .0),
+          (p .1 (ready .allPlaces) (bare .known) (q .1) column small) (p .0),
       omega arith,
     )
 

@@ -4,14 +4,14 @@ use native.Mathlib.Omega.{arith}
 use lib.ListN.{length}
 use mathlib.Core.List.{List}
 use mathlib.Core.Path.{_≡_, refl, _∙_}
-use Prim.Native.Nat.{ℕ, _+_, _-_, _*_, _≤_, _<_}
+use Prim.Native.Nat.{ℕ, _+_, _-_, _*_, _≤_}
 use Rattle.records.specs.Sets.{Set}
 use Rattle.table.specs.Programs.{upto}
-use Rattle.encoding.specs.Slots.{Slot, kindAt}
+use Rattle.encoding.specs.Slots.{kindAt}
 use Rattle.encoding.specs.Steps.{entry}
-use Rattle.encoder_slots.specs.Places.{placeOf, size}
-use Rattle.encoder_slots.specs.Pieces.{Writes}
-use Rattle.encoder_slots.proofs.Pieces.{writes-row, writes-more, below-after}
+use Rattle.encoder_slots.specs.Pieces.{Writes, Ready}
+use Rattle.encoder_slots.proofs.Ready.{ready-entry}
+use Rattle.encoder_slots.proofs.Pieces.{writes-row, writes-more}
 use Rattle.encoder_step.specs.Entries.{BareEntry}
 use Rattle.encoder_step.proofs.Loops.{one-line}
 use borrow.Author.Needs.{needs}
@@ -21,8 +21,8 @@ use Rattle.encoder_step.proofs.bare_line.Tie as tie
 abbrev Inv-loop : tie.InvT-loop
 Inv-loop slots₀ out₀ threads step kind columns n next₀ b₀ slots out next b =
     (b ≤ columns) × (next ≤ n + 4 * b) × (length out ≡ length out₀) × (length slots ≡ length slots₀)
-    × ((S : Set) (cs : List ℕ) → S .threads ≡ threads → ((j : ℕ) → BareEntry S cs kind 0 j) → length slots₀ ≡ size → ((s : Slot) → placeOf slots₀ s < n)
-    → (Writes (upto (entry S cs step (kindAt kind) 0) b) out₀ slots₀ n out slots next) × ((s : Slot) → placeOf slots s < next))
+    × ((S : Set) (cs members lists : List ℕ) → S .threads ≡ threads → ((j : ℕ) → BareEntry S cs kind 0 j) → Ready S cs members lists slots₀ n
+    → (Writes (upto (entry S cs step (kindAt kind) 0) b) out₀ slots₀ n out slots next) × (Ready S cs members lists slots next))
 
 abbrev μ-loop : tie.MeasureT-loop
 μ-loop slots₀ out₀ threads step kind columns n next₀ b₀ slots out next b = columns - b
@@ -34,7 +34,7 @@ loop-holds c =
       omega arith,
       refl,
       refl,
-      λ (S : Set) (cs : List ℕ) threads bare all below. (writes-row (entry S cs (a .step) (kindAt (a .kind)) 0) (now (a .out)) (now (a .slots)) (a .n), below),
+      λ (S : Set) (cs members lists : List ℕ) threads bare ready. (writes-row (entry S cs (a .step) (kindAt (a .kind)) 0) (now (a .out)) (now (a .slots)) (a .n), ready),
     )
 
 bare-entry-requires : tie.Need-bare-entry-requires Inv-loop μ-loop
@@ -42,9 +42,9 @@ bare-entry-requires c κs =
     let q = c .before .before .before .before .before .before .pre in
     let l = c .before .before .before .loop in
     let room = q .0 in
-    let few = q .2 in
+    let few = q .1 in
     let so-far = l .inv .1 in
-    (omega arith, q .1, omega arith, omega arith, q .3, q .4)
+    (omega arith, omega arith, omega arith)
 
 add-b : tie.Need-add-b Inv-loop μ-loop
 add-b c = search needs
@@ -63,11 +63,11 @@ loop-again c =
       omega arith,
       search needs,
       search needs,
-      λ (S : Set) (cs : List ℕ) threads bare all below.
+      λ (S : Set) (cs members lists : List ℕ) threads bare ready.
           let f = entry S cs (a .step) (kindAt (a .kind)) 0 in
-          let done = l .inv .4 S cs threads bare all below in
-          let w = r .ensures .0 S cs threads (bare (l .b)) (l .inv .3 ∙ all) (done .1) in
-          (writes-more f (l .b) (now (a .out)) (now (a .slots)) (a .n) _ _ _ _ _ _ (done .0) w, below-after (f (l .b)) _ _ _ _ _ _ w (done .1)),
+          let done = l .inv .4 S cs members lists threads bare ready in
+          let w = r .ensures .0 S cs members lists threads (bare (l .b)) (done .1) in
+          (writes-more f (l .b) (now (a .out)) (now (a .slots)) (a .n) _ _ _ _ _ _ (done .0) w, ready-entry (a .step) (kindAt (a .kind)) 0 (l .b) w (done .1)),
     )
 
 same-length : tie.Need-same-length Inv-loop μ-loop
@@ -81,11 +81,11 @@ returns c =
     let a = c .before .before .before .before .args in
     let q = c .before .before .before .before .pre in
     let l = c .before .loop in
-    let few = q .2 in
+    let few = q .1 in
     let so-far = l .inv .1 in
     let b-is : l .b ≡ a .columns = omega arith in (
-      λ (S : Set) (cs : List ℕ) threads bare row columns all below.
-          one-line S cs (a .step) (a .kind) _ _ _ _ _ _ row (l .b) (b-is ∙ columns) (l .inv .4 S cs threads bare all below .0),
+      λ (S : Set) (cs members lists : List ℕ) threads bare row columns ready.
+          one-line S cs (a .step) (a .kind) _ _ _ _ _ _ row (l .b) (b-is ∙ columns) (l .inv .4 S cs members lists threads bare ready .0),
       omega arith,
     )
 

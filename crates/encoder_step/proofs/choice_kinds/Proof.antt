@@ -2,17 +2,20 @@
 use denote.Ref.{now}
 use native.Mathlib.Omega.{arith}
 use mathlib.Core.Path.{_≡_, refl, sym, _∙_}
-use Prim.Native.Nat.{ℕ, _≤_}
+use Prim.Native.Nat.{ℕ, _≤_, _+_}
 use Rattle.records.specs.Sets.{setBy}
 use lib.ListN.{length}
-use Rattle.encoding.specs.Slots.{kinds}
+use Rattle.encoding.specs.Slots.{kinds, kindNumber, choice, active, opening, shut}
 use Rattle.set_index.specs.Points.{listed}
 use Rattle.encoder_step.proofs.Given.{of-barred}
 use Rattle.encoder_step.proofs.Loops.{lone-at}
-use Rattle.encoder_step.proofs.Sequence.{Ready, ready-block, five}
+use Rattle.encoder_slots.proofs.Ready.{ready-block}
+use Rattle.encoder_step.proofs.Sequence.{five}
 use borrow.Author.Needs.{needs}
 use Rattle.encoder_step.proofs.choice_kinds.Statement.{statement}
 use Rattle.encoder_step.proofs.choice_kinds.Tie as tie
+use Rattle.encoder_slots.specs.Pieces.{blockRoom}
+use Rattle.table.specs.Repeats.{lastIndex}
 
 cast-choices : tie.Need-cast-choices
 cast-choices c = search needs
@@ -40,9 +43,9 @@ bare-line-requires-2 c κs =
     let p2 = q .2 in
     let m1 = c .before .before .before .before .before .before .before .before .before .before .before .before .before .before .before .before .before .before .before .before .bare-line .ensures .1 in
     let m2 = c .before .before .before .before .before .before .before .before .before .before .before .before .before .statement-block .ensures .1 in
-    let m3 = c .before .before .before .before .before .before .openings .ensures .1 (omega arith) in
+    let m3 = c .before .before .before .before .before .before .openings .ensures .1 in
     let many = c .before .before .before .before .before .before .before .before .before .before .before .before .before .before .before .before .before .before .before .before .before .before .before .points-count .ensures in
-    (omega arith, omega arith, omega arith, refl, λ e. absurd (omega arith))
+    (omega arith, omega arith)
 
 register-block-requires : tie.Need-register-block-requires
 register-block-requires c κs =
@@ -51,7 +54,7 @@ register-block-requires c κs =
     let p1 = q .1 in
     let m1 = c .before .before .before .before .before .before .before .before .before .before .before .before .before .before .before .before .before .before .before .before .before .before .before .before .before .before .before .bare-line .ensures .1 in
     let m2 = c .before .before .before .before .before .before .before .before .before .before .before .before .before .before .before .before .before .before .before .before .statement-block .ensures .1 in
-    let m3 = c .before .before .before .before .before .before .before .before .before .before .before .before .before .openings .ensures .1 (omega arith) in
+    let m3 = c .before .before .before .before .before .before .before .before .before .before .before .before .before .openings .ensures .1 in
     let m4 = c .before .before .before .before .before .before .bare-line2 .ensures .1 in
     (omega arith, omega arith)
 
@@ -97,25 +100,24 @@ returns c =
     let r5 = c .before .before .before .before .register-block in
     let m1 = r1 .ensures .1 in
     let m2 = r2 .ensures .1 in
-    let room3 : r2 .result ≤ 1600000000 = omega arith in
-    let m3 = r3 .ensures .1 room3 in
+    let room3 : r2 .result + blockRoom ≤ lastIndex = omega arith in
+    let m3 = r3 .ensures .1 in
     let m4 = r4 .ensures .1 in
     let m5 = r5 .ensures .1 in
     let many = c .before .before .before .before .before .before .before .before .before .before .before .before .before .before .before .before .before .before .before .before .before .before .before .before .before .before .before .before .before .before .before .before .before .before .before .points-count .ensures in (
-      λ limits members lists idle.
+      λ s0.
           let S = setBy (now (a .set)) (a .layout) in
           let cs = listed (a .points) in
-          let s0 : Ready (a .layout) (a .points) (now (a .set)) (a .step) (now (a .slots)) (a .n) = record { limits = limits; idle = idle } in
-          let w1 = r1 .ensures .0 S cs refl (λ (b : ℕ). lone-at S cs 0 b 0 (omega arith) refl) refl (omega arith) (s0 .limits .allPlaces) (s0 .limits .below) in
-          let s1 = ready-block (a .layout) (a .points) (now (a .set)) (a .step) 0 w1 s0 in
-          let w2 = r2 .ensures .0 (a .points) (a .step) (s1 .limits) members (s1 .idle) in
-          let s2 = ready-block (a .layout) (a .points) (now (a .set)) (a .step) 1 w2 s1 in
-          let w3 = r3 .ensures .0 S cs refl (sym many) lists (s2 .limits .allPlaces) (s2 .limits .below) room3 in
-          let s3 = ready-block (a .layout) (a .points) (now (a .set)) (a .step) 2 w3 s2 in
-          let w4 = r4 .ensures .0 S cs refl (λ (b : ℕ). lone-at S cs 0 b 3 (omega arith) refl) refl (many) (s3 .limits .allPlaces) (s3 .limits .below) in
-          let s4 = ready-block (a .layout) (a .points) (now (a .set)) (a .step) 3 w4 s3 in
-          let w5 = r5 .ensures .0 S cs refl (of-barred S cs) members (s4 .limits .allPlaces) (s4 .limits .below) in
-          five (a .layout) (a .points) (now (a .set)) (a .step) 0 w1 w2 w3 w4 w5,
+          let w1 = r1 .ensures .0 S cs _ _ refl (λ (b : ℕ). lone-at S cs 0 b (kindNumber choice) (omega arith) refl) refl (omega arith) s0 in
+          let s1 = ready-block (a .step) choice w1 s0 in
+          let w2 = r2 .ensures .0 cs _ (a .step) s1 in
+          let s2 = ready-block (a .step) active w2 s1 in
+          let w3 = r3 .ensures .0 S cs _ refl (sym many) s2 room3 in
+          let s3 = ready-block (a .step) opening w3 s2 in
+          let w4 = r4 .ensures .0 S cs _ _ refl (λ (b : ℕ). lone-at S cs 0 b (kindNumber shut) (omega arith) refl) refl (many) s3 in
+          let s4 = ready-block (a .step) shut w4 s3 in
+          let w5 = r5 .ensures .0 S cs _ refl (of-barred S cs) s4 in
+          five S cs (a .step) 0 w1 w2 w3 w4 w5,
       omega arith,
     )
 

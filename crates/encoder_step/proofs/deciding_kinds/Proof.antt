@@ -5,7 +5,8 @@ use mathlib.Core.Path.{refl}
 use Rattle.records.specs.Sets.{setBy}
 use Rattle.encoding.specs.Slots.{kinds}
 use Rattle.set_index.specs.Points.{listed}
-use Rattle.encoder_step.proofs.Sequence.{Ready, ready-blocks, block-more, blocks-more}
+use Rattle.encoder_slots.proofs.Ready.{ready-blocks}
+use Rattle.encoder_step.proofs.Sequence.{block-more, blocks-more}
 use borrow.Author.Needs.{needs}
 use Rattle.encoder_step.proofs.deciding_kinds.Statement.{statement}
 use Rattle.encoder_step.proofs.deciding_kinds.Tie as tie
@@ -38,13 +39,12 @@ returns c =
     let S = setBy (now (a .set)) (a .layout) in
     let cs = listed (a .points) in
     let k = a .step in (
-      λ limits members lists idle.
-          let s0 : Ready (a .layout) (a .points) (now (a .set)) k (now (a .slots)) (a .n) = record { limits = limits; idle = idle } in
-          let w1 = r1 .ensures .0 limits members lists idle in
-          let s1 = ready-blocks (a .layout) (a .points) (now (a .set)) k 0 5 w1 s0 in
-          let w2 = blocks-more (a .layout) (a .points) (now (a .set)) k 0 5 5 w1 (r2 .ensures .0 (now (a .set)) (s1 .limits) lists (s1 .idle)) in
-          let s2 = ready-blocks (a .layout) (a .points) (now (a .set)) k 0 10 w2 s0 in
-          block-more (a .layout) (a .points) (now (a .set)) k 0 10 w2 (r3 .ensures .0 S cs refl refl refl (s2 .limits .allPlaces) (s2 .limits .below)),
+      λ s0.
+          let w1 = r1 .ensures .0 s0 in
+          let s1 = ready-blocks k 0 5 w1 s0 in
+          let w2 = blocks-more S cs k 0 5 5 w1 (r2 .ensures .0 (now (a .set)) _ s1) in
+          let s2 = ready-blocks k 0 10 w2 s0 in
+          block-more S cs k 0 10 w2 (r3 .ensures .0 S cs _ _ refl refl refl s2),
       omega arith,
     )
 

@@ -2,16 +2,19 @@
 use denote.Ref.{now}
 use native.Mathlib.Omega.{arith}
 use mathlib.Core.Path.{_≡_, refl, sym, _∙_}
-use Prim.Native.Nat.{_≤_}
+use Prim.Native.Nat.{_≤_, _+_}
 use Rattle.records.specs.Sets.{setBy}
 use lib.ListN.{length}
-use Rattle.encoding.specs.Slots.{kinds}
+use Rattle.encoding.specs.Slots.{kinds, kindNumber, flag, mark, halts, ended, code}
 use Rattle.set_index.specs.Points.{listed}
 use Rattle.encoder_step.proofs.Loops.{lone-at, one-value}
-use Rattle.encoder_step.proofs.Sequence.{Ready, ready-block, five}
+use Rattle.encoder_slots.proofs.Ready.{ready-block}
+use Rattle.encoder_step.proofs.Sequence.{five}
 use borrow.Author.Needs.{needs}
 use Rattle.encoder_step.proofs.end_kinds.Statement.{statement}
 use Rattle.encoder_step.proofs.end_kinds.Tie as tie
+use Rattle.encoder_slots.specs.Pieces.{blockRoom}
+use Rattle.table.specs.Repeats.{lastIndex}
 
 points-count-requires : tie.Need-points-count-requires
 points-count-requires c κs = search needs
@@ -28,7 +31,7 @@ single-block-requires c κs =
     let p0 = q .0 in
     let p1 = q .1 in
     let m1 = c .before .before .before .before .before .before .before .before .before .before .before .before .before .flag-block .ensures .1 in
-    let m2 = c .before .before .before .before .before .before .marks .ensures .1 (omega arith) in
+    let m2 = c .before .before .before .before .before .before .marks .ensures .1 in
     (omega arith, omega arith, omega arith, refl, λ e. absurd (omega arith))
 
 bare-entry-requires : tie.Need-bare-entry-requires
@@ -37,9 +40,9 @@ bare-entry-requires c κs =
     let p0 = q .0 in
     let p1 = q .1 in
     let m1 = c .before .before .before .before .before .before .before .before .before .before .before .before .before .before .before .before .before .before .before .before .flag-block .ensures .1 in
-    let m2 = c .before .before .before .before .before .before .before .before .before .before .before .before .before .marks .ensures .1 (omega arith) in
+    let m2 = c .before .before .before .before .before .before .before .before .before .before .before .before .before .marks .ensures .1 in
     let m3 = c .before .before .before .before .before .before .single-block .ensures .1 in
-    (omega arith, omega arith, omega arith, omega arith, refl, λ e. absurd (omega arith))
+    (omega arith, omega arith, omega arith)
 
 bare-entry-requires-2 : tie.Need-bare-entry-requires-2
 bare-entry-requires-2 c κs =
@@ -47,10 +50,10 @@ bare-entry-requires-2 c κs =
     let p0 = q .0 in
     let p1 = q .1 in
     let m1 = c .before .before .before .before .before .before .before .before .before .before .before .before .before .before .before .before .before .before .before .before .before .before .before .before .before .before .before .flag-block .ensures .1 in
-    let m2 = c .before .before .before .before .before .before .before .before .before .before .before .before .before .before .before .before .before .before .before .before .marks .ensures .1 (omega arith) in
+    let m2 = c .before .before .before .before .before .before .before .before .before .before .before .before .before .before .before .before .before .before .before .before .marks .ensures .1 in
     let m3 = c .before .before .before .before .before .before .before .before .before .before .before .before .before .single-block .ensures .1 in
     let m4 = c .before .before .before .before .before .before .bare-entry .ensures .1 in
-    (omega arith, omega arith, omega arith, omega arith, refl, λ e. absurd (omega arith))
+    (omega arith, omega arith, omega arith)
 
 same-length : tie.Need-same-length
 same-length c =
@@ -93,26 +96,25 @@ returns c =
     let r4 = c .before .before .before .before .before .before .before .before .before .before .before .bare-entry in
     let r5 = c .before .before .before .before .bare-entry2 in
     let m1 = r1 .ensures .1 in
-    let room2 : r1 .result ≤ 1600000000 = omega arith in
-    let m2 = r2 .ensures .1 room2 in
+    let room2 : r1 .result + blockRoom ≤ lastIndex = omega arith in
+    let m2 = r2 .ensures .1 in
     let m3 = r3 .ensures .1 in
     let m4 = r4 .ensures .1 in
     let m5 = r5 .ensures .1 in
     let many = c .before .before .before .before .before .before .before .before .before .before .before .before .before .before .before .before .before .before .before .before .before .before .before .before .before .before .before .before .before .before .before .before .before .before .before .points-count .ensures in (
-      λ limits lists idle.
+      λ members s0.
           let S = setBy (now (a .set)) (a .layout) in
           let cs = listed (a .points) in
-          let s0 : Ready (a .layout) (a .points) (now (a .set)) (a .step) (now (a .slots)) (a .n) = record { limits = limits; idle = idle } in
-          let w1 = r1 .ensures .0 (a .points) (a .step) (s0 .limits) lists in
-          let s1 = ready-block (a .layout) (a .points) (now (a .set)) (a .step) 31 w1 s0 in
-          let w2 = r2 .ensures .0 S cs refl (sym many) refl lists (s1 .limits .allPlaces) (s1 .limits .below) room2 in
-          let s2 = ready-block (a .layout) (a .points) (now (a .set)) (a .step) 32 w2 s1 in
-          let w3 = r3 .ensures .0 S cs refl refl refl (s2 .limits .allPlaces) (s2 .limits .below) in
-          let s3 = ready-block (a .layout) (a .points) (now (a .set)) (a .step) 33 w3 s2 in
-          let w4 = one-value S cs (a .step) 34 _ _ _ _ _ _ refl refl (r4 .ensures .0 S cs refl (lone-at S cs 0 0 34 (omega arith) refl) (s3 .limits .allPlaces) (s3 .limits .below)) in
-          let s4 = ready-block (a .layout) (a .points) (now (a .set)) (a .step) 34 w4 s3 in
-          let w5 = one-value S cs (a .step) 35 _ _ _ _ _ _ refl refl (r5 .ensures .0 S cs refl (lone-at S cs 0 0 35 (omega arith) refl) (s4 .limits .allPlaces) (s4 .limits .below)) in
-          five (a .layout) (a .points) (now (a .set)) (a .step) 31 w1 w2 w3 w4 w5,
+          let w1 = r1 .ensures .0 cs _ (a .step) s0 in
+          let s1 = ready-block (a .step) flag w1 s0 in
+          let w2 = r2 .ensures .0 S cs _ refl (sym many) refl s1 room2 in
+          let s2 = ready-block (a .step) mark w2 s1 in
+          let w3 = r3 .ensures .0 S cs _ _ refl refl refl s2 in
+          let s3 = ready-block (a .step) halts w3 s2 in
+          let w4 = one-value S cs (a .step) (kindNumber ended) _ _ _ _ _ _ refl refl (r4 .ensures .0 S cs _ _ refl (lone-at S cs 0 0 (kindNumber ended) (omega arith) refl) s3) in
+          let s4 = ready-block (a .step) ended w4 s3 in
+          let w5 = one-value S cs (a .step) (kindNumber code) _ _ _ _ _ _ refl refl (r5 .ensures .0 S cs _ _ refl (lone-at S cs 0 0 (kindNumber code) (omega arith) refl) s4) in
+          five S cs (a .step) 31 w1 w2 w3 w4 w5,
       omega arith,
     )
 

@@ -5,26 +5,26 @@ use denote.Ref.{now}
 use native.Mathlib.Omega.{arith}
 use mathlib.Core.Path.{_≡_, refl, subst}
 use Prim.Native.Nat.{ℕ, _+_, _-_, _*_, _≤_}
-use Rattle.set_index.specs.Points.{listed}
-use Rattle.set_index.specs.declared.points.Points.{Points}
 use Rattle.encoding.specs.Steps.{line}
 use Rattle.encoding.specs.Slots.{kinds, flag}
 use Rattle.table.specs.Programs.{upto}
 use Rattle.records.specs.Sets.{setBy}
-use Rattle.encoder_slots.proofs.Pieces.{writes-row, writes-more, limits-after}
-use Rattle.encoder_slots.specs.Pieces.{Writes, Limits}
-use Rattle.set_index.specs.Tables.{ListTable}
+use mathlib.Core.List.{List}
+use Rattle.encoder_slots.proofs.Ready.{ready-line}
+use Rattle.encoder_slots.proofs.Pieces.{writes-row, writes-more}
+use Rattle.encoder_slots.specs.Pieces.{Writes, Ready, lineRoom}
 use Rattle.encoder_step.proofs.flag_block.Statement.{statement}
 use Rattle.encoder_step.proofs.flag_block.Tie as tie
 use Rattle.encoder_step.proofs.flag_block.Reads as reads
 use Rattle.encoder_step.proofs.flag_block.Lts as lts
 use Rattle.encoder_flags.proofs.flags.Reads as flags-reads
+use Rattle.table.specs.Repeats.{lastIndex}
 
 abbrev Inv-loop : tie.InvT-loop
 Inv-loop set layout lists slots₀ out₀ n threads next₀ t₀ slots out next t =
     (t ≤ threads) × (threads ≤ 4) × (next ≤ n + 1152 * t) × (length out ≡ length out₀) × (length slots ≡ length slots₀)
-    × ((points : Points) (step : ℕ) → Limits layout points slots₀ n → ListTable (setBy set layout) (listed points) lists
-    → (Writes (upto (line (setBy set layout) (listed points) step flag) t) out₀ slots₀ n out slots next) × (Limits layout points slots next))
+    × ((cs members : List ℕ) (step : ℕ) → Ready (setBy set layout) cs members lists slots₀ n
+    → (Writes (upto (line (setBy set layout) cs step flag) t) out₀ slots₀ n out slots next) × (Ready (setBy set layout) cs members lists slots next))
 
 abbrev μ-loop : tie.MeasureT-loop
 μ-loop set layout lists slots₀ out₀ n threads next₀ t₀ slots out next t = threads - t
@@ -38,7 +38,7 @@ loop-holds c =
       omega arith,
       refl,
       refl,
-      λ (points : Points) (step : ℕ) limits lists. (writes-row (line (setBy (now (a .set)) (a .layout)) (listed points) step flag) (now (a .out)) (now (a .slots)) (a .n), limits),
+      λ (cs members : List ℕ) (step : ℕ) ready. (writes-row (line (setBy (now (a .set)) (a .layout)) cs step flag) (now (a .out)) (now (a .slots)) (a .n), ready),
     )
 
 flags-requires : tie.Need-flags-requires Inv-loop μ-loop
@@ -58,19 +58,18 @@ loop-again c =
     let r = c .before .before .before .before .flags in
     let S = setBy (now (a .set)) (a .layout) in
     let little = q .0 in
-    let few : l .next ≤ 1700000000 = omega arith in
-    let last = r .ensures .1 few in (
+    let few : l .next + lineRoom ≤ lastIndex = omega arith in
+    let last = r .ensures .1 in (
       omega arith,
       l .inv .1,
       omega arith,
       search needs,
       search needs,
-      λ (points : Points) (step : ℕ) limits lists.
-          let f = line S (listed points) step flag in
-          let done = l .inv .5 points step limits lists in
-          let here = done .1 in
-          let w = r .ensures .0 (listed points) step (omega arith) few lists (here .allPlaces) (here .below) in
-          (writes-more f (l .t) (now (a .out)) (now (a .slots)) (a .n) _ _ _ _ _ _ (done .0) w, limits-after (a .layout) points (f (l .t)) _ _ _ _ _ _ w here),
+      λ (cs members : List ℕ) (step : ℕ) ready.
+          let f = line S cs step flag in
+          let done = l .inv .5 cs members step ready in
+          let w = r .ensures .0 cs members step (omega arith) few (done .1) in
+          (writes-more f (l .t) (now (a .out)) (now (a .slots)) (a .n) _ _ _ _ _ _ (done .0) w, ready-line step flag (l .t) w (done .1)),
     )
 
 same-length : tie.Need-same-length Inv-loop μ-loop
@@ -86,9 +85,9 @@ returns c =
     let l = c .before .loop in
     let S = setBy (now (a .set)) (a .layout) in
     let t-is : l .t ≡ a .layout .threads = omega arith in (
-      λ (points : Points) (step : ℕ) limits lists.
-          subst (λ (j : ℕ). Writes (upto (line S (listed points) step flag) j) (now (a .out)) (now (a .slots)) (a .n) (l .out) (l .slots) (l .next))
-          t-is (l .inv .5 points step limits lists .0),
+      λ (cs members : List ℕ) (step : ℕ) ready.
+          subst (λ (j : ℕ). Writes (upto (line S cs step flag) j) (now (a .out)) (now (a .slots)) (a .n) (l .out) (l .slots) (l .next))
+          t-is (l .inv .5 cs members step ready .0),
       omega arith,
     )
 

@@ -16,6 +16,7 @@ use Rattle.encoder_bases.proofs.Given.{put-written}
 use borrow.Author.Needs.{needs}
 use Rattle.encoder_step.proofs.given_entry.Statement.{statement}
 use Rattle.encoder_step.proofs.given_entry.Tie as tie
+use Rattle.table.specs.Repeats.{lastIndex}
 
 put-base-requires : tie.Need-put-base-requires
 put-base-requires c κs = search needs
@@ -45,23 +46,23 @@ returns c =
     let most = b .ensures .1 in
     let last = r .ensures .1 in
     let little = q .0 in
-    let room : a .n ≤ 2000000000 = omega arith in
-    let few : a .n + b .result .count ≤ 1900000000 = omega arith in
+    let room : a .n ≤ lastIndex = omega arith in
+    let few : a .n + b .result .count + 32 ≤ lastIndex = omega arith in
     let column : a .b < width (a .kind) = let most = q .2 in let least = width-least (a .kind) in omega arith in (
-      λ (S : Set) (cs : List ℕ) threads e members all below.
+      λ (S : Set) (cs lists : List ℕ) threads e ready.
           let places = placeOf (now (a .slots)) in
           let root = base S cs (a .step) (kindAt (a .kind)) (a .a) (a .b) in
           let g = b .ensures .0 S cs threads (e .plain) (e .noFlag) room in
           let w : WritesTree places (treeOf S cs (a .step) (kindAt (a .kind)) (a .a) (a .b)) (now (a .out)) (a .n) _ (r .result .next) (r .result .at) =
           subst (λ (t : Term). WritesTree places t (now (a .out)) (a .n) (r .last .1 .1 .0) (r .result .next) (r .result .at)) (λ z. chain (sym (e .linked) z) (sym (e .counted) z) root)
-          (r .ensures .0 S root (now (a .out)) (a .n) (q .3) few all members (put-written (b .result) places (a .n) root (now (a .out)) _ g)) in
+          (r .ensures .0 S root (now (a .out)) (a .n) (q .3) few (ready .allPlaces) (ready .byClass) (put-written (b .result) places (a .n) root (now (a .out)) _ g)) in
           let small : r .result .at < 4294967295 =
-          let i = inside places (treeOf S cs (a .step) (kindAt (a .kind)) (a .a) (a .b)) (a .n) below in
+          let i = inside places (treeOf S cs (a .step) (kindAt (a .kind)) (a .a) (a .b)) (a .n) (ready .below) in
           let x = w .treeRoot in
           let f = w .treeNext in
           omega arith in
           entry-kept S cs (a .step) (kindAt (a .kind)) (a .a) (a .b) (now (a .out)) (now (a .slots)) (a .n) _ _ (r .result .next) (r .result .at) (e .there) w
-          (p .1 all (e .known) (q .1) column small) (p .0),
+          (p .1 (ready .allPlaces) (e .known) (q .1) column small) (p .0),
       omega arith,
     )
 

@@ -4,35 +4,37 @@ use native.Mathlib.Omega.{arith}
 use lib.ListN.{length}
 use mathlib.Core.List.{[], _∷_}
 use mathlib.Core.Path.{_≡_}
-use Prim.Native.Nat.{_≤_}
+use Prim.Native.Nat.{_+_, _≤_}
 use Rattle.records.specs.Sets.{setBy}
 use Rattle.table.specs.Programs.{needs as demanded}
 use Rattle.encoding.specs.Steps.{blocks, ruled, step}
 use Rattle.set_index.specs.Points.{listed}
-use Rattle.encoder_slots.proofs.Pieces.{writes-++, limits-after}
-use Rattle.encoder_slots.proofs.Idle.{idle-none, idle-needs, idle-written}
+use Rattle.encoder_slots.proofs.Pieces.{writes-++}
+use Rattle.encoder_slots.proofs.Idle.{idle-none, idle-needs}
 use Rattle.set_index.proofs.Counted.{listed-most}
-use Rattle.encoder_step.proofs.Sequence.{ready-blocks}
+use Rattle.encoder_slots.proofs.Ready.{ready-after, ready-blocks}
+use Rattle.encoder_step.specs.Entries.{stepRoom}
 use borrow.Author.Needs.{needs}
 use Rattle.encoder_step.proofs.one_step.Statement.{statement}
 use Rattle.encoder_step.proofs.one_step.Tie as tie
+use Rattle.table.specs.Repeats.{lastIndex}
 
 returns : tie.Need-returns
 returns c =
     let a = c .before .before .before .before .before .before .args in
-    (λ limits room members lists idle. absurd (c .if1 .taken (limits .allPlaces)), λ room. omega arith)
+    (λ ready room. absurd (c .if1 .taken (ready .allPlaces)), omega arith)
 
 returns-2 : tie.Need-returns-2
 returns-2 c =
     let a = c .before .before .before .before .before .before .before .args in
     let past = c .if2 .taken in
-    (λ limits (room : a .n ≤ 1400000000) members lists idle. absurd (omega arith), λ room. omega arith)
+    (λ ready (room : a .n + stepRoom ≤ lastIndex). absurd (omega arith), omega arith)
 
 returns-3 : tie.Need-returns-3
 returns-3 c =
     let a = c .before .before .before .before .before .before .before .before .before .args in
     let past = c .if3 .taken in
-    (λ limits room members lists idle. absurd (let four = limits .fourThreads in omega arith), λ room. omega arith)
+    (λ ready room. absurd (let four = ready .byName .fourThreads in omega arith), omega arith)
 
 deciding-kinds-requires : tie.Need-deciding-kinds-requires
 deciding-kinds-requires c κs =
@@ -66,15 +68,14 @@ returns-4 c =
     let cs = listed (a .points) in
     let k = a .step in
     let rules = demanded (ruled S cs k) ∷ [] in (
-      λ limits room members lists idle.
-          let w1 = r1 .ensures .0 limits members lists idle in
-          let s1 = ready-blocks (a .layout) (a .points) (now (a .set)) k 0 11 w1 (record { limits = limits; idle = idle }) in
+      λ ready room.
+          let w1 = r1 .ensures .0 ready in
+          let s1 = ready-blocks k 0 11 w1 ready in
           let w2 = r2 .ensures .0 (now (a .set)) cs k in
-          let w3 = r3 .ensures .0 (limits-after (a .layout) (a .points) rules _ _ _ _ _ _ w2 (s1 .limits)) members lists
-          (idle-written S rules (idle-needs S (ruled S cs k) [] (idle-none S)) _ _ _ _ _ _ w2 (s1 .idle)) in
+          let w3 = r3 .ensures .0 (ready-after rules (idle-needs S (ruled S cs k) [] (idle-none S)) w2 s1) in
           writes-++ (blocks S cs k 0 11) (demanded (ruled S cs k) ∷ blocks S cs k 11 25) (now (a .out)) (now (a .slots)) (a .n) _ _ _ _ _ _ w1
           (writes-++ rules (blocks S cs k 11 25) _ _ _ _ _ _ _ _ _ w2 w3),
-      λ room. omega arith,
+      omega arith,
     )
 
 pub one-step-spec : {M : Type 1} → statement M

@@ -2,16 +2,19 @@
 use denote.Ref.{now}
 use native.Mathlib.Omega.{arith}
 use mathlib.Core.Path.{_≡_, refl, sym, _∙_}
-use Prim.Native.Nat.{ℕ, _≤_}
+use Prim.Native.Nat.{ℕ, _≤_, _+_}
 use Rattle.records.specs.Sets.{setBy}
 use lib.ListN.{length}
-use Rattle.encoding.specs.Slots.{kinds}
+use Rattle.encoding.specs.Slots.{kinds, kindNumber, held, waits, mayExecute, none, permittedFirst}
 use Rattle.set_index.specs.Points.{listed}
 use Rattle.encoder_step.proofs.Loops.{lone-at}
-use Rattle.encoder_step.proofs.Sequence.{Ready, ready-block, five}
+use Rattle.encoder_slots.proofs.Ready.{ready-block}
+use Rattle.encoder_step.proofs.Sequence.{five}
 use borrow.Author.Needs.{needs}
 use Rattle.encoder_step.proofs.permit_kinds.Statement.{statement}
 use Rattle.encoder_step.proofs.permit_kinds.Tie as tie
+use Rattle.encoder_slots.specs.Pieces.{blockRoom}
+use Rattle.table.specs.Repeats.{lastIndex}
 
 cast-choices : tie.Need-cast-choices
 cast-choices c = search needs
@@ -28,13 +31,13 @@ marks-requires c κs = search needs
 waits-requires : tie.Need-waits-requires
 waits-requires c κs = search needs
 
-may-block-requires : tie.Need-may-block-requires
-may-block-requires c κs =
+may-execute-block-requires : tie.Need-may-execute-block-requires
+may-execute-block-requires c κs =
     let q = c .before .before .before .before .before .before .before .before .before .before .before .before .before .before .before .before .before .before .before .before .pre in
     let p0 = q .0 in
     let p1 = q .1 in
-    let m1 = c .before .before .before .before .before .before .before .before .before .before .before .before .before .marks .ensures .1 (omega arith) in
-    let m2 = c .before .before .before .before .before .before .waits .ensures .1 (omega arith) in
+    let m1 = c .before .before .before .before .before .before .before .before .before .before .before .before .before .marks .ensures .1 in
+    let m2 = c .before .before .before .before .before .before .waits .ensures .1 in
     (omega arith, omega arith)
 
 add-bare-line : tie.Need-add-bare-line
@@ -45,27 +48,27 @@ bare-line-requires c κs =
     let q = c .before .before .before .before .before .before .before .before .before .before .before .before .before .before .before .before .before .before .before .before .before .before .before .before .before .before .before .pre in
     let p0 = q .0 in
     let p1 = q .1 in
-    let m1 = c .before .before .before .before .before .before .before .before .before .before .before .before .before .before .before .before .before .before .before .before .marks .ensures .1 (omega arith) in
-    let m2 = c .before .before .before .before .before .before .before .before .before .before .before .before .before .waits .ensures .1 (omega arith) in
-    let m3 = c .before .before .before .before .before .before .may-block .ensures .1 in
-    (omega arith, omega arith, omega arith, refl, λ e. absurd (omega arith))
+    let m1 = c .before .before .before .before .before .before .before .before .before .before .before .before .before .before .before .before .before .before .before .before .marks .ensures .1 in
+    let m2 = c .before .before .before .before .before .before .before .before .before .before .before .before .before .waits .ensures .1 in
+    let m3 = c .before .before .before .before .before .before .may-execute-block .ensures .1 in
+    (omega arith, omega arith)
 
 bare-line-requires-2 : tie.Need-bare-line-requires-2
 bare-line-requires-2 c κs =
     let q = c .before .before .before .before .before .before .before .before .before .before .before .before .before .before .before .before .before .before .before .before .before .before .before .before .before .before .before .before .before .before .before .before .before .before .pre in
     let p0 = q .0 in
     let p1 = q .1 in
-    let m1 = c .before .before .before .before .before .before .before .before .before .before .before .before .before .before .before .before .before .before .before .before .before .before .before .before .before .before .before .marks .ensures .1 (omega arith) in
-    let m2 = c .before .before .before .before .before .before .before .before .before .before .before .before .before .before .before .before .before .before .before .before .waits .ensures .1 (omega arith) in
-    let m3 = c .before .before .before .before .before .before .before .before .before .before .before .before .before .may-block .ensures .1 in
+    let m1 = c .before .before .before .before .before .before .before .before .before .before .before .before .before .before .before .before .before .before .before .before .before .before .before .before .before .before .before .marks .ensures .1 in
+    let m2 = c .before .before .before .before .before .before .before .before .before .before .before .before .before .before .before .before .before .before .before .before .waits .ensures .1 in
+    let m3 = c .before .before .before .before .before .before .before .before .before .before .before .before .before .may-execute-block .ensures .1 in
     let m4 = c .before .before .before .before .before .before .bare-line .ensures .1 in
-    (omega arith, omega arith, omega arith, refl, λ e. absurd (omega arith))
+    (omega arith, omega arith)
 
 same-length : tie.Need-same-length
 same-length c =
     let r1 = c .before .before .before .before .before .before .before .before .before .before .before .before .before .before .before .before .before .before .before .before .before .before .before .before .before .before .before .before .before .before .before .before .marks in
     let r2 = c .before .before .before .before .before .before .before .before .before .before .before .before .before .before .before .before .before .before .before .before .before .before .before .before .before .waits in
-    let r3 = c .before .before .before .before .before .before .before .before .before .before .before .before .before .before .before .before .before .before .may-block in
+    let r3 = c .before .before .before .before .before .before .before .before .before .before .before .before .before .before .before .before .before .before .may-execute-block in
     let r4 = c .before .before .before .before .before .before .before .before .before .before .before .bare-line in
     let r5 = c .before .before .before .before .bare-line2 in
     let e1 : length (r1 .last .1 .0) ≡ length (now (c .before .before .before .before .before .before .before .before .before .before .before .before .before .before .before .before .before .before .before .before .before .before .before .before .before .before .before .before .before .before .before .before .before .before .before .before .before .before .before .args .slots)) = r1 .kept .1 .0 in
@@ -79,7 +82,7 @@ same-length-2 : tie.Need-same-length-2
 same-length-2 c =
     let r1 = c .before .before .before .before .before .before .before .before .before .before .before .before .before .before .before .before .before .before .before .before .before .before .before .before .before .before .before .before .before .before .before .before .marks in
     let r2 = c .before .before .before .before .before .before .before .before .before .before .before .before .before .before .before .before .before .before .before .before .before .before .before .before .before .waits in
-    let r3 = c .before .before .before .before .before .before .before .before .before .before .before .before .before .before .before .before .before .before .may-block in
+    let r3 = c .before .before .before .before .before .before .before .before .before .before .before .before .before .before .before .before .before .before .may-execute-block in
     let r4 = c .before .before .before .before .before .before .before .before .before .before .before .bare-line in
     let r5 = c .before .before .before .before .bare-line2 in
     let e1 : length (r1 .last .1 .1 .0) ≡ length (now (c .before .before .before .before .before .before .before .before .before .before .before .before .before .before .before .before .before .before .before .before .before .before .before .before .before .before .before .before .before .before .before .before .before .before .before .before .before .before .before .args .out)) = r1 .kept .1 .1 .0 in
@@ -98,31 +101,30 @@ returns c =
     let p1 = q .1 in
     let r1 = c .before .before .before .before .before .before .before .before .before .before .before .before .before .before .before .before .before .before .before .before .before .before .before .before .before .before .before .before .before .before .before .before .marks in
     let r2 = c .before .before .before .before .before .before .before .before .before .before .before .before .before .before .before .before .before .before .before .before .before .before .before .before .before .waits in
-    let r3 = c .before .before .before .before .before .before .before .before .before .before .before .before .before .before .before .before .before .before .may-block in
+    let r3 = c .before .before .before .before .before .before .before .before .before .before .before .before .before .before .before .before .before .before .may-execute-block in
     let r4 = c .before .before .before .before .before .before .before .before .before .before .before .bare-line in
     let r5 = c .before .before .before .before .bare-line2 in
-    let room1 : a .n ≤ 1600000000 = omega arith in
-    let m1 = r1 .ensures .1 room1 in
-    let room2 : r1 .result ≤ 1600000000 = omega arith in
-    let m2 = r2 .ensures .1 room2 in
+    let room1 : a .n + blockRoom ≤ lastIndex = omega arith in
+    let m1 = r1 .ensures .1 in
+    let room2 : r1 .result + blockRoom ≤ lastIndex = omega arith in
+    let m2 = r2 .ensures .1 in
     let m3 = r3 .ensures .1 in
     let m4 = r4 .ensures .1 in
     let m5 = r5 .ensures .1 in
     let many = c .before .before .before .before .before .before .before .before .before .before .before .before .before .before .before .before .before .before .before .before .before .before .before .before .before .before .before .before .before .before .before .before .before .before .before .points-count .ensures in (
-      λ bytes limits lists idle.
+      λ bytes members s0.
           let S = setBy bytes (a .layout) in
           let cs = listed (a .points) in
-          let s0 : Ready (a .layout) (a .points) bytes (a .step) (now (a .slots)) (a .n) = record { limits = limits; idle = idle } in
-          let w1 = r1 .ensures .0 S cs refl (sym many) refl lists (s0 .limits .allPlaces) (s0 .limits .below) room1 in
-          let s1 = ready-block (a .layout) (a .points) bytes (a .step) 5 w1 s0 in
-          let w2 = r2 .ensures .0 S cs refl (sym many) lists (s1 .limits .allPlaces) (s1 .limits .below) room2 in
-          let s2 = ready-block (a .layout) (a .points) bytes (a .step) 6 w2 s1 in
-          let w3 = r3 .ensures .0 S cs refl (s2 .limits .allPlaces) (s2 .limits .below) in
-          let s3 = ready-block (a .layout) (a .points) bytes (a .step) 7 w3 s2 in
-          let w4 = r4 .ensures .0 S cs refl (λ (b : ℕ). lone-at S cs 0 b 8 (omega arith) refl) refl (omega arith) (s3 .limits .allPlaces) (s3 .limits .below) in
-          let s4 = ready-block (a .layout) (a .points) bytes (a .step) 8 w4 s3 in
-          let w5 = r5 .ensures .0 S cs refl (λ (b : ℕ). lone-at S cs 0 b 9 (omega arith) refl) refl (omega arith) (s4 .limits .allPlaces) (s4 .limits .below) in
-          five (a .layout) (a .points) bytes (a .step) 5 w1 w2 w3 w4 w5,
+          let w1 = r1 .ensures .0 S cs _ refl (sym many) refl s0 room1 in
+          let s1 = ready-block (a .step) held w1 s0 in
+          let w2 = r2 .ensures .0 S cs _ refl (sym many) s1 room2 in
+          let s2 = ready-block (a .step) waits w2 s1 in
+          let w3 = r3 .ensures .0 S cs _ _ refl s2 in
+          let s3 = ready-block (a .step) mayExecute w3 s2 in
+          let w4 = r4 .ensures .0 S cs _ _ refl (λ (b : ℕ). lone-at S cs 0 b (kindNumber none) (omega arith) refl) refl (omega arith) s3 in
+          let s4 = ready-block (a .step) none w4 s3 in
+          let w5 = r5 .ensures .0 S cs _ _ refl (λ (b : ℕ). lone-at S cs 0 b (kindNumber permittedFirst) (omega arith) refl) refl (omega arith) s4 in
+          five S cs (a .step) 5 w1 w2 w3 w4 w5,
       omega arith,
     )
 
@@ -135,7 +137,7 @@ permit-kinds-spec =
     points-count-requires
     marks-requires
     waits-requires
-    may-block-requires
+    may-execute-block-requires
     add-bare-line
     bare-line-requires
     bare-line-requires-2

@@ -4,15 +4,14 @@ use native.Mathlib.Omega.{arith}
 use lib.ListN.{length}
 use mathlib.Core.List.{List}
 use mathlib.Core.Path.{_≡_, refl, sym, _∙_}
-use Prim.Native.Nat.{ℕ, _+_, _-_, _*_, _≤_, _<_}
+use Prim.Native.Nat.{ℕ, _+_, _-_, _*_, _≤_}
 use Rattle.records.specs.Sets.{Set}
 use Rattle.table.specs.Programs.{upto}
-use Rattle.encoding.specs.Slots.{Slot, kindAt}
+use Rattle.encoding.specs.Slots.{kindAt}
 use Rattle.encoding.specs.Steps.{line}
-use Rattle.encoder_slots.specs.Places.{placeOf, size}
-use Rattle.encoder_slots.specs.Pieces.{Writes}
-use Rattle.encoder_slots.proofs.Pieces.{writes-row, writes-more, below-after}
-use Rattle.set_index.specs.Members.{Members}
+use Rattle.encoder_slots.specs.Pieces.{Writes, Ready}
+use Rattle.encoder_slots.proofs.Ready.{ready-line}
+use Rattle.encoder_slots.proofs.Pieces.{writes-row, writes-more}
 use Rattle.encoder_step.specs.Entries.{ByThread}
 use Rattle.encoder_step.proofs.Loops.{line-one, registers}
 use borrow.Author.Needs.{needs}
@@ -22,8 +21,8 @@ use Rattle.encoder_step.proofs.register_block.Tie as tie
 abbrev Inv-loop : tie.InvT-loop
 Inv-loop members slots₀ out₀ threads step kind n next₀ t₀ slots out next t =
     (t ≤ threads) × (next ≤ n + 36 * t) × (length out ≡ length out₀) × (length slots ≡ length slots₀)
-    × ((S : Set) (cs : List ℕ) → S .threads ≡ threads → ByThread S cs kind → Members S members → length slots₀ ≡ size → ((s : Slot) → placeOf slots₀ s < n)
-    → (Writes (upto (line S cs step (kindAt kind)) t) out₀ slots₀ n out slots next) × ((s : Slot) → placeOf slots s < next))
+    × ((S : Set) (cs lists : List ℕ) → S .threads ≡ threads → ByThread S cs kind → Ready S cs members lists slots₀ n
+    → (Writes (upto (line S cs step (kindAt kind)) t) out₀ slots₀ n out slots next) × (Ready S cs members lists slots next))
 
 abbrev μ-loop : tie.MeasureT-loop
 μ-loop members slots₀ out₀ threads step kind n next₀ t₀ slots out next t = threads - t
@@ -35,7 +34,7 @@ loop-holds c =
       omega arith,
       refl,
       refl,
-      λ (S : Set) (cs : List ℕ) threads by members all below. (writes-row (line S cs (a .step) (kindAt (a .kind))) (now (a .out)) (now (a .slots)) (a .n), below),
+      λ (S : Set) (cs lists : List ℕ) threads by ready. (writes-row (line S cs (a .step) (kindAt (a .kind))) (now (a .out)) (now (a .slots)) (a .n), ready),
     )
 
 given-entry-requires : tie.Need-given-entry-requires Inv-loop μ-loop
@@ -64,11 +63,11 @@ loop-again c =
       omega arith,
       search needs,
       search needs,
-      λ (S : Set) (cs : List ℕ) threads by members all below.
+      λ (S : Set) (cs lists : List ℕ) threads by ready.
           let f = line S cs (a .step) (kindAt (a .kind)) in
-          let done = l .inv .4 S cs threads by members all below in
-          let w = line-one S cs (a .step) (a .kind) _ _ _ _ _ _ (by .each) (l .t) (r .ensures .0 S cs threads (by .own (l .t)) members (l .inv .3 ∙ all) (done .1)) in
-          (writes-more f (l .t) (now (a .out)) (now (a .slots)) (a .n) _ _ _ _ _ _ (done .0) w, below-after (f (l .t)) _ _ _ _ _ _ w (done .1)),
+          let done = l .inv .4 S cs lists threads by ready in
+          let w = line-one S cs (a .step) (a .kind) _ _ _ _ _ _ (by .each) (l .t) (r .ensures .0 S cs lists threads (by .own (l .t)) (done .1)) in
+          (writes-more f (l .t) (now (a .out)) (now (a .slots)) (a .n) _ _ _ _ _ _ (done .0) w, ready-line (a .step) (kindAt (a .kind)) (l .t) w (done .1)),
     )
 
 same-length : tie.Need-same-length Inv-loop μ-loop
@@ -85,8 +84,8 @@ returns c =
     let four = q .1 in
     let so-far = l .inv .1 in
     let t-is : l .t ≡ a .threads = omega arith in (
-      λ (S : Set) (cs : List ℕ) threads by members all below.
-          registers S cs (a .step) (a .kind) _ _ _ _ _ _ (by .each) (l .t) (t-is ∙ sym threads) (l .inv .4 S cs threads by members all below .0),
+      λ (S : Set) (cs lists : List ℕ) threads by ready.
+          registers S cs (a .step) (a .kind) _ _ _ _ _ _ (by .each) (l .t) (t-is ∙ sym threads) (l .inv .4 S cs lists threads by ready .0),
       omega arith,
     )
 

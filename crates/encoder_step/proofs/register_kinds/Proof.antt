@@ -2,12 +2,11 @@
 use denote.Ref.{now}
 use native.Mathlib.Omega.{arith}
 use mathlib.Core.Path.{_≡_, _∙_}
-use Rattle.records.specs.Sets.{setBy}
 use lib.ListN.{length}
-use Rattle.encoding.specs.Slots.{kinds}
-use Rattle.set_index.specs.Points.{listed}
+use Rattle.encoding.specs.Slots.{kinds, adr, mem, accu, full}
 use Rattle.encoder_step.proofs.Given.{of-accu, of-adr, of-full, of-halted, of-mem}
-use Rattle.encoder_step.proofs.Sequence.{Ready, ready-block, five}
+use Rattle.encoder_slots.proofs.Ready.{ready-block}
+use Rattle.encoder_step.proofs.Sequence.{five}
 use borrow.Author.Needs.{needs}
 use Rattle.encoder_step.proofs.register_kinds.Statement.{statement}
 use Rattle.encoder_step.proofs.register_kinds.Tie as tie
@@ -80,20 +79,17 @@ returns c =
     let m3 = r3 .ensures .1 in
     let m4 = r4 .ensures .1 in
     let m5 = r5 .ensures .1 in (
-      λ bytes layout points threads limits members idle.
-          let S = setBy bytes layout in
-          let cs = listed points in
-          let s0 : Ready layout points bytes (a .step) (now (a .slots)) (a .n) = record { limits = limits; idle = idle } in
-          let w1 = r1 .ensures .0 S cs threads (of-adr S cs) members (s0 .limits .allPlaces) (s0 .limits .below) in
-          let s1 = ready-block layout points bytes (a .step) 26 w1 s0 in
-          let w2 = r2 .ensures .0 S cs threads (of-mem S cs) members (s1 .limits .allPlaces) (s1 .limits .below) in
-          let s2 = ready-block layout points bytes (a .step) 27 w2 s1 in
-          let w3 = r3 .ensures .0 S cs threads (of-accu S cs) members (s2 .limits .allPlaces) (s2 .limits .below) in
-          let s3 = ready-block layout points bytes (a .step) 28 w3 s2 in
-          let w4 = r4 .ensures .0 S cs threads (of-full S cs) members (s3 .limits .allPlaces) (s3 .limits .below) in
-          let s4 = ready-block layout points bytes (a .step) 29 w4 s3 in
-          let w5 = r5 .ensures .0 S cs threads (of-halted S cs) members (s4 .limits .allPlaces) (s4 .limits .below) in
-          five layout points bytes (a .step) 26 w1 w2 w3 w4 w5,
+      λ S cs lists threads s0.
+          let w1 = r1 .ensures .0 S cs _ threads (of-adr S cs) s0 in
+          let s1 = ready-block (a .step) adr w1 s0 in
+          let w2 = r2 .ensures .0 S cs _ threads (of-mem S cs) s1 in
+          let s2 = ready-block (a .step) mem w2 s1 in
+          let w3 = r3 .ensures .0 S cs _ threads (of-accu S cs) s2 in
+          let s3 = ready-block (a .step) accu w3 s2 in
+          let w4 = r4 .ensures .0 S cs _ threads (of-full S cs) s3 in
+          let s4 = ready-block (a .step) full w4 s3 in
+          let w5 = r5 .ensures .0 S cs _ threads (of-halted S cs) s4 in
+          five S cs (a .step) 26 w1 w2 w3 w4 w5,
       omega arith,
     )
 

@@ -4,15 +4,14 @@ use native.Mathlib.Omega.{arith}
 use lib.ListN.{length}
 use mathlib.Core.List.{List}
 use mathlib.Core.Path.{_≡_, refl, sym, _∙_}
-use Prim.Native.Nat.{ℕ, _+_, _-_, _*_, _≤_, _<_}
+use Prim.Native.Nat.{ℕ, _+_, _-_, _*_, _≤_}
 use Rattle.records.specs.Sets.{Set}
 use Rattle.table.specs.Programs.{upto}
-use Rattle.encoding.specs.Slots.{Slot, kindAt}
+use Rattle.encoding.specs.Slots.{kindAt}
 use Rattle.encoding.specs.Steps.{entry}
-use Rattle.encoder_slots.specs.Places.{placeOf, size}
-use Rattle.encoder_slots.specs.Pieces.{Writes}
-use Rattle.encoder_slots.proofs.Pieces.{writes-row, writes-more, below-after}
-use Rattle.set_index.specs.Members.{Members}
+use Rattle.encoder_slots.specs.Pieces.{Writes, Ready}
+use Rattle.encoder_slots.proofs.Ready.{ready-entry}
+use Rattle.encoder_slots.proofs.Pieces.{writes-row, writes-more}
 use Rattle.encoder_step.specs.Entries.{AfterThread}
 use Rattle.encoder_step.proofs.Loops.{running}
 use borrow.Author.Needs.{needs}
@@ -22,9 +21,9 @@ use Rattle.encoder_step.proofs.running_block.Tie as tie
 abbrev Inv-loop : tie.InvT-loop
 Inv-loop members slots₀ out₀ threads step kind n next₀ t₀ slots out next t =
     (t ≤ threads) × (next ≤ next₀ + 36 * t) × (length out ≡ length out₀) × (length slots ≡ length slots₀)
-    × ((S : Set) (cs : List ℕ) (begun begunSlots : List ℕ) (m : ℕ) → S .threads ≡ threads → AfterThread S cs kind → Members S members → length slots₀ ≡ size → ((s : Slot) → placeOf slots₀ s < next₀)
+    × ((S : Set) (cs lists begun begunSlots : List ℕ) (m : ℕ) → S .threads ≡ threads → AfterThread S cs kind → Ready S cs members lists slots₀ next₀
     → Writes (upto (entry S cs step (kindAt kind) 0) 1) begun begunSlots m out₀ slots₀ next₀
-    → (Writes (upto (entry S cs step (kindAt kind) 0) (t + 1)) begun begunSlots m out slots next) × ((s : Slot) → placeOf slots s < next))
+    → (Writes (upto (entry S cs step (kindAt kind) 0) (t + 1)) begun begunSlots m out slots next) × (Ready S cs members lists slots next))
 
 abbrev μ-loop : tie.MeasureT-loop
 μ-loop members slots₀ out₀ threads step kind n next₀ t₀ slots out next t = threads - t
@@ -33,10 +32,10 @@ bare-entry-requires : tie.Need-bare-entry-requires Inv-loop μ-loop
 bare-entry-requires c κs =
     let q = c .before .before .before .before .before .pre in
     let room = q .0 in
-    (omega arith, q .2, omega arith, omega arith, q .3, q .4)
+    (omega arith, omega arith, omega arith)
 
 loop-holds : tie.Need-loop-holds Inv-loop μ-loop
-loop-holds c = (omega arith, omega arith, refl, refl, λ S cs begun begunSlots m threads after members all below w. (w, below))
+loop-holds c = (omega arith, omega arith, refl, refl, λ S cs lists begun begunSlots m threads after ready w. (w, ready))
 
 cast-b : tie.Need-cast-b Inv-loop μ-loop
 cast-b c = search needs
@@ -71,11 +70,11 @@ loop-again c =
       omega arith,
       search needs,
       search needs,
-      λ (S : Set) (cs : List ℕ) (begun begunSlots : List ℕ) (m : ℕ) threads after members all below first.
+      λ (S : Set) (cs lists begun begunSlots : List ℕ) (m : ℕ) threads after ready first.
           let f = entry S cs (a .step) (kindAt (a .kind)) 0 in
-          let done = l .inv .4 S cs begun begunSlots m threads after members all below first in
-          let w = r .ensures .0 S cs threads (after .next (l .t + 1) (l .t) refl) members (l .inv .3 ∙ all) (done .1) in
-          (writes-more f (l .t + 1) begun begunSlots m _ _ _ _ _ _ (done .0) w, below-after (f (l .t + 1)) _ _ _ _ _ _ w (done .1)),
+          let done = l .inv .4 S cs lists begun begunSlots m threads after ready first in
+          let w = r .ensures .0 S cs lists threads (after .next (l .t + 1) (l .t) refl) (done .1) in
+          (writes-more f (l .t + 1) begun begunSlots m _ _ _ _ _ _ (done .0) w, ready-entry (a .step) (kindAt (a .kind)) 0 (l .t + 1) w (done .1)),
     )
 
 same-length : tie.Need-same-length Inv-loop μ-loop
@@ -94,12 +93,12 @@ returns c =
     let so-far = l .inv .1 in
     let first = r .ensures .1 in
     let t-is : l .t ≡ a .threads = omega arith in (
-      λ (S : Set) (cs : List ℕ) threads after members all below.
+      λ (S : Set) (cs lists : List ℕ) threads after ready.
           let f = entry S cs (a .step) (kindAt (a .kind)) 0 in
-          let w = r .ensures .0 S cs threads (after .first) all below in
+          let w = r .ensures .0 S cs (now (a .members)) lists threads (after .first) ready in
           let begins = writes-more f 0 (now (a .out)) (now (a .slots)) (a .n) _ _ _ _ _ _ (writes-row f (now (a .out)) (now (a .slots)) (a .n)) w in
           running S cs (a .step) (a .kind) _ _ _ _ _ _ (after .before) (l .t) (t-is ∙ sym threads)
-          (l .inv .4 S cs (now (a .out)) (now (a .slots)) (a .n) threads after members (w .slotsStay ∙ all) (below-after (f 0) _ _ _ _ _ _ w below) begins .0),
+          (l .inv .4 S cs lists (now (a .out)) (now (a .slots)) (a .n) threads after (ready-entry (a .step) (kindAt (a .kind)) 0 0 w ready) begins .0),
       omega arith,
     )
 

@@ -2,7 +2,7 @@
 use denote.Ref.{now}
 use native.Mathlib.Omega.{arith}
 use mathlib.Core.List.{List}
-use mathlib.Core.Path.{_≡_, refl, ap}
+use mathlib.Core.Path.{_≡_, ap}
 use mathlib.Core.Bool.{true}
 use Prim.Native.Nat.{ℕ, _+_, _≤_, _<_}
 use Rattle.records.specs.Sets.{Set}
@@ -18,6 +18,7 @@ use Rattle.encoder_step.proofs.Loops.{one-value}
 use borrow.Author.Needs.{needs}
 use Rattle.encoder_step.proofs.single_block.Statement.{statement}
 use Rattle.encoder_step.proofs.single_block.Tie as tie
+use Rattle.table.specs.Repeats.{lastIndex}
 
 put-base-requires : tie.Need-put-base-requires
 put-base-requires c κs = search needs
@@ -47,24 +48,24 @@ returns c =
     let most = b .ensures .1 in
     let last = r .ensures .1 in
     let little = q .0 in
-    let room : a .n ≤ 2000000000 = omega arith in
-    let few : a .n + b .result .count ≤ 1900000000 = omega arith in
+    let room : a .n ≤ lastIndex = omega arith in
+    let few : a .n + b .result .count + 8 ≤ lastIndex = omega arith in
     let column : 0 < width (a .kind) = let least = width-least (a .kind) in omega arith in (
-      λ (S : Set) (cs : List ℕ) threads chained single all below.
+      λ (S : Set) (cs members lists : List ℕ) threads chained single ready.
           let places = placeOf (now (a .slots)) in
           let root = base S cs (a .step) (kindAt (a .kind)) 0 0 in
           let g = b .ensures .0 S cs threads (q .3) (q .4) room in
           let w : WritesTree places (treeOf S cs (a .step) (kindAt (a .kind)) 0 0) (now (a .out)) (a .n) _ (r .result .next) (r .result .at) =
-          r .ensures .0 S cs root (now (a .out)) (a .n) threads (q .1) chained few all (put-written (b .result) places (a .n) root (now (a .out)) _ g) in
+          r .ensures .0 S cs root (now (a .out)) (a .n) threads (q .1) chained few (ready .allPlaces) (put-written (b .result) places (a .n) root (now (a .out)) _ g) in
           let small : r .result .at < 4294967295 =
-          let i = inside places (treeOf S cs (a .step) (kindAt (a .kind)) 0 0) (a .n) below in
+          let i = inside places (treeOf S cs (a .step) (kindAt (a .kind)) 0 0) (a .n) (ready .below) in
           let x = w .treeRoot in
           let f = w .treeNext in
           omega arith in
           let there : kept S cs 0 (shape (kindAt (a .kind))) 0 0 ≡ true = ap (λ (s : Shape). kept S cs 0 s 0 0) single in
           one-value S cs (a .step) (a .kind) _ _ _ _ _ _ (ap (rows S cs (a .step)) single) (ap (λ (s : Shape). columns S cs (a .step) s 0) single)
           (entry-kept S cs (a .step) (kindAt (a .kind)) 0 0 (now (a .out)) (now (a .slots)) (a .n) _ _ (r .result .next) (r .result .at) there w
-          (p .1 all (q .2) (omega arith) column small) (p .0)),
+          (p .1 (ready .allPlaces) (q .2) (omega arith) column small) (p .0)),
       omega arith,
     )
 

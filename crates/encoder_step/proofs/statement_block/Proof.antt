@@ -5,30 +5,27 @@ use denote.Ref.{now}
 use native.Mathlib.Omega.{arith}
 use mathlib.Core.Path.{_≡_, refl, _∙_, subst}
 use Prim.Native.Nat.{ℕ, _+_, _-_, _*_, _≤_}
-use Rattle.encoder_slots.specs.Places.{placeOf}
-use Rattle.set_index.specs.Points.{listed}
-use Rattle.encoder_slots.specs.Idle.{Idle}
-use Rattle.set_index.specs.Members.{Members}
-use Rattle.encoder_slots.proofs.Idle.{idle-line, idle-written}
-use Rattle.set_index.specs.declared.points.Points.{Points}
 use Rattle.encoding.specs.Steps.{line}
 use Rattle.encoding.specs.Slots.{kindAt}
 use Rattle.table.specs.Programs.{upto}
 use Rattle.records.specs.Sets.{setBy}
-use Rattle.encoder_slots.proofs.Pieces.{writes-row, writes-more, limits-after}
-use Rattle.encoder_slots.specs.Pieces.{Writes, Limits}
+use mathlib.Core.List.{List}
+use Rattle.encoder_slots.proofs.Ready.{ready-line}
+use Rattle.encoder_slots.proofs.Pieces.{writes-row, writes-more}
+use Rattle.encoder_slots.specs.Pieces.{Writes, Ready, lineRoom}
 use Rattle.encoder_step.proofs.Loops.{statement-rows}
 use Rattle.encoder_step.proofs.statement_block.Statement.{statement}
 use Rattle.encoder_step.proofs.statement_block.Tie as tie
 use Rattle.encoder_step.proofs.statement_block.Reads as reads
 use Rattle.encoder_step.proofs.statement_block.Lts as lts
 use Rattle.encoder_statements.proofs.statement_line.Reads as statement-line-reads
+use Rattle.table.specs.Repeats.{lastIndex}
 
 abbrev Inv-loop : tie.InvT-loop
 Inv-loop set layout members slots₀ out₀ kind n threads next₀ t₀ slots out next t =
     (t ≤ threads) × (threads ≤ 4) × (next ≤ n + 1152 * t) × (length out ≡ length out₀) × (length slots ≡ length slots₀)
-    × ((points : Points) (step : ℕ) → Limits layout points slots₀ n → Members (setBy set layout) members → Idle (setBy set layout) (placeOf slots₀)
-    → (Writes (upto (line (setBy set layout) (listed points) step (kindAt kind)) t) out₀ slots₀ n out slots next) × (Limits layout points slots next) × (Idle (setBy set layout) (placeOf slots)))
+    × ((cs lists : List ℕ) (step : ℕ) → Ready (setBy set layout) cs members lists slots₀ n
+    → (Writes (upto (line (setBy set layout) cs step (kindAt kind)) t) out₀ slots₀ n out slots next) × (Ready (setBy set layout) cs members lists slots next))
 
 abbrev μ-loop : tie.MeasureT-loop
 μ-loop set layout members slots₀ out₀ kind n threads next₀ t₀ slots out next t = threads - t
@@ -42,8 +39,8 @@ loop-holds c =
       omega arith,
       refl,
       refl,
-      λ (points : Points) (step : ℕ) limits members idle.
-          (writes-row (line (setBy (now (a .set)) (a .layout)) (listed points) step (kindAt (a .kind))) (now (a .out)) (now (a .slots)) (a .n), limits, idle),
+      λ (cs lists : List ℕ) (step : ℕ) ready.
+          (writes-row (line (setBy (now (a .set)) (a .layout)) cs step (kindAt (a .kind))) (now (a .out)) (now (a .slots)) (a .n), ready),
     )
 
 statement-line-requires : tie.Need-statement-line-requires Inv-loop μ-loop
@@ -63,21 +60,19 @@ loop-again c =
     let r = c .before .before .before .before .statement-line in
     let S = setBy (now (a .set)) (a .layout) in
     let little = q .0 in
-    let few : l .next ≤ 1700000000 = omega arith in
-    let last = r .ensures .1 few in (
+    let few : l .next + lineRoom ≤ lastIndex = omega arith in
+    let last = r .ensures .1 in (
       omega arith,
       l .inv .1,
       omega arith,
       search needs,
       search needs,
-      λ (points : Points) (step : ℕ) limits members idle.
-          let f = line S (listed points) step (kindAt (a .kind)) in
-          let done = l .inv .5 points step limits members idle in
-          let here = done .1 in
-          let w = r .ensures .0 (listed points) step (q .3) (omega arith) (here .fewStatements (l .t)) few (here .allPlaces) members (done .2) (here .below) in (
+      λ (cs lists : List ℕ) (step : ℕ) ready.
+          let f = line S cs step (kindAt (a .kind)) in
+          let done = l .inv .5 cs lists step ready in
+          let w = r .ensures .0 cs lists step (q .3) (omega arith) few (done .1) in (
             writes-more f (l .t) (now (a .out)) (now (a .slots)) (a .n) _ _ _ _ _ _ (done .0) w,
-            limits-after (a .layout) points (f (l .t)) _ _ _ _ _ _ w here,
-            idle-written S (f (l .t)) (idle-line S (listed points) step (kindAt (a .kind)) (l .t)) _ _ _ _ _ _ w (done .2),
+            ready-line step (kindAt (a .kind)) (l .t) w (done .1),
           ),
     )
 
@@ -94,9 +89,9 @@ returns c =
     let l = c .before .loop in
     let S = setBy (now (a .set)) (a .layout) in
     let t-is : l .t ≡ a .layout .threads = omega arith in (
-      λ (points : Points) (step : ℕ) limits members idle.
-          subst (λ (j : ℕ). Writes (upto (line S (listed points) step (kindAt (a .kind))) j) (now (a .out)) (now (a .slots)) (a .n) (l .out) (l .slots) (l .next))
-          (t-is ∙ statement-rows S (listed points) step (a .kind) (q .2) (q .3)) (l .inv .5 points step limits members idle .0),
+      λ (cs lists : List ℕ) (step : ℕ) ready.
+          subst (λ (j : ℕ). Writes (upto (line S cs step (kindAt (a .kind))) j) (now (a .out)) (now (a .slots)) (a .n) (l .out) (l .slots) (l .next))
+          (t-is ∙ statement-rows S cs step (a .kind) (q .2) (q .3)) (l .inv .5 cs lists step ready .0),
       omega arith,
     )
 

@@ -4,9 +4,9 @@ use native.Mathlib.Omega.{arith}
 use mathlib.Core.Path.{_≡_, refl, _∙_}
 use Rattle.records.specs.Sets.{setBy}
 use lib.ListN.{length}
-use Rattle.encoding.specs.Slots.{kinds}
-use Rattle.set_index.specs.Points.{listed}
-use Rattle.encoder_step.proofs.Sequence.{Ready, ready-block, five}
+use Rattle.encoding.specs.Slots.{kinds, address, loaded, swaps, result}
+use Rattle.encoder_slots.proofs.Ready.{ready-block}
+use Rattle.encoder_step.proofs.Sequence.{five}
 use borrow.Author.Needs.{needs}
 use Rattle.encoder_step.proofs.statement_kinds.Statement.{statement}
 use Rattle.encoder_step.proofs.statement_kinds.Tie as tie
@@ -79,18 +79,18 @@ returns c =
     let m3 = r3 .ensures .1 in
     let m4 = r4 .ensures .1 in
     let m5 = r5 .ensures .1 in (
-      λ points step limits members idle.
-          let s0 : Ready (a .layout) points (now (a .set)) step (now (a .slots)) (a .n) = record { limits = limits; idle = idle } in
-          let w1 = r1 .ensures .0 points step (s0 .limits) members (s0 .idle) in
-          let s1 = ready-block (a .layout) points (now (a .set)) step 11 w1 s0 in
-          let w2 = r2 .ensures .0 points step (s1 .limits) members (s1 .idle) in
-          let s2 = ready-block (a .layout) points (now (a .set)) step 12 w2 s1 in
-          let w3 = r3 .ensures .0 points step (s2 .limits) members (s2 .idle) in
-          let s3 = ready-block (a .layout) points (now (a .set)) step 13 w3 s2 in
-          let w4 = r4 .ensures .0 points step (s3 .limits) members (s3 .idle) in
-          let s4 = ready-block (a .layout) points (now (a .set)) step 14 w4 s3 in
-          let w5 = r5 .ensures .0 points step (s4 .limits) members (s4 .idle) in
-          five (a .layout) points (now (a .set)) step 11 w1 w2 w3 w4 w5,
+      λ cs lists step s0.
+          let S = setBy (now (a .set)) (a .layout) in
+          let w1 = r1 .ensures .0 cs _ step s0 in
+          let s1 = ready-block step address w1 s0 in
+          let w2 = r2 .ensures .0 cs _ step s1 in
+          let s2 = ready-block step loaded w2 s1 in
+          let w3 = r3 .ensures .0 cs _ step s2 in
+          let s3 = ready-block step swaps w3 s2 in
+          let w4 = r4 .ensures .0 cs _ step s3 in
+          let s4 = ready-block step result w4 s3 in
+          let w5 = r5 .ensures .0 cs _ step s4 in
+          five S cs step 11 w1 w2 w3 w4 w5,
       omega arith,
     )
 

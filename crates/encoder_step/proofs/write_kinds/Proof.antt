@@ -4,10 +4,10 @@ use native.Mathlib.Omega.{arith}
 use mathlib.Core.Path.{_≡_, refl, _∙_}
 use Rattle.records.specs.Sets.{setBy}
 use lib.ListN.{length}
-use Rattle.encoding.specs.Slots.{kinds}
-use Rattle.set_index.specs.Points.{listed}
+use Rattle.encoding.specs.Slots.{kinds, notTest, flushTo, writeTo, flushValue}
 use Rattle.encoder_step.proofs.Given.{of-writeTo, of-writeValue}
-use Rattle.encoder_step.proofs.Sequence.{Ready, ready-block, five}
+use Rattle.encoder_slots.proofs.Ready.{ready-block}
+use Rattle.encoder_step.proofs.Sequence.{five}
 use borrow.Author.Needs.{needs}
 use Rattle.encoder_step.proofs.write_kinds.Statement.{statement}
 use Rattle.encoder_step.proofs.write_kinds.Tie as tie
@@ -33,7 +33,7 @@ running-block-requires-2 c κs =
     let m2 = c .before .before .before .before .before .before .before .before .before .before .before .before .before .before .before .before .before .before .before .before .single-block .ensures .1 in
     let m3 = c .before .before .before .before .before .before .before .before .before .before .before .before .before .running-block .ensures .1 in
     let m4 = c .before .before .before .before .before .before .single-block2 .ensures .1 in
-    (omega arith, omega arith, omega arith, refl, λ e. absurd (omega arith))
+    (omega arith, omega arith)
 
 same-length : tie.Need-same-length
 same-length c =
@@ -80,20 +80,18 @@ returns c =
     let m3 = r3 .ensures .1 in
     let m4 = r4 .ensures .1 in
     let m5 = r5 .ensures .1 in (
-      λ points limits members idle.
+      λ cs lists s0.
           let S = setBy (now (a .set)) (a .layout) in
-          let cs = listed points in
-          let s0 : Ready (a .layout) points (now (a .set)) (a .step) (now (a .slots)) (a .n) = record { limits = limits; idle = idle } in
-          let w1 = r1 .ensures .0 points (a .step) (s0 .limits) members (s0 .idle) in
-          let s1 = ready-block (a .layout) points (now (a .set)) (a .step) 16 w1 s0 in
-          let w2 = r2 .ensures .0 S cs refl refl refl (s1 .limits .allPlaces) (s1 .limits .below) in
-          let s2 = ready-block (a .layout) points (now (a .set)) (a .step) 17 w2 s1 in
-          let w3 = r3 .ensures .0 S cs refl (of-writeTo S cs) members (s2 .limits .allPlaces) (s2 .limits .below) in
-          let s3 = ready-block (a .layout) points (now (a .set)) (a .step) 18 w3 s2 in
-          let w4 = r4 .ensures .0 S cs refl refl refl (s3 .limits .allPlaces) (s3 .limits .below) in
-          let s4 = ready-block (a .layout) points (now (a .set)) (a .step) 19 w4 s3 in
-          let w5 = r5 .ensures .0 S cs refl (of-writeValue S cs) members (s4 .limits .allPlaces) (s4 .limits .below) in
-          five (a .layout) points (now (a .set)) (a .step) 16 w1 w2 w3 w4 w5,
+          let w1 = r1 .ensures .0 cs _ (a .step) s0 in
+          let s1 = ready-block (a .step) notTest w1 s0 in
+          let w2 = r2 .ensures .0 S cs _ _ refl refl refl s1 in
+          let s2 = ready-block (a .step) flushTo w2 s1 in
+          let w3 = r3 .ensures .0 S cs _ refl (of-writeTo S cs) s2 in
+          let s3 = ready-block (a .step) writeTo w3 s2 in
+          let w4 = r4 .ensures .0 S cs _ _ refl refl refl s3 in
+          let s4 = ready-block (a .step) flushValue w4 s3 in
+          let w5 = r5 .ensures .0 S cs _ refl (of-writeValue S cs) s4 in
+          five S cs (a .step) 16 w1 w2 w3 w4 w5,
       omega arith,
     )
 

@@ -3,7 +3,7 @@ use denote.Ref.{now}
 use native.Mathlib.Omega.{arith}
 use mathlib.Core.Path.{ap, _∙_}
 use Rattle.table.specs.declared.Formula.{Formula}
-use Rattle.encoder_bases.specs.Fews.{plain}
+use Rattle.encoder_bases.specs.SmallTrees.{plain}
 use Rattle.encoder_bases.proofs.Records.{recordAt}
 use Rattle.encoder_bases.proofs.Given.{puts-one}
 use borrow.Author.Needs.{needs}

@@ -1,5 +1,5 @@
 -- `encoder_chains::chains::opening_chain` meets its contract. Assumes nothing.
-use Rattle.set_index.specs.Tables.{ListTable}
+use Rattle.set_index.specs.ListTables.{ListTable}
 use Rattle.encoder_chains.proofs.Leads.{and-placed}
 use Rattle.machine.specs.Machine.{contains}
 use Rattle.records.specs.Sets.{Set}
@@ -17,11 +17,12 @@ use lib.ListN.{length, getD}
 use borrow.Author.Needs.{needs}
 use Rattle.encoder_chains.proofs.chains.opening_chain.Statement.{statement}
 use Rattle.encoder_chains.proofs.chains.opening_chain.Tie as tie
+use Rattle.table.specs.Repeats.{lastIndex}
 
 abbrev Inv-loop : tie.InvT-loop
 Inv-loop table slots out₀ threads p n base tree₀ t₀ out tree t =
     (t ≤ threads) × (threads ≤ 4) × (tree .next ≤ n + t) × (length out ≡ length out₀)
-    × ((S : Set) (cs : List ℕ) (base-tree : Term) (start : List ℕ) (m : ℕ) → S .threads ≡ threads → p < length cs → n ≤ 1900000000 → ListTable S cs table
+    × ((S : Set) (cs : List ℕ) (base-tree : Term) (start : List ℕ) (m : ℕ) → S .threads ≡ threads → p < length cs → n + 4 ≤ lastIndex → ListTable S cs table
     → WritesTree (placeOf slots) base-tree start m out₀ n base
     → WritesTree (placeOf slots) (chainOf (link S cs 0 opening 0 p) t base-tree) start m out (tree .next) (tree .at))
 
@@ -78,7 +79,7 @@ loop-again c =
       l .inv .1,
       omega arith,
       p .kept .0 ∙ l .inv .3,
-      λ (S : Set) (cs : List ℕ) (tree : Term) (start : List ℕ) (m : ℕ) (is : S .threads ≡ a .threads) inside (small : a .n ≤ 1900000000) k w.
+      λ (S : Set) (cs : List ℕ) (tree : Term) (start : List ℕ) (m : ℕ) (is : S .threads ≡ a .threads) inside (small : a .n + 4 ≤ lastIndex) k w.
           let links = link S cs 0 opening 0 (a .p) in
           let here : l .t < S .threads = omega arith in
           chain-more (placeOf (now (a .slots))) links tree start m _ _ _ (l .t)

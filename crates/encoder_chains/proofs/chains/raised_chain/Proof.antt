@@ -12,7 +12,7 @@ use Rattle.encoding.specs.Slots.{Term, slot, active, raised, bitOne}
 use Rattle.encoding.specs.Steps.{only, link, chain}
 use Rattle.encoder_slots.specs.Pieces.{WritesTree}
 use Rattle.encoder_slots.specs.Places.{placeOf}
-use Rattle.set_index.specs.Tables.{ListTable}
+use Rattle.set_index.specs.ListTables.{ListTable}
 use Rattle.set_index.specs.Lists.{Leads}
 use Rattle.set_index.proofs.Making.{onward-after, onward-is}
 use Rattle.encoder_chains.proofs.Raised.{Reached, reached}
@@ -21,11 +21,12 @@ use Rattle.encoder_chains.proofs.Trees.{chain-none, chain-more}
 use borrow.Author.Needs.{needs}
 use Rattle.encoder_chains.proofs.chains.raised_chain.Statement.{statement}
 use Rattle.encoder_chains.proofs.chains.raised_chain.Tie as tie
+use Rattle.table.specs.Repeats.{lastIndex}
 
 abbrev Inv-loop : tie.InvT-loop
 Inv-loop table slots out₀ t p n base tree₀ i₀ out tree i =
     (tree .next ≤ n + i) × (tree .next ≤ n + 32) × (length out ≡ length out₀)
-    × ((S : Set) (cs : List ℕ) (base-tree : Term) (start : List ℕ) (m : ℕ) → t < S .threads → p < length cs → n ≤ 1900000000 → ListTable S cs table
+    × ((S : Set) (cs : List ℕ) (base-tree : Term) (start : List ℕ) (m : ℕ) → t < S .threads → p < length cs → n + 32 ≤ lastIndex → ListTable S cs table
     → WritesTree (placeOf slots) base-tree start m out₀ n base
     → Reached S cs t p (placeOf slots) base-tree start m out (tree .next) (tree .at) i)
 
@@ -92,7 +93,7 @@ loop-again c =
       omega arith,
       omega arith,
       p .kept .0 ∙ l .inv .2,
-      λ (S : Set) (cs : List ℕ) (tree : Term) (start : List ℕ) (m : ℕ) row column (small : a .n ≤ 1900000000) (k : ListTable S cs (now (a .table))) w.
+      λ (S : Set) (cs : List ℕ) (tree : Term) (start : List ℕ) (m : ℕ) row column (small : a .n + 32 ≤ lastIndex) (k : ListTable S cs (now (a .table))) w.
           let places = placeOf (now (a .slots)) in
           let links = link S cs 0 raised (a .t) (a .p) in
           let r = l .inv .3 S cs tree start m row column small k w .there going in

@@ -16,11 +16,12 @@ use lib.ListN.{length}
 use borrow.Author.Needs.{needs}
 use Rattle.encoder_chains.proofs.chains.single_chain.Statement.{statement}
 use Rattle.encoder_chains.proofs.chains.single_chain.Tie as tie
+use Rattle.table.specs.Repeats.{lastIndex}
 
 abbrev Inv-loop : tie.InvT-loop
 Inv-loop slots out₀ threads kind n base tree₀ many i₀ out tree i =
     (i ≤ many) × (many ≤ 8) × (tree .next ≤ n + i) × (length out ≡ length out₀)
-    × ((S : Set) (cs : List ℕ) (base-tree : Term) (start : List ℕ) (m : ℕ) → S .threads ≡ threads → chained kind ≡ true → n ≤ 1900000000
+    × ((S : Set) (cs : List ℕ) (base-tree : Term) (start : List ℕ) (m : ℕ) → S .threads ≡ threads → chained kind ≡ true → n + 8 ≤ lastIndex
     → WritesTree (placeOf slots) base-tree start m out₀ n base
     → WritesTree (placeOf slots) (chainOf (link S cs 0 (kindAt kind) 0 0) i base-tree) start m out (tree .next) (tree .at))
 
@@ -74,7 +75,7 @@ loop-again c =
       l .inv .1,
       omega arith,
       p .kept .0 ∙ l .inv .3,
-      λ (S : Set) (cs : List ℕ) (tree : Term) (start : List ℕ) (m : ℕ) e single (small : a .n ≤ 1900000000) w.
+      λ (S : Set) (cs : List ℕ) (tree : Term) (start : List ℕ) (m : ℕ) e single (small : a .n + 8 ≤ lastIndex) w.
           let links = link S cs 0 (kindAt (a .kind)) 0 0 in
           chain-more (placeOf (now (a .slots))) links tree start m _ _ _ (l .i)
           (p .ensures .0 (placeOf (now (a .slots))) (links (l .i)) (chainOf links (l .i) tree) start m (omega arith)

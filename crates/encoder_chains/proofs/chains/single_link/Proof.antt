@@ -28,8 +28,8 @@ flush effect c S e =
     let a = c .before .args in
     sym (ap (λ (x : ℕ). ifLink 2 (placeFrom (now (a .slots)) 0 0 (x + a .i) 0) (placeFrom (now (a .slots)) effect (a .i) 0 2)) e)
 
-one-requires : tie.Need-one-requires
-one-requires c κs = search needs
+one-permitted-requires : tie.Need-one-permitted-requires
+one-permitted-requires c κs = search needs
 
 flushed-requires : tie.Need-flushed-requires
 flushed-requires c κs = search needs
@@ -42,7 +42,7 @@ halts-requires c κs = search needs
 
 returns : tie.Need-returns
 unfolding kinds
-returns c = λ (S : Set) (cs : List ℕ) e single. c .one .ensures ∙ arm 10 (c .before .before) (c .before .match .keys1) S cs
+returns c = λ (S : Set) (cs : List ℕ) e single. c .one-permitted .ensures ∙ arm 10 (c .before .before) (c .before .match .keys1) S cs
 
 returns-2 : tie.Need-returns-2
 unfolding kinds
@@ -62,7 +62,7 @@ pub single-link-spec : {M : Type 1} → statement M
 single-link-spec =
     tie.close
     (tie.spec
-    one-requires
+    one-permitted-requires
     flushed-requires
     flushed-requires-2
     halts-requires

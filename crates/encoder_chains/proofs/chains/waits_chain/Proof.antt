@@ -1,5 +1,5 @@
 -- `encoder_chains::chains::waits_chain` meets its contract. Assumes nothing.
-use Rattle.set_index.specs.Tables.{ListTable}
+use Rattle.set_index.specs.ListTables.{ListTable}
 use Rattle.encoder_chains.proofs.Leads.{or-placed}
 use Rattle.machine.specs.Machine.{contains}
 use Rattle.records.specs.Sets.{Set}
@@ -17,11 +17,12 @@ use lib.ListN.{length, getD}
 use borrow.Author.Needs.{needs}
 use Rattle.encoder_chains.proofs.chains.waits_chain.Statement.{statement}
 use Rattle.encoder_chains.proofs.chains.waits_chain.Tie as tie
+use Rattle.table.specs.Repeats.{lastIndex}
 
 abbrev Inv-loop : tie.InvT-loop
 Inv-loop table slots out₀ count t n base tree₀ p₀ out tree p =
     (p ≤ count) × (count ≤ 8) × (tree .next ≤ n + p) × (length out ≡ length out₀)
-    × ((S : Set) (cs : List ℕ) (base-tree : Term) (start : List ℕ) (m : ℕ) → length cs ≡ count → t < S .threads → n ≤ 1900000000 → ListTable S cs table
+    × ((S : Set) (cs : List ℕ) (base-tree : Term) (start : List ℕ) (m : ℕ) → length cs ≡ count → t < S .threads → n + 8 ≤ lastIndex → ListTable S cs table
     → WritesTree (placeOf slots) base-tree start m out₀ n base
     → WritesTree (placeOf slots) (chainOf (link S cs 0 waits t 0) p base-tree) start m out (tree .next) (tree .at))
 
@@ -78,7 +79,7 @@ loop-again c =
       l .inv .1,
       omega arith,
       p .kept .0 ∙ l .inv .3,
-      λ (S : Set) (cs : List ℕ) (tree : Term) (start : List ℕ) (m : ℕ) (is : length cs ≡ a .count) inside (small : a .n ≤ 1900000000) k w.
+      λ (S : Set) (cs : List ℕ) (tree : Term) (start : List ℕ) (m : ℕ) (is : length cs ≡ a .count) inside (small : a .n + 8 ≤ lastIndex) k w.
           let links = link S cs 0 waits (a .t) 0 in
           let here : l .p < length cs = omega arith in
           chain-more (placeOf (now (a .slots))) links tree start m _ _ _ (l .p)

@@ -8,7 +8,7 @@ use lib.Dec.{eqb}
 use Rattle.base.proofs.Choice.{or-left, or-right}
 use Rattle.records.specs.Sets.{Set}
 use Rattle.encoding.specs.Slots.{slot, active, bitOne, test, notTest}
-use Rattle.encoding.specs.Steps.{only, leads, isConditional, isPlain, rests}
+use Rattle.encoding.specs.Steps.{only, isConditional, isPlain, rests}
 use Rattle.encoder_slots.specs.Places.{placeOf}
 use Rattle.encoder_chains.proofs.Leads.{if-placed, leads-none, leads-rests, leads-always, leads-on, leads-taken, leads-missed, contrary, tested, leads-by}
 use borrow.Author.Needs.{needs}

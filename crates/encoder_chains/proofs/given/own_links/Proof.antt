@@ -18,11 +18,12 @@ use Rattle.encoder_chains.proofs.Trees.{chain-none, chain-more, chain-t
 use borrow.Author.Needs.{needs}
 use Rattle.encoder_chains.proofs.given.own_links.Statement.{statement}
 use Rattle.encoder_chains.proofs.given.own_links.Tie as tie
+use Rattle.table.specs.Repeats.{lastIndex}
 
 abbrev Inv-loop : tie.InvT-loop
 Inv-loop members slots out₀ class test effect t n base tree₀ many j₀ out tree j =
     (j ≤ many) × (many ≤ 32) × (tree .next ≤ n + j) × (length out ≡ length out₀)
-    × ((S : Set) (links : ℕ → Link) (base-tree : Term) (start : List ℕ) (m : ℕ) → class < 11 → t < 4 → n ≤ 1900000000 → Members S members
+    × ((S : Set) (links : ℕ → Link) (base-tree : Term) (start : List ℕ) (m : ℕ) → class < 11 → t < 4 → n + 32 ≤ lastIndex → Members S members
     → ((i : ℕ) → ifLink 2 (placeFrom slots test t i 0) (placeFrom slots effect t i 2) ≡ placedLink (placeOf slots) (links i))
     → WritesTree (placeOf slots) base-tree start m out₀ n base
     → WritesTree (placeOf slots) (over links base-tree (membersOf S class t) j) start m out (tree .next) (tree .at))
@@ -109,7 +110,7 @@ loop-again c =
       l .inv .1,
       omega arith,
       p .kept .0 ∙ l .inv .3,
-      λ (S : Set) (links : ℕ → Link) (tree : Term) (start : List ℕ) (m : ℕ) (class : a .class < 11) (row : a .t < 4) (small : a .n ≤ 1900000000) (n : Members S (now (a .members)))
+      λ (S : Set) (links : ℕ → Link) (tree : Term) (start : List ℕ) (m : ℕ) (class : a .class < 11) (row : a .t < 4) (small : a .n + 32 ≤ lastIndex) (n : Members S (now (a .members)))
           (is : (i : ℕ) → ifLink 2 (placeFrom (now (a .slots)) (a .test) (a .t) i 0) (placeFrom (now (a .slots)) (a .effect) (a .t) i 2) ≡ placedLink (placeOf (now (a .slots))) (links i)) w.
           let ms = membersOf S (a .class) (a .t) in
           let many = count .ensures .0 S n class row in

@@ -12,6 +12,7 @@ use denote.Ref.{now}
 use borrow.Author.Needs.{needs}
 use Rattle.encoder_chains.proofs.written.put_link.Statement.{statement}
 use Rattle.encoder_chains.proofs.written.put_link.Tie as tie
+use Rattle.table.specs.Repeats.{lastIndex}
 
 returns : tie.Need-returns
 returns c =
@@ -21,7 +22,7 @@ returns c =
 returns-2 : tie.Need-returns-2
 returns-2 c =
     let a = c .before .before .before .args in (
-      λ (places : Slot → ℕ) (l : ChainLink) (tree : Term) (start : List ℕ) (m : ℕ) (few : a .n ≤ 2000000000) (e : a .link ≡ placedLink places l) (w : WritesTree places tree start m (now (a .out)) (a .n) (a .at)).
+      λ (places : Slot → ℕ) (l : ChainLink) (tree : Term) (start : List ℕ) (m : ℕ) (few : a .n ≤ lastIndex) (e : a .link ≡ placedLink places l) (w : WritesTree places tree start m (now (a .out)) (a .n) (a .at)).
           link-none places tree start (now (a .out)) m (a .n) (a .at) w (a .link) l e (c .if2 .taken),
       omega arith,
     )
@@ -38,7 +39,7 @@ same-length c = search needs
 returns-3 : tie.Need-returns-3
 returns-3 c =
     let a = c .before .before .before .before .before .before .before .before .args in (
-      λ (places : Slot → ℕ) (l : ChainLink) (tree : Term) (start : List ℕ) (m : ℕ) (few : a .n ≤ 2000000000) (e : a .link ≡ placedLink places l) (w : WritesTree places tree start m (now (a .out)) (a .n) (a .at)).
+      λ (places : Slot → ℕ) (l : ChainLink) (tree : Term) (start : List ℕ) (m : ℕ) (few : a .n ≤ lastIndex) (e : a .link ≡ placedLink places l) (w : WritesTree places tree start m (now (a .out)) (a .n) (a .at)).
           link-if places tree start (now (a .out)) m (a .n) (a .at) w (a .link) l e _ (c .before .before .put .ensures) (c .before .before .before .before .if3 .taken),
       omega arith,
     )
@@ -55,7 +56,7 @@ same-length-2 c = search needs
 returns-4 : tie.Need-returns-4
 returns-4 c =
     let a = c .before .before .before .before .before .before .before .before .args in (
-      λ (places : Slot → ℕ) (l : ChainLink) (tree : Term) (start : List ℕ) (m : ℕ) (few : a .n ≤ 2000000000) (e : a .link ≡ placedLink places l) (w : WritesTree places tree start m (now (a .out)) (a .n) (a .at)).
+      λ (places : Slot → ℕ) (l : ChainLink) (tree : Term) (start : List ℕ) (m : ℕ) (few : a .n ≤ lastIndex) (e : a .link ≡ placedLink places l) (w : WritesTree places tree start m (now (a .out)) (a .n) (a .at)).
           link-joined places tree start (now (a .out)) m (a .n) (a .at) w (a .link) l e _ (c .before .before .put2 .ensures) (c .before .before .before .before .before .if2 .left) (c .before .before .before .before .if3 .left),
       omega arith,
     )

@@ -5,7 +5,7 @@ use mathlib.Core.List.{List}
 use lib.Dec.{ltb}
 use denote.Ref.{now}
 use Rattle.records.specs.Sets.{Set}
-use Rattle.set_index.specs.Tables.{ListTable}
+use Rattle.set_index.specs.ListTables.{ListTable}
 use Rattle.set_index.proofs.Making.{says}
 use borrow.Author.Needs.{needs}
 use Rattle.set_index.proofs.checks.contains.Statement.{statement}

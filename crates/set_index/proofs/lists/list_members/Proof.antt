@@ -8,11 +8,11 @@ use denote.Ref.{now}
 use Rattle.records.specs.Sets.{Set, setBy}
 use Rattle.records.specs.declared.Statement.{Statement}
 use Rattle.set_index.specs.Points.{listed}
-use Rattle.set_index.specs.Held.{StandsFrom}
+use Rattle.set_index.specs.StatementRecords.{StandsFrom}
 use Rattle.set_index.specs.Members.{Members, membersOf}
-use Rattle.set_index.proofs.Held.{held, held-member}
+use Rattle.set_index.proofs.StatementRecords.{stands-from, member-stands}
 use Rattle.set_index.proofs.Listed.{members-below}
-use Rattle.set_index.specs.Tables.{Distinct, Listing, many, put}
+use Rattle.set_index.specs.ListTables.{Distinct, Listing, many, put}
 use Rattle.set_index.proofs.Making.{listing-none, listing-all, listing-more, listing-same}
 use Rattle.set_index.proofs.Growing.{From}
 use borrow.Author.Needs.{needs}
@@ -93,7 +93,7 @@ loop-again c =
           let x = getD (membersOf S (a .class) (a .t)) j 0 in
           let i-is : one .result ≡ x = one .ensures S members kind row there in
           let inside : x < 32 = let b = members-below S (a .class) (a .t) (S .count (a .t)) j there in omega arith in
-          let is : s .result ≡ S .statement (a .t) x = s .ensures ∙ sym (held-member S (now (a .set)) (a .class) (a .t) (first .result) j (one .result) known there i-is) in
+          let is : s .result ≡ S .statement (a .t) x = s .ensures ∙ sym (member-stands S (now (a .set)) (a .class) (a .t) (first .result) j (one .result) known there i-is) in
           let argument-is : s .result .argument ≡ S .statement (a .t) x .argument = ap (λ (y : Statement). y .argument) is in
           let old = l .inv .3 S kind row members known distinct apart room empty in
           let wide : a .nexts + 32 ≤ length (l .table) = let same = l .inv .2 in omega arith in
@@ -123,7 +123,7 @@ returns c =
     let S = setBy (now (a .set)) (a .layout) in (
       l .inv .2,
       λ kind row (members : Members S (now (a .members))) distinct apart room empty.
-          let known = held (now (a .set)) (a .layout) (a .t) (first .result) (S .count (a .t)) (first .ensures .0) (omega arith) in
+          let known = stands-from (now (a .set)) (a .layout) (a .t) (first .result) (S .count (a .t)) (first .ensures .0) (omega arith) in
           listing-all S (listed (a .points)) (a .class) (a .t) (a .heads) (a .nexts) apart (l .j) (omega arith) (now (a .table)) (l .table)
           (l .inv .3 S kind row members known distinct apart room empty),
     )

@@ -7,7 +7,7 @@ use denote.Ref.{now}
 use Rattle.records.specs.Sets.{setBy}
 use Rattle.set_index.specs.Points.{listed}
 use Rattle.set_index.specs.Members.{Members}
-use Rattle.set_index.specs.Tables.{Distinct, Made}
+use Rattle.set_index.specs.ListTables.{Distinct, Made}
 use Rattle.set_index.proofs.Making.{made-none, made-all}
 use Rattle.set_index.proofs.Counted.{listed-most}
 use borrow.Author.Needs.{needs}

@@ -7,7 +7,7 @@ use lib.ListN.{length}
 use Rattle.records.specs.Sets.{setBy}
 use Rattle.set_index.specs.Points.{listed}
 use Rattle.set_index.specs.Members.{Members}
-use Rattle.set_index.specs.Tables.{Made}
+use Rattle.set_index.specs.ListTables.{Made}
 use Rattle.set_index.proofs.Counted.{listed-most}
 use Rattle.set_index.proofs.Making.{made-more}
 use borrow.Author.Needs.{needs}

@@ -7,8 +7,8 @@ use mathlib.Core.Path.{_≡_, refl, sym, ap, _∙_}
 use Prim.Native.Nat.{_-_, _≤_, _<_}
 use lib.ListN.{length}
 use Rattle.set_index.specs.Members.{Filled}
-use Rattle.set_index.specs.Held.{StandsFrom}
-use Rattle.set_index.proofs.Held.{held}
+use Rattle.set_index.specs.StatementRecords.{StandsFrom}
+use Rattle.set_index.proofs.StatementRecords.{stands-from}
 use Rattle.set_index.proofs.Filling.{filled-next, filled-thread}
 use borrow.Author.Needs.{needs}
 use Rattle.set_index.proofs.members.make_thread.Statement.{statement}
@@ -34,11 +34,11 @@ first-requires c κs = search needs
 count-requires : tie.Need-count-requires Inv-loop μ-loop
 count-requires c κs = search needs
 
-few-requires : tie.Need-few-requires Inv-loop μ-loop
-few-requires c κs = search needs
+listed-count-requires : tie.Need-listed-count-requires Inv-loop μ-loop
+listed-count-requires c κs = search needs
 
 loop-holds : tie.Need-loop-holds Inv-loop μ-loop
-loop-holds c = (omega arith, c .few .ensures .0, c .before .before .first .ensures .1, refl, λ (S : Set) h q f. f)
+loop-holds c = (omega arith, c .listed-count .ensures .0, c .before .before .first .ensures .1, refl, λ (S : Set) h q f. f)
 
 cast-statement-at : tie.Need-cast-statement-at Inv-loop μ-loop
 cast-statement-at c = search needs
@@ -69,7 +69,7 @@ loop-again c =
     let a = c .before .before .before .before .before .before .before .before .before .before .before .before .before .before .before .before .before .before .before .before .before .before .args in
     let l = c .before .before .before .before .before .before .before .before .before .before .before .before .before .before .loop in
     let start = c .before .before .before .before .before .before .before .before .before .before .before .before .before .before .before .before .before .first in
-    let end = c .before .before .before .before .before .before .before .before .before .before .before .before .before .before .before .few in
+    let end = c .before .before .before .before .before .before .before .before .before .before .before .before .before .before .before .listed-count in
     let read = c .before .before .before .before .before .before .before .before .before .before .before .before .statement-at in
     let first = c .before .before .before .before .before .before .before .before .before .before .visit-first .ensures in
     let next = c .before .before .before .before .before .before .visit-next .ensures in
@@ -91,7 +91,7 @@ returns-3 : tie.Need-returns-3 Inv-loop μ-loop
 returns-3 c =
     let a = c .before .before .before .before .before .before .before .before .before .args in
     let l = c .before .loop in
-    let end = c .before .before .few in
+    let end = c .before .before .listed-count in
     let count = c .before .before .before .count in
     let start = c .before .before .before .before .first in
     let S = setBy (now (a .set)) (a .layout) in (
@@ -101,7 +101,7 @@ returns-3 c =
           let all = count .ensures in
           let is = end .ensures .1 (omega arith) in
           filled-thread S (a .t) (l .i) (l .members) (omega arith)
-          (l .inv .4 S (held (now (a .set)) (a .layout) (a .t) (start .result) (end .result) (start .ensures .0) (omega arith)) q f),
+          (l .inv .4 S (stands-from (now (a .set)) (a .layout) (a .t) (start .result) (end .result) (start .ensures .0) (omega arith)) q f),
     )
 
 pub make-thread-spec : {M : Type 1} → statement M
@@ -114,7 +114,7 @@ make-thread-spec =
     returns-2
     first-requires
     count-requires
-    few-requires
+    listed-count-requires
     loop-holds
     cast-statement-at
     add-statement-at

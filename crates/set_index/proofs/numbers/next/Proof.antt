@@ -2,7 +2,7 @@
 use mathlib.Core.Path.{sym, _∙_, ap}
 use borrow.Author.Tests.{lt-ltb, le-ltb}
 use Rattle.base.proofs.Choice.{chosen, passed}
-use Rattle.set_index.specs.Tables.{onward}
+use Rattle.set_index.specs.ListTables.{onward}
 use borrow.Author.Needs.{needs}
 use Rattle.set_index.proofs.numbers.next.Statement.{statement}
 use Rattle.set_index.proofs.numbers.next.Tie as tie

@@ -11,8 +11,8 @@ use Rattle.encoding.specs.Checkpoints.{noted, notedIn}
 use Rattle.records.specs.declared.Statement.{Statement}
 use Rattle.records.specs.Sets.{Set, setBy}
 use Rattle.set_index.proofs.Noted.{noted-start, noted-more}
-use Rattle.set_index.specs.Held.{StandsFrom}
-use Rattle.set_index.proofs.Held.{held as held-by}
+use Rattle.set_index.specs.StatementRecords.{StandsFrom}
+use Rattle.set_index.proofs.StatementRecords.{stands-from}
 use Rattle.set_index.proofs.points.points_of.Statement.{statement}
 use Rattle.set_index.proofs.points.points_of.Tie as tie
 
@@ -35,7 +35,7 @@ loop-holds c =
     let a = c .before .before .before .args in (
       omega arith,
       c .first .ensures .1,
-      λ (S : Set) held (before : List ℕ) (e : listed (a .seen) ≡ take 8 before). e ∙ ap (take 8) (sym (noted-start S (a .t) before)),
+      λ (S : Set) stands (before : List ℕ) (e : listed (a .seen) ≡ take 8 before). e ∙ ap (take 8) (sym (noted-start S (a .t) before)),
     )
 
 cast-statement-at : tie.Need-cast-statement-at Inv-loop μ-loop
@@ -64,9 +64,9 @@ loop-again c =
     let first = c .before .before .before .before .first .result in (
       omega arith,
       l .inv .1,
-      λ (S : Set) (held : StandsFrom S (now (a .set)) (a .t) first n) (before : List ℕ) (e : listed (a .seen) ≡ take 8 before).
-          noted-more S (a .t) before (listed (l .points)) _ (l .i) (l .inv .2 S held before e)
-          (c .note .ensures ∙ ap (λ (s : Statement). take 8 (noted (listed (l .points)) s)) (c .before .statement-at .ensures ∙ sym (held (l .i) (omega arith)))),
+      λ (S : Set) (stands : StandsFrom S (now (a .set)) (a .t) first n) (before : List ℕ) (e : listed (a .seen) ≡ take 8 before).
+          noted-more S (a .t) before (listed (l .points)) _ (l .i) (l .inv .2 S stands before e)
+          (c .note .ensures ∙ ap (λ (s : Statement). take 8 (noted (listed (l .points)) s)) (c .before .statement-at .ensures ∙ sym (stands (l .i) (omega arith)))),
     )
 
 returns : tie.Need-returns Inv-loop μ-loop
@@ -78,7 +78,7 @@ returns c =
     let S = setBy (now (a .set)) (a .layout) in
     let i-is : l .i ≡ n .result = omega arith in
     λ (before : List ℕ) (e : listed (a .seen) ≡ take 8 before).
-    l .inv .2 S (held-by (now (a .set)) (a .layout) (a .t) (first .result) (n .result) (first .ensures .0) (let e = n .ensures in omega arith)) before e
+    l .inv .2 S (stands-from (now (a .set)) (a .layout) (a .t) (first .result) (n .result) (first .ensures .0) (let e = n .ensures in omega arith)) before e
     ∙ ap (λ (n : ℕ). take 8 (notedIn S (a .t) before n)) (i-is ∙ n .ensures)
 
 pub points-of-spec : {M : Type 1} → statement M

@@ -1,5 +1,6 @@
--- The table of a set's lists: of each thread the CHECKs by checkpoint and the jumps by the statement that they name. For each list there is its first statement,
--- for each statement the next one of its list; 32 where there is none. Assumes nothing.
+-- The table of a set's lists: of each thread the CHECKs by checkpoint and the jumps by the statement that they name. For each list there is its first
+-- statement, for each statement the next one of its list; `noStatement` where there is none. This serves the code; no call's promise needs it.
+-- Assumes nothing.
 use Prim.Native.Nat.{ℕ, _+_, _*_, _≤_, _<_}
 use mathlib.Core.Path.{_≡_}
 use mathlib.Core.Bool.{Bool, cond, _&&_}
@@ -7,15 +8,36 @@ use mathlib.Core.List.{List, []}
 use lib.Dec.{eqb, ltb}
 use lib.ListN.{length, set, getD}
 use Rattle.records.specs.Sets.{Set}
-use Rattle.set_index.specs.Members.{inClass}
+use Rattle.set_index.specs.Members.{inClass, checkClass, jumpClass}
 use Rattle.set_index.specs.Lists.{Lists}
 
--- how many lists class c has, and the argument of the statements in list p: for CHECKs (class 7) the checkpoints' numbers, for jumps (class 8) the statements of a thread
+-- no statement
+abbrev pub noStatement : ℕ
+noStatement = 32
+
+-- the length of the table
+abbrev pub listsLength : ℕ
+listsLength = 416
+
+-- where the numbers of thread t begin: of the first CHECKs by checkpoint, the CHECKs after each CHECK, the first jumps by statement, the jumps after each jump
+abbrev pub firstChecks : (t : ℕ) → ℕ
+firstChecks t = 8 * t
+
+abbrev pub nextChecks : (t : ℕ) → ℕ
+nextChecks t = 32 + 32 * t
+
+abbrev pub firstJumps : (t : ℕ) → ℕ
+firstJumps t = 160 + 32 * t
+
+abbrev pub nextJumps : (t : ℕ) → ℕ
+nextJumps t = 288 + 32 * t
+
+-- how many lists class c has, and the argument of the statements in list p: for CHECKs the checkpoints' numbers, for jumps the statements of a thread
 abbrev pub many : List ℕ → (c : ℕ) → ℕ
-many cs c = cond (eqb c 7) (length cs) 32
+many cs c = cond (eqb c checkClass) (length cs) 32
 
 abbrev pub name : List ℕ → (c p : ℕ) → ℕ
-name cs c p = cond (eqb c 7) (getD cs p 0) p
+name cs c p = cond (eqb c checkClass) (getD cs p 0) p
 
 -- statement x of thread t is of list p of class c
 abbrev pub inList : Set → List ℕ → (c t p x : ℕ) → Bool
@@ -31,15 +53,15 @@ allOf S t x = x < S .count t
 
 -- where the lists of thread t's CHECKs stand
 abbrev pub ChecksOf : Set → List ℕ → (t : ℕ) → List ℕ → Type 0
-ChecksOf S cs t = ListsAt S cs 7 t (allOf S t) (8 * t) (32 + 32 * t)
+ChecksOf S cs t = ListsAt S cs checkClass t (allOf S t) (firstChecks t) (nextChecks t)
 
 -- where those of the jumps among its first `count` statements stand
 abbrev pub JumpsOf : Set → (t count : ℕ) → List ℕ → Type 0
-JumpsOf S t count = ListsAt S [] 8 t (λ x. x < count) (160 + 32 * t) (288 + 32 * t)
+JumpsOf S t count = ListsAt S [] jumpClass t (λ x. x < count) (firstJumps t) (nextJumps t)
 
 -- the bytes are the table of a set of at most four threads of 32 statements, with at most eight checkpoints
 pub record ListTable (S : Set) (cs : List ℕ) (table : List ℕ) : Type 0 where
-  pub whole : length table ≡ 416
+  pub whole : length table ≡ listsLength
   pub fourThreads : S .threads ≤ 4
   pub eightPoints : length cs ≤ 8
   pub fewStatements : (t : ℕ) → t < S .threads → S .count t ≤ 32
@@ -48,7 +70,7 @@ pub record ListTable (S : Set) (cs : List ℕ) (table : List ℕ) : Type 0 where
 
 -- the next statement by number `it`: one that does not come after i counts as none
 abbrev pub onward : (i it : ℕ) → ℕ
-onward i it = cond (ltb i it) it 32
+onward i it = cond (ltb i it) it noStatement
 
 -- ---- the table while it is made
 
@@ -67,8 +89,8 @@ pub record Listing (S : Set) (cs : List ℕ) (c t : ℕ) (In : ℕ → Type 0) (
 
 -- the lists of the threads before t are there, those of the others are empty
 pub record Made (S : Set) (cs : List ℕ) (t : ℕ) (table : List ℕ) : Type 0 where
-  pub whole : length table ≡ 416
+  pub whole : length table ≡ listsLength
   pub checks : (u : ℕ) → u < t → u < 4 → ChecksOf S cs u table
   pub jumps : (u : ℕ) → u < t → u < 4 → JumpsOf S u (S .count u) table
-  pub noChecks : (u p : ℕ) → t ≤ u → u < 4 → p < 8 → getD table (8 * u + p) 0 ≡ 32
-  pub noJumps : (u j : ℕ) → t ≤ u → u < 4 → j < 32 → getD table (160 + 32 * u + j) 0 ≡ 32
+  pub noChecks : (u p : ℕ) → t ≤ u → u < 4 → p < 8 → getD table (firstChecks u + p) 0 ≡ noStatement
+  pub noJumps : (u j : ℕ) → t ≤ u → u < 4 → j < 32 → getD table (firstJumps u + j) 0 ≡ noStatement

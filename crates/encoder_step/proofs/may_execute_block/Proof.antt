@@ -1,27 +1,27 @@
--- `encoder_step::may_block` meets its contract. Assumes nothing.
+-- `encoder_step::may_execute_block` meets its contract. Assumes nothing.
 use denote.Ref.{now}
 use native.Mathlib.Omega.{arith}
 use lib.ListN.{length}
 use mathlib.Core.List.{List}
 use mathlib.Core.Path.{_≡_, refl, sym, _∙_}
-use Prim.Native.Nat.{ℕ, _+_, _-_, _*_, _≤_, _<_}
+use Prim.Native.Nat.{ℕ, _+_, _-_, _*_, _≤_}
 use Rattle.records.specs.Sets.{Set}
 use Rattle.table.specs.Programs.{upto}
-use Rattle.encoding.specs.Slots.{Slot, kinds, kindAt}
+use Rattle.encoding.specs.Slots.{kinds, kindNumber, mayExecute}
 use Rattle.encoding.specs.Steps.{line}
-use Rattle.encoder_slots.specs.Places.{placeOf, size}
-use Rattle.encoder_slots.specs.Pieces.{Writes}
-use Rattle.encoder_slots.proofs.Pieces.{writes-row, writes-more, below-after}
+use Rattle.encoder_slots.specs.Pieces.{Writes, Ready}
+use Rattle.encoder_slots.proofs.Ready.{ready-line}
+use Rattle.encoder_slots.proofs.Pieces.{writes-row, writes-more}
 use Rattle.encoder_step.proofs.Loops.{line-one, registers, lone-at}
 use borrow.Author.Needs.{needs}
-use Rattle.encoder_step.proofs.may_block.Statement.{statement}
-use Rattle.encoder_step.proofs.may_block.Tie as tie
+use Rattle.encoder_step.proofs.may_execute_block.Statement.{statement}
+use Rattle.encoder_step.proofs.may_execute_block.Tie as tie
 
 abbrev Inv-loop : tie.InvT-loop
 Inv-loop slots₀ out₀ threads step n next₀ t₀ slots out next t =
     (t ≤ threads) × (next ≤ n + 4 * t) × (length out ≡ length out₀) × (length slots ≡ length slots₀)
-    × ((S : Set) (cs : List ℕ) → S .threads ≡ threads → length slots₀ ≡ size → ((s : Slot) → placeOf slots₀ s < n)
-    → (Writes (upto (line S cs step (kindAt 7)) t) out₀ slots₀ n out slots next) × ((s : Slot) → placeOf slots s < next))
+    × ((S : Set) (cs members lists : List ℕ) → S .threads ≡ threads → Ready S cs members lists slots₀ n
+    → (Writes (upto (line S cs step mayExecute) t) out₀ slots₀ n out slots next) × (Ready S cs members lists slots next))
 
 abbrev μ-loop : tie.MeasureT-loop
 μ-loop slots₀ out₀ threads step n next₀ t₀ slots out next t = threads - t
@@ -33,7 +33,7 @@ loop-holds c =
       omega arith,
       refl,
       refl,
-      λ (S : Set) (cs : List ℕ) threads all below. (writes-row (line S cs (a .step) (kindAt 7)) (now (a .out)) (now (a .slots)) (a .n), below),
+      λ (S : Set) (cs members lists : List ℕ) threads ready. (writes-row (line S cs (a .step) mayExecute) (now (a .out)) (now (a .slots)) (a .n), ready),
     )
 
 bare-entry-requires : tie.Need-bare-entry-requires Inv-loop μ-loop
@@ -43,7 +43,7 @@ bare-entry-requires c κs =
     let room = q .0 in
     let four = q .1 in
     let so-far = l .inv .1 in
-    (omega arith, omega arith, omega arith, omega arith, refl, λ e. absurd (omega arith))
+    (omega arith, omega arith, omega arith)
 
 add-t : tie.Need-add-t Inv-loop μ-loop
 add-t c = search needs
@@ -63,11 +63,11 @@ loop-again c =
       omega arith,
       search needs,
       search needs,
-      λ (S : Set) (cs : List ℕ) threads all below.
-          let f = line S cs (a .step) (kindAt 7) in
-          let done = l .inv .4 S cs threads all below in
-          let w = line-one S cs (a .step) 7 _ _ _ _ _ _ refl (l .t) (r .ensures .0 S cs threads (lone-at S cs (l .t) 0 7 (omega arith) refl) (l .inv .3 ∙ all) (done .1)) in
-          (writes-more f (l .t) (now (a .out)) (now (a .slots)) (a .n) _ _ _ _ _ _ (done .0) w, below-after (f (l .t)) _ _ _ _ _ _ w (done .1)),
+      λ (S : Set) (cs members lists : List ℕ) threads ready.
+          let f = line S cs (a .step) mayExecute in
+          let done = l .inv .4 S cs members lists threads ready in
+          let w = line-one S cs (a .step) (kindNumber mayExecute) _ _ _ _ _ _ refl (l .t) (r .ensures .0 S cs members lists threads (lone-at S cs (l .t) 0 (kindNumber mayExecute) (omega arith) refl) (done .1)) in
+          (writes-more f (l .t) (now (a .out)) (now (a .slots)) (a .n) _ _ _ _ _ _ (done .0) w, ready-line (a .step) mayExecute (l .t) w (done .1)),
     )
 
 same-length : tie.Need-same-length Inv-loop μ-loop
@@ -85,13 +85,13 @@ returns c =
     let four = q .1 in
     let so-far = l .inv .1 in
     let t-is : l .t ≡ a .threads = omega arith in (
-      λ (S : Set) (cs : List ℕ) threads all below.
-          registers S cs (a .step) 7 _ _ _ _ _ _ refl (l .t) (t-is ∙ sym threads) (l .inv .4 S cs threads all below .0),
+      λ (S : Set) (cs members lists : List ℕ) threads ready.
+          registers S cs (a .step) (kindNumber mayExecute) _ _ _ _ _ _ refl (l .t) (t-is ∙ sym threads) (l .inv .4 S cs members lists threads ready .0),
       omega arith,
     )
 
-pub may-block-spec : {M : Type 1} → statement M
-may-block-spec =
+pub may-execute-block-spec : {M : Type 1} → statement M
+may-execute-block-spec =
     tie.close
     (tie.spec
     Inv-loop

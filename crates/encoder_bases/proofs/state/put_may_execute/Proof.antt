@@ -1,11 +1,11 @@
--- `encoder_bases::state::put_may` meets its contract. Assumes nothing.
+-- `encoder_bases::state::put_may_execute` meets its contract. Assumes nothing.
 use mathlib.Core.Path.{refl}
 use Rattle.encoder_slots.specs.Places.{placeOf}
 use Rattle.encoding.specs.Slots.{slot, full, barred, waits}
 use Rattle.encoder_bases.proofs.Given.{gives-may}
 use borrow.Author.Needs.{needs}
-use Rattle.encoder_bases.proofs.state.put_may.Statement.{statement}
-use Rattle.encoder_bases.proofs.state.put_may.Tie as tie
+use Rattle.encoder_bases.proofs.state.put_may_execute.Statement.{statement}
+use Rattle.encoder_bases.proofs.state.put_may_execute.Tie as tie
 
 add-next : tie.Need-add-next
 add-next c = search needs
@@ -43,8 +43,8 @@ returns c =
       c .before .before .put-three .ensures .1,
     )
 
-pub put-may-spec : {M : Type 1} → statement M
-put-may-spec =
+pub put-may-execute-spec : {M : Type 1} → statement M
+put-may-execute-spec =
     tie.close
     (tie.spec
     add-next

@@ -1,9 +1,8 @@
--- A tree of at most four records as the code writes it: its records, and the index of its own. Assumes nothing.
+-- A tree of at most four records as the code writes it: its records, and the index of its own. This serves the code; no call's promise needs it.
+-- Assumes nothing.
 use Prim.Native.Nat.{ℕ, _+_, _≤_}
 use mathlib.Core.Path.{_≡_}
-use mathlib.Core.Bool.{Bool, _||_}
 use mathlib.Core.List.{List, [], _∷_}
-use lib.Dec.{eqb}
 use lib.ListN.{take}
 use Rattle.table.specs.declared.Formula.{Formula}
 use Rattle.table.specs.Formulas.{writtenAt}
@@ -13,7 +12,7 @@ use Rattle.encoder_bases.specs.declared.written.Load.{Load}
 use Rattle.encoder_bases.specs.declared.written.WrittenTree.{WrittenTree}
 
 -- how many records, the index of the tree's own, and the records
-pub record Few : Type 0 where
+pub record SmallTree : Type 0 where
   pub count : ℕ
   pub root : ℕ
   pub first : Formula
@@ -21,11 +20,11 @@ pub record Few : Type 0 where
   pub third : Formula
   pub fourth : Formula
 
-abbrev pub formulas : Few → List Formula
+abbrev pub formulas : SmallTree → List Formula
 formulas few = take (few .count) (few .first ∷ few .second ∷ few .third ∷ few .fourth ∷ [])
 
 -- these are a tree's records from index n on
-pub record Gives (given : Few) (places : Slot → ℕ) (n : ℕ) (t : Term) : Type 0 where
+pub record Gives (given : SmallTree) (places : Slot → ℕ) (n : ℕ) (t : Term) : Type 0 where
   pub formulasAre : formulas given ≡ records places n t []
   pub rootIs : given .root ≡ root places n t
   pub countIs : n + given .count ≡ next n t
@@ -42,10 +41,6 @@ pub record Puts (put : WrittenTree) (places : Slot → ℕ) (n : ℕ) (t : Term)
 abbrev pub loadOf : (Slot → ℕ) → ℕ → Load
 loadOf at t = record { full = at (slot full t 0); adr = at (slot adr t 0); val = at (slot val t 0); memory = at (slot sharedMemory 0 0) }
 
--- the kinds by number that have one value for each statement, and no links: active, address to notTest, and argument
-abbrev pub ofStatement : ℕ → Bool
-ofStatement kind = eqb kind 1 || eqb kind 11 || eqb kind 12 || eqb kind 13 || eqb kind 14 || eqb kind 15 || eqb kind 16 || eqb kind 40
-
 -- ---- what the code's parts give
 
 -- a record without a constant
@@ -53,17 +48,17 @@ abbrev pub plain : (operation sort a b c : ℕ) → Formula
 plain operation sort a b c = record { operation = operation; sort = sort; constant = 0; a = a; b = b; c = c }
 
 -- one record at index n
-abbrev pub One : Few → ℕ → Formula → Type 0
+abbrev pub One : SmallTree → ℕ → Formula → Type 0
 One few n first = (few .count ≡ 1) × ((few .root ≡ n) × (few .first ≡ first))
 
 -- three records, the last at index n + 2
-abbrev pub Three : Few → ℕ → (first second third : Formula) → Type 0
+abbrev pub Three : SmallTree → ℕ → (first second third : Formula) → Type 0
 Three few n first second third =
     (few .count ≡ 3) × ((few .root ≡ n + 2) × ((few .first ≡ first) × ((few .second ≡ second) × (few .third ≡ third))))
 
 -- the same as trees
-abbrev pub oneFew : ℕ → Formula → Few
-oneFew n first = record { count = 1; root = n; first = first; second = first; third = first; fourth = first }
+abbrev pub oneRecord : ℕ → Formula → SmallTree
+oneRecord n first = record { count = 1; root = n; first = first; second = first; third = first; fourth = first }
 
-abbrev pub threeFew : ℕ → (first second third : Formula) → Few
-threeFew n first second third = record { count = 3; root = n + 2; first = first; second = second; third = third; fourth = third }
+abbrev pub threeRecords : ℕ → (first second third : Formula) → SmallTree
+threeRecords n first second third = record { count = 3; root = n + 2; first = first; second = second; third = third; fourth = third }
