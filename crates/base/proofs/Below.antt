@@ -170,3 +170,27 @@ NoneFrom a (suc k) n = NoneFrom a k n × (n ≡ a + k → ⊥)
 pub none-from : (a k n : ℕ) → a ≤ n → NoneFrom a k n → a + k ≤ n
 none-from a zero n h r = omega arith
 none-from a (suc k) n h r = omega (arith, none-from a k n h (r .0), r .1)
+
+-- the tests agree below the bound
+pub number-ext : (f g : ℕ → Bool) (n : ℕ) → ((k : ℕ) → k < n → f k ≡ g k) → number n f ≡ number n g
+unfolding number
+number-ext f g zero e = refl
+number-ext f g (suc n) e =
+    ap₂ (λ (k : ℕ) (b : Bool). k + cond b 1 0) (number-ext f g n (λ k h. e k (omega arith))) (e n (omega arith))
+
+-- one number more, as a successor
+pub number-yes : (test : ℕ → Bool) (n : ℕ) → test n ≡ true → number (suc n) test ≡ suc (number n test)
+unfolding number
+number-yes test n e = omega (arith, chosen {A = ℕ} 1 0 e)
+
+pub number-no : (test : ℕ → Bool) (n : ℕ) → test n ≡ false → number (suc n) test ≡ number n test
+unfolding number
+number-no test n e = omega (arith, passed {A = ℕ} 1 0 e)
+
+-- none passes
+pub least-none : (test : ℕ → Bool) (n : ℕ) → ((i : ℕ) → i < n → test i ≡ false) → least n test ≡ n
+unfolding least
+least-none test zero f = refl
+least-none test (suc n) f =
+    let before = least-none test n (λ i h. f i (omega arith)) in
+    passed _ _ (le-ltb (least n test) n (omega arith)) ∙ passed _ _ (f n (omega arith))

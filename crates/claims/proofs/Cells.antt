@@ -10,6 +10,7 @@ use lib.Dec.{eqb}
 use lib.ListN.{length, drop}
 use lib.Seq.{drop-cons, drop-length}
 use borrow.Author.Tests.{eqb-true, eqb-false, eq-eqb, ne-eqb}
+use Rattle.base.proofs.Below.{number-yes, number-no}
 use Rattle.base.specs.Below.{number}
 use Rattle.base.proofs.Choice.{and-true, and-false, and-right-false, clash}
 use Rattle.text_lines.specs.Lines.{lines, mapLine}
@@ -18,7 +19,7 @@ use Rattle.text.specs.Sections.{dots, isGood, inserted, cellAdded, cellsFrom, c
 use Rattle.text.proofs.Below.{cond-where}
 use Rattle.text.proofs.Inserted.{In, in-at, at-in, length-inserted, inserted-in, inserted-keeps, inserted-from}
 use Rattle.claims.specs.Sections.{line, sections, sectionOf, holdsCell, CellsAreTheMap}
-use Rattle.claims.proofs.Sections.{number-yes, number-no, dots-after}
+use Rattle.claims.proofs.Sections.{dots-after}
 
 module _ (text : List ℕ) where
   -- ---- the cells after i lines

@@ -16,7 +16,7 @@ use Rattle.records.specs.Sets.{Set, WellFormedSet, setOf, setAccepted}
 use Rattle.records.proofs.Maps.{few-cells}
 use Rattle.records.proofs.Sets.{well-formed}
 use Rattle.machine.specs.Machine.{State, start, noWrite}
-use Rattle.machine.specs.Maps.{begin}
+use Rattle.machine.specs.Maps.{begin, retrace}
 use Rattle.machine.specs.Runs.{after, somePermitted, endOf}
 use Rattle.machine.specs.Traces.{trace}
 use Rattle.machine.specs.declared.RunAnswer.the-variants.{Ran}
@@ -24,7 +24,7 @@ use Rattle.machine.specs.declared.Choice.{Choice}
 use Rattle.machine.specs.declared.Choice.the-variants.{Execute}
 use Rattle.machine.specs.declared.End.the-variants.{Code, Stuck, Open}
 use Rattle.machine.proofs.Runs.{inside-start, AllTaken, taken-run, follow-taken, follow-ran, length-trace, stepChoices}
-use Rattle.replay.specs.Replay.{retrace, replayed}
+use Rattle.replay.specs.Replay.{replayed}
 use Rattle.table.specs.Values.{Assignment, satisfies}
 use Rattle.encoding.specs.Assignments.{assignmentOf}
 use Rattle.encoding.specs.Encodings.{tableOf}
@@ -48,7 +48,7 @@ use Rattle.claims.proofs.Runs.{retrace-trace, retrace-ran, replayed-ran
 use Rattle.claims.proofs.Tables.{tableMeansTheProgram, assignmentsMatchRuns}
 
 -- a list whose numbers are all below 256 is made of bytes
-bytes-of : (xs : List ℕ) → ((i : ℕ) → getD xs i 0 < 256) → AreBytes xs
+pub bytes-of : (xs : List ℕ) → ((i : ℕ) → getD xs i 0 < 256) → AreBytes xs
 bytes-of [] f = tt
 bytes-of (x ∷ xs) f = (f 0, bytes-of xs (λ i. f (suc i)))
 

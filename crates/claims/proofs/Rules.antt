@@ -10,7 +10,7 @@ use lib.ListN.{length, drop}
 use borrow.Author.Tests.{eqb-true, ltb-true, ltb-false, leb-true, lt-ltb, le-leb, eq-eqb, ne-eqb, not-true}
 use Rattle.base.specs.Below.{some, number, least}
 use Rattle.base.specs.Bytes.{same}
-use Rattle.base.proofs.Below.{every-all, some-at, least-passes}
+use Rattle.base.proofs.Below.{every-all, some-at, least-passes, number-no}
 use Rattle.base.proofs.Bytes.{same-self, same-equal}
 use Rattle.base.proofs.Choice.{chosen, passed, and-true, and-left, and-right, refuted, clash}
 use Rattle.records.specs.Instructions.{CHECK, isJump}
@@ -30,7 +30,7 @@ use Rattle.text.proofs.Statements.{Kept}
 use Rattle.claims.specs.Sections.{line, sections, sectionOf}
 use Rattle.claims.specs.Texts.{formOf, LineFollows, ThreadsFollow, StatementsFollow, Each, NotDoubled, TargetKnown, LabelsFollow, Among, CheckpointsFollow, MapFollows}
 use Rattle.claims.proofs.Checkpoints.{firsts, length-firsts, firsts-among, opens-few}
-use Rattle.claims.proofs.Sections.{number-no, dots-after}
+use Rattle.claims.proofs.Sections.{dots-after}
 
 -- ---- rows 2 and 3: lines
 

@@ -14,7 +14,7 @@ use Rattle.records.specs.Maps.{mapAccepted, mapValue}
 use Rattle.records.specs.Sets.{Set, setOf, setAccepted, WellFormedSet}
 use Rattle.machine.specs.Machine.{State, start, actor, step, written, noWrite}
 use Rattle.machine.specs.Runs.{choices, takes, isRun}
-use Rattle.machine.specs.Maps.{Held, begin, outcome, advanced, onOutcome, follow}
+use Rattle.machine.specs.Maps.{Held, begin, outcome, advanced, onOutcome, follow, retrace}
 use Rattle.machine.specs.Traces.{traceStep, trace, stepChoice}
 use Rattle.machine.specs.declared.RunAnswer.{RunAnswer}
 use Rattle.machine.specs.declared.RunAnswer.the-variants.{Ran, Refused}
@@ -30,7 +30,7 @@ use Rattle.machine.proofs.Runs.{scheduleOf, schedule, schedule-choices, choices
 use Rattle.machine.proofs.Runs.{AllTaken, taken-takes, taken-run, follow-ran}
 use Rattle.machine.proofs.Runs.{length-trace, take-trace, drop-trace, stepChoice-trace, stepChoices, length-stepChoices, stepChoices-trace}
 use Rattle.simulation.specs.Simulation.{simulated, limited, scheduleTrace}
-use Rattle.replay.specs.Replay.{retrace, replayed, limitedTrace}
+use Rattle.replay.specs.Replay.{replayed, limitedTrace}
 use Rattle.claims.specs.Runs.{AreBytes, Simulates, ReplayAcceptsWhatSimulationWrites, OneSchedule, SimulationRuns}
 
 -- ---- replay and the run that a trace shows

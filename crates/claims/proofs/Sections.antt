@@ -10,7 +10,7 @@ use lib.ListN.{length, drop}
 use lib.Seq.{drop-cons, drop-length}
 use borrow.Author.Tests.{eqb-true, eqb-false, eq-eqb, ne-eqb}
 use Rattle.base.specs.Below.{number}
-use Rattle.base.proofs.Below.{number-grows}
+use Rattle.base.proofs.Below.{number-grows, number-yes, number-no}
 use Rattle.base.proofs.Choice.{chosen, passed, and-true, and-false, and-right-false, and-left, or-false, or-left, or-right, clash}
 use Rattle.records.specs.Instructions.{isLast}
 use Rattle.text_lines.specs.Lines.{lines, isDot, statementLine}
@@ -21,14 +21,6 @@ use Rattle.text.proofs.Statements.{added-others, added-count, added-last, added
 use Rattle.claims.specs.Sections.{line, sections, sectionOf, holdsStatement, statementsBefore, Gains, ThreadsAreTheSections}
 
 -- ---- one number more
-
-pub number-yes : (test : ℕ → Bool) (i : ℕ) → test i ≡ true → number (suc i) test ≡ number i test + 1
-unfolding number
-number-yes test i e = ap (λ (k : ℕ). number i test + k) (chosen 1 0 e)
-
-pub number-no : (test : ℕ → Bool) (i : ℕ) → test i ≡ false → number (suc i) test ≡ number i test
-unfolding number
-number-no test i e = ap (λ (k : ℕ). number i test + k) (passed 1 0 e) ∙ omega arith
 
 -- each place below the count is that of one that passes
 number-reach : (test : ℕ → Bool) (n p : ℕ) → p < number n test → (i : ℕ) × (i < n) × (test i ≡ true) × (number i test ≡ p)

@@ -1,5 +1,5 @@
--- Document 01's starred cases ("Sample runs") as one table, a field for each, stated by the machine, the table and simulation.
--- Statements alone; proofs/Cases.antt proves them. Assumes nothing.
+-- Document 01's starred cases ("Sample runs") as one table, a field for each, stated by the machine, the table and simulation. Statements alone;
+-- proofs/Cases.antt proves them. Assumes nothing.
 use Prim.Native.Nat.{ℕ, suc, _≤_}
 use mathlib.Core.Path.{_≡_}
 use mathlib.Core.Bool.{true}

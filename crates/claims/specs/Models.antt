@@ -1,7 +1,7 @@
--- Demand 3 in full, as one claim about whole runs. Its first two sentences are those of Tables.antt; then: "Each model accepted for F
--- decodes to the trace and the step count of its own run and to the map document 01 names, with no other cell; over that map the trace
--- replays to that run's code and step count. The traces that these models decode to are exactly those of at most K steps that replay to a
--- code other than 0 over some map of at most 256 cells that contains S's map." Statements alone; proofs/Models.antt proves them. Assumes nothing.
+-- Demand 3 in full, as one claim about whole runs. Its first two sentences are those of Tables.antt; then: "Each model accepted for F decodes to the
+-- trace and the step count of its own run and to the map document 01 names, with no other cell; over that map the trace replays to that run's code
+-- and step count. The traces that these models decode to are exactly those of at most K steps that replay to a code other than 0 over some map of at
+-- most 256 cells that contains S's map." Statements alone; proofs/Models.antt proves them. Assumes nothing.
 use Prim.Native.Nat.{ℕ, _≤_}
 use mathlib.Core.Path.{_≡_}
 use mathlib.Core.Bool.{true, _||_}

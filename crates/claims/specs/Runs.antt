@@ -1,5 +1,5 @@
--- Demand 2 for runs: "Replay accepts exactly the traces that simulation writes for the same set and map."
--- Statements alone; proofs/Runs.antt proves them. Assumes nothing.
+-- Demand 2 for runs: "Replay accepts exactly the traces that simulation writes for the same set and map." Statements alone; proofs/Runs.antt proves
+-- them. Assumes nothing.
 use Prim.Native.Nat.{ℕ, _*_, _<_}
 use mathlib.Core.Path.{_≡_}
 use mathlib.Core.Bool.{true}

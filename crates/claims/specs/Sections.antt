@@ -1,5 +1,5 @@
--- What a set text holds, by its lines: demand 2's "what the text says". specs/Texts.antt states the rest of that demand.
--- Statements alone; proofs/ proves them. Assumes nothing.
+-- What a set text holds, by its lines: demand 2's "what the text says". specs/Texts.antt states the rest of that demand. Statements alone; proofs/
+-- proves them. Assumes nothing.
 use Prim.Native.Nat.{ℕ, _+_, _-_, _<_}
 use mathlib.Core.Path.{_≡_}
 use mathlib.Core.Bool.{Bool, true, false, not, _&&_}

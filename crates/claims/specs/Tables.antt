@@ -1,7 +1,7 @@
--- Demand 3, what a table means: "F has a satisfying assignment exactly when, from some first memory that agrees with the map, S has a
--- run of at most K steps whose last step executes EXIT and gives a code other than 0. Satisfying assignments match such pairs of memory
--- and run one to one: the cells are the memory, and the bit that is 1 in a step names the choice the run takes there."
--- Statements alone; proofs/Tables.antt proves them. Assumes nothing.
+-- Demand 3, what a table means: "F has a satisfying assignment exactly when, from some first memory that agrees with the map, S has a run of at most
+-- K steps whose last step executes EXIT and gives a code other than 0. Satisfying assignments match such pairs of memory and run one to one: the
+-- cells are the memory, and the bit that is 1 in a step names the choice the run takes there." Statements alone; proofs/Tables.antt proves them.
+-- Assumes nothing.
 use Prim.Native.Nat.{ℕ, _≤_, _<_}
 use mathlib.Core.Path.{_≡_}
 use mathlib.Core.Bool.{true}

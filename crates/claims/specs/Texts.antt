@@ -1,5 +1,5 @@
--- Demand 2 for texts: "A set text is accepted exactly when it follows document 01, and its records say what the text says."
--- specs/Sections.antt says what a text's threads and cells are. Statements alone; proofs/Texts.antt proves them. Assumes nothing.
+-- Demand 2 for texts: "A set text is accepted exactly when it follows document 01, and its records say what the text says." specs/Sections.antt says
+-- what a text's threads and cells are. Statements alone; proofs/Texts.antt proves them. Assumes nothing.
 use Prim.Native.Nat.{ℕ, _+_, _*_, _≤_, _<_}
 use mathlib.Core.Path.{_≡_}
 use mathlib.Core.Bool.{true, false, cond}

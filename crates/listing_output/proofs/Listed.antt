@@ -13,7 +13,7 @@ use Rattle.base.specs.Bytes.{over}
 use Rattle.records.proofs.Sets.{four-threads}
 use Rattle.records.specs.Maps.{mapAccepted}
 use Rattle.records.specs.Sets.{Set, setOf, setAccepted}
-use Rattle.machine.proofs.Runs.{AllTaken, follow-taken, length-choices, length-trace, length-traceStep, ran-taken, ran-where, refused-ran, taken-takes}
+use Rattle.machine.proofs.Runs.{AllTaken, follow-taken, length-choices, length-trace, length-traceStep, ran-taken, ran-where, refused-ran, taken-takes, choices-more}
 use Rattle.machine.specs.Machine.{State, step, written, noWrite, reads}
 use Rattle.machine.specs.Maps.{Held, begin, knowsAll, outcome, advanced, onOutcome, follow}
 use Rattle.machine.specs.Runs.{choiceOf, choices, takes, endOf}
@@ -30,7 +30,7 @@ use Rattle.listing_output.specs.Listings.{line, lastLine, refusedLine, l
 use Rattle.listing_output.specs.Outputs.{lineAt, lastOf}
 use Rattle.listing_output.specs.Schedules.{candidate, denies, allows, nextByte, accepts}
 use Rattle.listing_output.proofs.Lowest.{can, found, found-lowest, found-none}
-use Rattle.listing_output.proofs.Runs.{heldAfter, wroteAfter, linesOf, choices-more, held-more, wrote-more, lines-more, trace-more, taken-more, follow-more, state-after, simulated-runs}
+use Rattle.listing_output.proofs.Runs.{heldAfter, wroteAfter, linesOf, held-more, wrote-more, lines-more, trace-more, taken-more, follow-more, state-after, simulated-runs}
 use Rattle.listing_output.proofs.StepLines.{line-of-step}
 
 -- ---- outcomes

@@ -41,11 +41,6 @@ linesOf S h w (c ∷ run) = line S (h .state) w c ++ linesOf S (advanced S h c) 
 
 -- ---- one choice more
 
-pub choices-more : (bytes : List ℕ) (b : ℕ) → choices (bytes ++ (b ∷ [])) ≡ choices bytes ++ (choiceOf b ∷ [])
-unfolding choices
-choices-more [] b = refl
-choices-more (k ∷ bytes) b = ap (λ (run : List Choice). choiceOf k ∷ run) (choices-more bytes b)
-
 module _ (S : Set) (c : Choice) where
   pub held-more : (h : Held) (run : List Choice) → heldAfter S h (run ++ (c ∷ [])) ≡ advanced S (heldAfter S h run) c
   unfolding heldAfter

@@ -1,5 +1,5 @@
--- What the listing program prints (document 01, "Sample runs"): a line for each step, then the last line.
--- A reader of the calls believes this. Assumes nothing.
+-- What the listing program prints (document 01, "Sample runs"): a line for each step, then the last line. A reader of the calls believes this.
+-- Assumes nothing.
 use Prim.Native.Char.{code}
 use Prim.Native.Nat.{ℕ, zero, suc, _+_, _/_, _%_}
 use Prim.Native.String.{String, [] as end, _∷_ as _then_}
@@ -8,12 +8,12 @@ use mathlib.Core.List.{List, [], _∷_, _++_}
 use lib.Dec.{eqb, ltb}
 use Rattle.base.specs.Below.{least}
 use Rattle.records.specs.Instructions.{instructions, isBare, wordOf}
-use Rattle.records.specs.Maps.{mapAccepted}
+use Rattle.records.specs.Maps.{mapAccepted, runCells}
 use Rattle.records.specs.Sets.{Set, setOf, setAccepted}
 use Rattle.records.specs.declared.Statement.{Statement}
 use Rattle.machine.specs.Machine.{State, permitted, actor, written, noWrite}
 use Rattle.machine.specs.Maps.{Held, begin, outcome, advanced}
-use Rattle.machine.specs.Runs.{endOf}
+use Rattle.machine.specs.Runs.{endOf, mostSteps}
 use Rattle.machine.specs.Traces.{bit, shown}
 use Rattle.machine.specs.declared.Choice.{Choice}
 use Rattle.machine.specs.declared.Choice.the-variants.{Execute, Flush}
@@ -119,4 +119,4 @@ listingFrom S h w (suc n) =
 -- what is printed for statement and map records; 9 where they are not accepted
 unfoldable pub listing : (set map : List ℕ) → List ℕ
 listing set map =
-    cond (setAccepted set && mapAccepted 256 map) (listingFrom (setOf set) (begin map) noWrite 64) (refusedLine 9)
+    cond (setAccepted set && mapAccepted runCells map) (listingFrom (setOf set) (begin map) noWrite mostSteps) (refusedLine 9)

@@ -1,5 +1,5 @@
--- How the code prints: texts one after the other into a lent output, and a step's line from the bytes of its trace step.
--- This serves the code; no call's promise needs it. Assumes nothing.
+-- How the code prints: texts one after the other into a lent output, and a step's line from the bytes of its trace step. This serves the code; no
+-- call's promise needs it. Assumes nothing.
 use Prim.Native.Nat.{ℕ}
 use mathlib.Core.List.{List, _++_}
 use mathlib.Core.Path.{_≡_}

@@ -1,11 +1,11 @@
--- How the code finds the lowest choice: it tries the eight bytes that may be permitted.
--- This serves the code; no call's promise needs it. Assumes nothing.
+-- How the code finds the lowest choice: it tries the eight bytes that may be permitted. This serves the code; no call's promise needs it. Assumes
+-- nothing.
 use Prim.Native.Nat.{ℕ, _+_}
 use mathlib.Core.Bool.{Bool, false, cond, not, _&&_}
 use mathlib.Core.List.{List, [], _∷_, _++_}
 use lib.Dec.{eqb, ltb}
 use Rattle.base.specs.Below.{least}
-use Rattle.records.specs.Maps.{mapAccepted}
+use Rattle.records.specs.Maps.{mapAccepted, runCells}
 use Rattle.records.specs.Sets.{setAccepted}
 use Rattle.machine.specs.declared.RunAnswer.{RunAnswer}
 use Rattle.machine.specs.declared.RunAnswer.the-variants.{Ran, Refused}
@@ -13,7 +13,7 @@ use Rattle.simulation.specs.Simulation.{simulated}
 
 -- a set and a map that 9 does not refuse
 abbrev pub accepts : (set map : List ℕ) → Bool
-accepts set map = setAccepted set && mapAccepted 256 map
+accepts set map = setAccepted set && mapAccepted runCells map
 
 -- the eight schedule bytes in order: executes by thread, then flushes by thread
 abbrev pub candidate : ℕ → ℕ

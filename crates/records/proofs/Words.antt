@@ -10,7 +10,7 @@ use lib.ListN.{getD}
 use borrow.Author.Tests.{eqb-true, eq-eqb}
 use Rattle.base.specs.Below.{every, least}
 use Rattle.base.specs.Bytes.{same}
-use Rattle.base.proofs.Below.{every-at, least-more}
+use Rattle.base.proofs.Below.{every-at, least-more, least-none}
 use Rattle.base.proofs.Bytes.{same-equal}
 use Rattle.base.proofs.Choice.{chosen, passed, refuted, clash}
 use Rattle.records.specs.Instructions.{words, wordOf}
@@ -28,14 +28,9 @@ different = refl
 pub found : (w : List ℕ) (n : ℕ) → n < 20 → same w (wordOf n) ≡ true → n ≡ named w
 found w n h e = eqb-true n (named (wordOf n)) (every-at (λ m. eqb m (named (wordOf m))) 20 n different h) ∙ ap named (sym (same-equal w (wordOf n) e))
 
-none-passes : (test : ℕ → Bool) (n : ℕ) → ((k : ℕ) → k < n → test k ≡ false) → least n test ≡ n
-unfolding least
-none-passes test zero f = refl
-none-passes test (suc n) f = rw add-one at (least-more test n (none-passes test n (λ k h. f k (omega arith))) (f n (omega arith)))
-
 -- w is no word
 unnamed : (w : List ℕ) → ((n : ℕ) → n < 20 → same w (wordOf n) ≡ true → ⊥) → 20 ≡ named w
-unnamed w f = sym (none-passes (λ n. same w (wordOf n)) 20 (λ n h. refuted (same w (wordOf n)) (f n h)))
+unnamed w f = sym (least-none (λ n. same w (wordOf n)) 20 (λ n h. refuted (same w (wordOf n)) (f n h)))
 
 -- ---- numbers in a list
 

@@ -21,6 +21,13 @@ valueAt bytes k = wordAt bytes (4 * k + 2)
 unfoldable pub ascendsAt : List ℕ → ℕ → Bool
 ascendsAt bytes k = cond (eqb k 0) true (ltb (addressAt bytes (k - 1)) (addressAt bytes k))
 
+-- A set's map has at most 128 cells, one given to simulation or replay 256.
+abbrev pub setCells : ℕ
+setCells = 128
+
+abbrev pub runCells : ℕ
+runCells = 256
+
 -- A map is accepted unless 9 refuses it: whole records, at most `limit` of them (128 for a set's map, 256 in simulation and replay).
 unfoldable pub mapAccepted : ℕ → List ℕ → Bool
 mapAccepted limit bytes =

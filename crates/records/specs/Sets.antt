@@ -1,5 +1,5 @@
--- Statement records: the set that they hold, and which sets are accepted (document 01, "Records").
--- A reader of the calls believes this. Assumes nothing.
+-- Statement records: the set that they hold, and which sets are accepted (document 01, "Records"). A reader of the calls believes this. Assumes
+-- nothing.
 use Prim.Native.Nat.{ℕ, zero, suc, _+_, _-_, _*_, _/_, _%_, _≤_, _<_}
 use mathlib.Core.Path.{_≡_}
 use mathlib.Core.Bool.{Bool, true, cond, not, _&&_, _||_}

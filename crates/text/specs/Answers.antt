@@ -1,5 +1,5 @@
--- What reading a set text answers, and the lent outputs afterwards (document 01, "Numbered refusals").
--- A reader of the calls believes this. Assumes nothing.
+-- What reading a set text answers, and the lent outputs afterwards (document 01, "Numbered refusals"). A reader of the calls believes this. Assumes
+-- nothing.
 use Prim.Native.Nat.{ℕ, zero, suc, _+_, _*_}
 use mathlib.Core.Bool.{Bool, true, false, cond, not, _&&_, _||_}
 use mathlib.Core.List.{List, [], _∷_}
@@ -96,10 +96,14 @@ whole T cs setRoom mapRoom =
     (cond (not (roomFits T cs setRoom mapRoom)) (refused 11)
     (Read (statements T) (length cs)))))))
 
+-- At most 16,384 bytes.
+abbrev pub longestText : ℕ
+longestText = 16384
+
 -- 1: text above 16,384 bytes; then the lines, then the whole text
 unfoldable pub answer : List ℕ → ℕ → ℕ → ReadAnswer
 answer text setRoom mapRoom =
-    cond (ltb 16384 (length text)) (refused 1)
+    cond (ltb longestText (length text)) (refused 1)
     (inLines 1 (lines text) (whole (threads (lines text)) (cells (lines text)) setRoom mapRoom))
 
 -- ---- the lent outputs: all bytes stay where the text is refused, and those beyond the records

@@ -1,5 +1,5 @@
--- What reading keeps of a text before its records are written: statements and cells read so far.
--- This serves the code; no call's promise needs it. Assumes nothing.
+-- What reading keeps of a text before its records are written: statements and cells read so far. This serves the code; no call's promise needs it.
+-- Assumes nothing.
 use Prim.Native.Nat.{ℕ, _+_, _-_, _*_, _/_, _%_}
 use mathlib.Core.Bool.{Bool, cond, _&&_}
 use mathlib.Core.List.{List, [], _∷_, _++_}

@@ -13,8 +13,8 @@ use Rattle.text.specs.Sections.{Threads, isGood, added, closed, lineAdde
 use Rattle.text.specs.Answers.{lineRefusal, inLines, threadsFit, statementsFit, labelsFit, checkpointsFit, mapFits}
 use Rattle.text.specs.Answers.{refused as refusedBy}
 use Rattle.text.specs.Records.{setBytes, statements, mapBytes}
-use Rattle.records.specs.Maps.{mapAccepted}
-use Rattle.text_drafts.specs.Blocks.{blockAt}
+use Rattle.records.specs.Maps.{mapAccepted, setCells}
+use Rattle.text_drafts.specs.Blocks.{blockAt, draftLength}
 use Rattle.text.specs.Drafts.{threadsIn, cellsOf}
 use Rattle.text.specs.declared.ReadAnswer.{ReadAnswer}
 use Rattle.text.specs.declared.ReadAnswer.the-variants.{Read, Refused}
@@ -33,7 +33,7 @@ openCount r = getD (r .counts) (r .ended) 0
 
 -- no thread has more statements than there is room for, and the draft has room for four threads
 abbrev pub Sound : Reading → List ℕ → Type 0
-Sound r draft = ((t : ℕ) → getD (r .counts) t 0 ≤ 32) × (length draft ≡ 4608)
+Sound r draft = ((t : ℕ) → getD (r .counts) t 0 ≤ 32) × (length draft ≡ draftLength)
 
 -- T, the threads so far, may be kept: r says that they fit, and keeps them
 abbrev pub Keeps : Reading → List ℕ → Threads → Type 0
@@ -127,7 +127,7 @@ pub record ThreadsStand (r : Reading) (draft : List ℕ) (T : Threads) : Type 0 
 pub record CellsStand (r : Reading) (keys : List ℕ) (cs : List Cell) : Type 0 where
   pub few : r .cells ≤ 128 → (cs ≡ cellsKept r keys) × (length cs ≡ r .cells)
   pub many : 128 < r .cells → 128 < length cs
-  pub accepted : mapFits cs ≡ mapAccepted 128 (mapBytes cs)
+  pub accepted : mapFits cs ≡ mapAccepted setCells (mapBytes cs)
 
 -- 4, 5 or 6, and 0 where none of them refuses
 abbrev pub threadsRefusal : Threads → ℕ

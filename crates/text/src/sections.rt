@@ -2,6 +2,8 @@
 ghost use mathlib.Core.Path.{_≡_};
 ghost use Prim.Native.Nat.{_≤_, _<_};
 ghost use lib.ListN.{length, set};
+ghost use Rattle.text_drafts.specs.Blocks.{draftLength};
+ghost use Rattle.text.specs.Answers.{longestText};
 ghost use Rattle.text_lines.specs.Lines.{lines};
 ghost use Rattle.text_lines.specs.declared.Form.{Form};
 ghost use Rattle.text.specs.Readings.{Adds, Closes, States, Takes, ReadsLines};
@@ -128,7 +130,7 @@ fn take_line(l: &[u8], left: u16, r: Reading, draft: &mut [u8], keys: &mut [u32]
 
 // How many lines end a section.
 fn count_dots(text: &[u8]) -> u16
-    requires { ⌜ length (now text) ≤ 16384 ⌝ }
+    requires { ⌜ length (now text) ≤ longestText ⌝ }
     ensures { λ r. ⌜ (r ≡ dots (lines (now (text .entry)))) × (r ≤ 16385) ⌝ }
 {
     let mut found: u16 = 0;
@@ -144,7 +146,7 @@ fn count_dots(text: &[u8]) -> u16
 
 // Takes the lines one by one, up to the first that is refused; threads are kept where there are 1 to 4.
 fn read_lines(text: &[u8], draft: &mut [u8], keys: &mut [u32]) -> Reading
-    requires { ⌜ (length (now text) ≤ 16384) × (length (now draft) ≡ 4608) × (length (now keys) ≡ 128) ⌝ }
+    requires { ⌜ (length (now text) ≤ longestText) × (length (now draft) ≡ draftLength) × (length (now keys) ≡ 128) ⌝ }
     ensures { λ r. ⌜ ReadsLines (now (text .entry)) r (now (draft .exit)) (now (keys .exit)) ⌝ }
 {
     let total = count_dots(text);
@@ -172,8 +174,8 @@ fn read_lines(text: &[u8], draft: &mut [u8], keys: &mut [u32]) -> Reading
 
 // Keeps what the lines of a text hold; 1 refuses a text above 16,384 bytes.
 pub fn read(text: &[u8], draft: &mut [u8], keys: &mut [u32]) -> Reading
-    ensures { λ r. ⌜ (16384 < length (now (text .entry)) → (r .refusal ≡ 1) × (r .line ≡ 0))
-        × (length (now (text .entry)) ≤ 16384 → length (now (draft .entry)) ≡ 4608 → length (now (keys .entry)) ≡ 128 → ReadsLines (now (text .entry)) r (now (draft .exit)) (now (keys .exit))) ⌝ }
+    ensures { λ r. ⌜ (longestText < length (now (text .entry)) → (r .refusal ≡ 1) × (r .line ≡ 0))
+        × (length (now (text .entry)) ≤ longestText → length (now (draft .entry)) ≡ draftLength → length (now (keys .entry)) ≡ 128 → ReadsLines (now (text .entry)) r (now (draft .exit)) (now (keys .exit))) ⌝ }
 {
     let fit = (text.len() <= Reading::TEXT)
         & (draft.len() == DRAFT)

@@ -1,5 +1,5 @@
--- A reader stands at a byte of the text and gives the next line (document 01, "Set text").
--- This serves the code; no call's promise needs it. Assumes nothing.
+-- A reader stands at a byte of the text and gives the next line (document 01, "Set text"). This serves the code; no call's promise needs it. Assumes
+-- nothing.
 use Prim.Native.Nat.{ℕ, _+_}
 use mathlib.Core.Bool.{cond}
 use mathlib.Core.List.{List, []}

@@ -10,9 +10,13 @@ type Uses = BTreeMap<String, BTreeSet<String>>;
 /// Libraries of the Rattle kit that a crate may name. `libc` stands behind `io` and is in no source.
 const KIT: [&str; 4] = ["bytes", "check", "io", "os"];
 
-/// How a file of specs/ says what it is for.
-const BELIEVED: &str = "A reader of the calls believes this.";
-const SERVES: &str = "This serves the code; no call's promise needs it.";
+/// How a file of specs/ says what it is for; those of `claims` hold statements alone, which are proved.
+const PURPOSES: [&str; 4] = [
+    "A reader of the calls believes this.",
+    "This serves the code; no call's promise needs it.",
+    "The claims say what this means; a reader need not believe it.",
+    "Statements alone; proofs/",
+];
 
 fn repository() -> PathBuf {
     Path::new(env!("CARGO_MANIFEST_DIR")).join("../..")
@@ -174,10 +178,7 @@ fn each_definition_file_says_whether_it_is_believed() {
             .map(|line| line.trim_start_matches("-- "))
             .collect::<Vec<_>>()
             .join(" ");
-        let says = [BELIEVED, SERVES]
-            .iter()
-            .filter(|s| head.contains(**s))
-            .count();
+        let says = PURPOSES.iter().filter(|s| head.contains(**s)).count();
         assert_eq!(says, 1, "{}", path.display());
         counted += 1;
     }

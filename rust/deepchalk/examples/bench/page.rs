@@ -35,10 +35,7 @@ pub fn ratio_row(cells: &[String], ratio: f64) {
 
 /// So that nobody looks at some rows only.
 pub fn rows_above() {
-    heading(
-        "Rows above 1.5",
-        "No bound is set for decoding and for the size of a table.",
-    );
+    heading("Rows above 1.5", "The wanted bound of every row.");
     let above = ABOVE.lock().expect("one thread prints");
     if above.is_empty() {
         println!("None.");

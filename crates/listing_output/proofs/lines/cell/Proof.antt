@@ -26,7 +26,7 @@ same-length c = search needs
 returns : tie.Need-returns
 unfolding cell
 returns c =
-    prints-as (ap₂ pair (c .before .before .before .before .word-at .ensures) (c .before .before .before .word-at2 .ensures) ∙ sym (chosen _ _ (eq-eqb _ _ (sym (c .before .before .before .before .before .before .before .byte-at .ensures) ∙ c .before .before .before .before .before .before .if1 .taken)))) (c .before .before .pair .ensures)
+    prints-as (ap₂ pair (c .before .before .before .before .before .word-at .ensures) (c .before .before .before .word-at2 .ensures) ∙ sym (chosen _ _ (eq-eqb _ _ (sym (c .before .before .before .before .before .before .before .byte-at .ensures) ∙ c .before .before .before .before .before .before .if1 .taken)))) (c .before .before .pair .ensures)
 
 slice-aggregate-put : tie.Need-slice-aggregate-put
 slice-aggregate-put c = search needs
