@@ -14,6 +14,7 @@ pub mod random;
 pub mod schedules;
 pub mod sets;
 pub mod solver;
+pub mod sources;
 pub mod tables;
 pub mod texts;
 

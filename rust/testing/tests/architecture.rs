@@ -5,6 +5,8 @@ use std::collections::{BTreeMap, BTreeSet};
 use std::fs;
 use std::path::{Path, PathBuf};
 
+use testing::sources::{repository, text};
+
 type Uses = BTreeMap<String, BTreeSet<String>>;
 
 /// Libraries of the Rattle kit that a crate may name. `libc` stands behind `io` and is in no source.
@@ -17,14 +19,6 @@ const PURPOSES: [&str; 4] = [
     "The claims say what this means; a reader need not believe it.",
     "Statements alone; proofs/",
 ];
-
-fn repository() -> PathBuf {
-    Path::new(env!("CARGO_MANIFEST_DIR")).join("../..")
-}
-
-fn text(path: &Path) -> String {
-    fs::read_to_string(path).unwrap_or_else(|e| panic!("{}: {e}", path.display()))
-}
 
 /// All files below a folder with one of these endings.
 fn files(folder: &Path, endings: &[&str]) -> Vec<PathBuf> {

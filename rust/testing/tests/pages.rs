@@ -1,7 +1,6 @@
 //! What the pages cite is there: functions by their paths, and files.
 
-use std::fs;
-use std::path::{Path, PathBuf};
+use testing::sources::{repository, text};
 
 const PAGES: [&str; 8] = [
     "README.md",
@@ -13,14 +12,6 @@ const PAGES: [&str; 8] = [
     "docs/TABLE.md",
     "docs/USE.md",
 ];
-
-fn repository() -> PathBuf {
-    Path::new(env!("CARGO_MANIFEST_DIR")).join("../..")
-}
-
-fn text(path: &Path) -> String {
-    fs::read_to_string(path).unwrap_or_else(|e| panic!("{}: {e}", path.display()))
-}
 
 /// The words in backquotes of a page, its blocks of code left out.
 fn quoted(page: &str) -> Vec<String> {

@@ -6,6 +6,8 @@ use std::collections::BTreeSet;
 use std::fs;
 use std::path::{Path, PathBuf};
 
+use testing::sources::{repository, text};
+
 /// At least so many for each public function.
 const WANTED: usize = 2;
 
@@ -36,7 +38,7 @@ struct Edit {
 
 /// The crates, by folder.
 fn crates() -> Vec<PathBuf> {
-    sorted(&Path::new(env!("CARGO_MANIFEST_DIR")).join("../../crates"))
+    sorted(&repository().join("crates"))
 }
 
 /// What a folder holds; nothing where there is none.
@@ -54,10 +56,6 @@ fn stem(path: &Path) -> String {
         .expect("a name")
         .to_string_lossy()
         .into_owned()
-}
-
-fn text(path: &Path) -> String {
-    fs::read_to_string(path).unwrap_or_else(|e| panic!("{}: {e}", path.display()))
 }
 
 /// The functions of a file in `rt fmt`'s layout: each ends at the brace under the start of its first line.
