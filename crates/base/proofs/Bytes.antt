@@ -1,5 +1,5 @@
--- Laws of bytes written at a place, and of lists of bytes that are the same. Assumes nothing.
-use Prim.Native.Nat.{ℕ, suc, _+_, _-_, _≤_, _<_}
+-- Laws of bytes written at a place, of lists of bytes that are the same, and of a word's two bytes. Assumes nothing.
+use Prim.Native.Nat.{ℕ, suc, _+_, _-_, _*_, _/_, _%_, _≤_, _<_}
 use mathlib.Core.Path.{_≡_, refl, ap, sym, _∙_}
 use mathlib.Core.List.{List, [], _∷_, _++_, append-assoc, append-nil}
 use mathlib.Core.Bool.{Bool, true, false, cond, _&&_}
@@ -103,3 +103,7 @@ pub same-next : (equal : Bool) (a b : List ℕ) (i : ℕ) → i < length a → i
 unfolding same
 same-next true a b i h k = rw (add-one, drop-cons a i 0 h, drop-cons b i 0 k)
 same-next false a b i h k = refl
+
+-- a word is its two bytes
+pub word-bytes : (n : ℕ) → n < 65536 → n % 256 + 256 * (n / 256 % 256) ≡ n
+word-bytes n h = omega arith

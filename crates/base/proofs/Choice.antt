@@ -1,8 +1,8 @@
 -- Laws of a choice by a test, and of tests joined. Assumes nothing.
 use mathlib.Core.Path.{_≡_, refl, ap, sym, _∙_}
 use Prim.Native.Nat.{ℕ}
-use borrow.Author.Tests.{lt-leb, le-leb, ltb-false, ltb-true}
-use lib.Dec.{leb, ltb}
+use borrow.Author.Tests.{lt-leb, le-leb, ltb-false, ltb-true, eq-eqb, ne-eqb, eqb-true, eqb-false}
+use lib.Dec.{eqb, leb, ltb}
 use mir.Val.{boolByte}
 use mathlib.Core.Bool.{Bool, true, false, cond, not, _&&_, _||_, true≢false}
 
@@ -89,3 +89,20 @@ or-left false b e = refl
 pub or-right : (a b : Bool) → (a || b) ≡ false → b ≡ false
 or-right true b e = absurd (true≢false e)
 or-right false b e = e
+
+-- what follows from either of two tests
+pub either : {X : Type 0} (a b : Bool) → (a || b) ≡ true → (a ≡ true → X) → (b ≡ true → X) → X
+either true b e f g = f refl
+either false b e f g = g e
+
+pub or-three : (a b c : Bool) → ((a || b) || c) ≡ (a || (b || c))
+or-three true b c = refl
+or-three false b c = refl
+
+-- equality the other way round
+pub eqb-swap : (a b : ℕ) → eqb a b ≡ eqb b a
+eqb-swap a b = go (eqb a b) refl
+  where
+    go : (t : Bool) → eqb a b ≡ t → eqb a b ≡ eqb b a
+    go true e = e ∙ sym (eq-eqb b a (sym (eqb-true a b e)))
+    go false e = e ∙ sym (ne-eqb b a (λ (q : b ≡ a). eqb-false a b e (sym q)))

@@ -105,10 +105,10 @@ satisfiable set map bound accepted agrees low high run fails =
     tableMeansTheProgram set map bound (accepted .acceptedSet) (accepted .acceptedMap) low high .1
     (zeros, (run, record { isMemory = zeros-memory; agrees = agrees; fails = fails }))
 
-model4 : (memory : ℕ → ℕ) → IsMemory memory → Satisfying set4 [] 3 (assignmentOf memory (choices (1 ∷ 0 ∷ 1 ∷ [])))
-model4 memory isMemory =
+satisfying4 : (memory : ℕ → ℕ) → IsMemory memory → Satisfying set4 [] 3 (assignmentOf memory (choices (1 ∷ 0 ∷ 1 ∷ [])))
+satisfying4 memory isMemory =
     assignmentsMatchRuns set4 [] 3 (accepted4 .acceptedSet) (accepted4 .acceptedMap) (omega arith) (omega arith)
-    .model memory (choices (1 ∷ 0 ∷ 1 ∷ [])) (record { isMemory = isMemory; agrees = agrees-empty memory; fails = fails4 memory })
+    .assignment memory (choices (1 ∷ 0 ∷ 1 ∷ [])) (record { isMemory = isMemory; agrees = agrees-empty memory; fails = fails4 memory })
 
 -- ---- simulated runs
 
@@ -160,7 +160,7 @@ starredCases = record {
     ),
   );
   case3-map1 = (accepted3 1, λ bound low high. unsatisfiable set3 (cell 0 1) 64 bound (accepted3 1) explored3 low high high);
-  case4 = (ran4, (accepted4, model4));
+  case4 = (ran4, (accepted4, satisfying4));
   case5 = (accepted5, satisfiable set5 [] 3 accepted5 (agrees-empty zeros) (omega arith) (omega arith) _ fails5);
   case6-addi = adds6;
   case6-muli = multiplies6;

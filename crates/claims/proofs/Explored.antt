@@ -80,8 +80,8 @@ agrees-over map memory agrees = fun-ext (λ a. go a (mapped map a) refl)
 pub unsatisfiable : (set map : List ℕ) (n bound : ℕ) → Accepted set map →
     ((memory : ℕ → ℕ) → explored (setOf set) n (start (mappedOver map memory)) ≡ true) →
     1 ≤ bound → bound ≤ 64 → bound ≤ n → Unsatisfiable set map bound
-unsatisfiable set map n bound accepted all low high reaches g model =
-    let w = tableMeansTheProgram set map bound (accepted .acceptedSet) (accepted .acceptedMap) low high .0 (g, model) in
+unsatisfiable set map n bound accepted all low high reaches g satisfying =
+    let w = tableMeansTheProgram set map bound (accepted .acceptedSet) (accepted .acceptedMap) low high .0 (g, satisfying) in
     let memory = w .0 in
     let failure = w .1 .1 in
     failure .fails .code

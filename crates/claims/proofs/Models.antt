@@ -11,7 +11,7 @@ use lib.ListN.{length, getD, length-append}
 use borrow.Author.Tests.{lt-ltb}
 use Rattle.base.specs.Below.{number}
 use Rattle.base.proofs.Choice.{chosen, and-true, and-right, or-true, or-right-true}
-use Rattle.records.specs.Maps.{cells, addressAt, mapAccepted, mapped, mapValue}
+use Rattle.records.specs.Maps.{cells, addressAt, mapAccepted, mapped, mapValue, setCells, runCells}
 use Rattle.records.specs.Sets.{Set, WellFormedSet, setOf, setAccepted}
 use Rattle.records.proofs.Maps.{few-cells}
 use Rattle.records.proofs.Sets.{well-formed}
@@ -70,7 +70,7 @@ ended-code : (S : Set) (s : State) → s .ended ≡ true → endOf S s ≡ Code 
 unfolding endOf
 ended-code S s e = chosen _ _ e
 
-module _ (set map : List ℕ) (bound : ℕ) (accepted : setAccepted set ≡ true) (mapOk : mapAccepted 128 map ≡ true) (few : bound ≤ 64)
+module _ (set map : List ℕ) (bound : ℕ) (accepted : setAccepted set ≡ true) (mapOk : mapAccepted setCells map ≡ true) (few : bound ≤ 64)
     (setBytes : AreBytes set) (mapBytes : AreBytes map) where
   abbrev S : Set
   S = setOf set
@@ -107,7 +107,7 @@ module _ (set map : List ℕ) (bound : ℕ) (accepted : setAccepted set ≡ true
       arith,
       number-either (mapped map) (readsFirst S first run) 65536,
       number-held (addressAt map) (cells map) 65536,
-      few-cells 128 map mapOk,
+      few-cells setCells map mapOk,
       reads-few,
     )
 
@@ -132,7 +132,7 @@ module _ (set map : List ℕ) (bound : ℕ) (accepted : setAccepted set ≡ true
         let cell : isCell a ≡ true = sym (cells-are a) ∙ e in
         cells-value isCell (g .first) 65536 a (cell-below a cell) cell
 
-    map-accepted : mapAccepted 256 (decodedMap set map bound g) ≡ true
+    map-accepted : mapAccepted runCells (decodedMap set map bound g) ≡ true
     unfolding decodedMap
     map-accepted = cells-accepted isCell (g .first) 65536 256 cells-few
 
@@ -268,8 +268,8 @@ module _ (set map : List ℕ) (bound : ℕ) (accepted : setAccepted set ≡ true
       pub failure : Failure set map bound (g .first) (runOf (S .threads) bound g)
 
     own-run : (g : Assignment) → Satisfying set map bound g → Own g
-    own-run g model =
-        let r = oneToOne .pair g model in
+    own-run g satisfying =
+        let r = oneToOne .pair g satisfying in
         let q = r .0 in
         let same : runOf (S .threads) bound g ≡ q
         = ap (runOf (S .threads) bound) (r .1 .0)
@@ -306,7 +306,7 @@ module _ (set map : List ℕ) (bound : ℕ) (accepted : setAccepted set ≡ true
             bytes = bytes-of model (model-bytes (S .threads) bound q (to .other) (below (to .other) (to .bytes)));
             fits = model-fits (S .threads) bound q (to .other) (to .accepted);
             satisfied = subst⁻¹ (λ (g : Assignment). satisfies g (tableOf set map bound) ≡ true) stands
-                (oneToOne .model m q (shown .failure) .satisfied);
+                (oneToOne .assignment m q (shown .failure) .satisfied);
           };
           traceIs = ap (decodedTrace set bound) stands
               ∙ ap (trace S (start m) noWrite) (run-of S bound (start m) m q (fails .permitted) (fails .bounded))

@@ -10,7 +10,7 @@ use lib.ListN.{length, take, drop, length-drop, take-append-drop}
 use borrow.Author.Tests.{ltb-false, le-ltb, eqb-true, eq-eqb, leb-true, le-leb}
 use Rattle.base.specs.Bytes.{same}
 use Rattle.base.proofs.Choice.{chosen, passed, and-true, and-left, and-right}
-use Rattle.records.specs.Maps.{mapAccepted, mapValue}
+use Rattle.records.specs.Maps.{mapAccepted, mapValue, runCells}
 use Rattle.records.specs.Sets.{Set, setOf, setAccepted, WellFormedSet}
 use Rattle.machine.specs.Machine.{State, start, actor, step, written, noWrite}
 use Rattle.machine.specs.Runs.{choices, takes, isRun}
@@ -85,7 +85,7 @@ retrace-ran S h w i (suc n) bytes m e l p =
 
 -- the set and the map are accepted, and the schedule's choices are followed over the map, n steps to the end e
 pub record SimulatedTo (set map schedule : List ℕ) (n : ℕ) (e : End) : Type 0 where
-  pub accepted : (setAccepted set && mapAccepted 256 map) ≡ true
+  pub accepted : (setAccepted set && mapAccepted runCells map) ≡ true
   pub few : length schedule ≤ 64
   pub followed : follow (setOf set) (begin map) 0 (choices schedule) ≡ Ran n e
 
@@ -93,7 +93,7 @@ pub simulated-ran : (set map schedule : List ℕ) (room n : ℕ) (e : End) → s
     SimulatedTo set map schedule n e
 unfolding simulated limited
 simulated-ran set map schedule room n e p =
-    let (a, p₁) = ran-where (setAccepted set && mapAccepted 256 map) 9 0 p in
+    let (a, p₁) = ran-where (setAccepted set && mapAccepted runCells map) 9 0 p in
     let (b, p₂) = ran-after (ltb 64 (length schedule)) 17 0 p₁ in
     let (c, p₃) = ran-after (ltb room (24 * length schedule)) 11 0 p₂ in
     record { accepted = a; few = ltb-false 64 (length schedule) b; followed = p₃ }
@@ -109,7 +109,7 @@ ran-simulated set map schedule n e s =
 
 -- the set and the map are accepted, and the whole records of a trace are retraced over the map, n steps to the end e
 pub record ReplayedTo (set map bytes : List ℕ) (n : ℕ) (e : End) : Type 0 where
-  pub accepted : (setAccepted set && mapAccepted 256 map) ≡ true
+  pub accepted : (setAccepted set && mapAccepted runCells map) ≡ true
   pub whole : length bytes ≡ 24 * (length bytes / 24)
   pub few : length bytes / 24 ≤ 64
   pub retraced : retrace (setOf set) (begin map) noWrite 0 (length bytes / 24) bytes ≡ Ran n e
@@ -117,7 +117,7 @@ pub record ReplayedTo (set map bytes : List ℕ) (n : ℕ) (e : End) : Type 0 wh
 pub replayed-ran : (set map bytes : List ℕ) (n : ℕ) (e : End) → replayed set map bytes ≡ Ran n e → ReplayedTo set map bytes n e
 unfolding replayed limitedTrace
 replayed-ran set map bytes n e p =
-    let (a, p₁) = ran-where (setAccepted set && mapAccepted 256 map) 9 0 p in
+    let (a, p₁) = ran-where (setAccepted set && mapAccepted runCells map) 9 0 p in
     let (b, p₂) = ran-where (eqb (length bytes % 24) 0 && leb (length bytes / 24) 64) 17 0 p₁ in
     let z = eqb-true (length bytes % 24) 0 (and-left (eqb (length bytes % 24) 0) (leb (length bytes / 24) 64) b) in
     let few = leb-true (length bytes / 24) 64 (and-right (eqb (length bytes % 24) 0) (leb (length bytes / 24) 64) b) in
@@ -154,8 +154,8 @@ simulation-runs set map schedule room n e p =
       end = f .end;
     }
 
-well-set : (set map : List ℕ) → (setAccepted set && mapAccepted 256 map) ≡ true → WellFormedSet (setOf set)
-well-set set map a = well-formed set (and-left (setAccepted set) (mapAccepted 256 map) a)
+well-set : (set map : List ℕ) → (setAccepted set && mapAccepted runCells map) ≡ true → WellFormedSet (setOf set)
+well-set set map a = well-formed set (and-left (setAccepted set) (mapAccepted runCells map) a)
 
 -- simulation's trace shows its schedule
 schedule-shown : (set map bytes : List ℕ) (n : ℕ) (e : End) (out : List ℕ) → Simulates set map bytes n e out →

@@ -85,8 +85,8 @@ module _ (set map : List ℕ) (bound : ℕ) (accepted : setAccepted set ≡ true
       let r = bits-inside S (start memory) run (fails .permitted) k kind t e in
       (omega (arith, r .0, fails .bounded), r .1)
 
-  model-of : (memory : ℕ → ℕ) (run : List Choice) → Failure set map bound memory run → Satisfying set map bound (assignmentOf memory run)
-  model-of memory run failure =
+  assignment-of : (memory : ℕ → ℕ) (run : List Choice) → Failure set map bound memory run → Satisfying set map bound (assignmentOf memory run)
+  assignment-of memory run failure =
       let g = assignmentOf memory run in
       record {
         isAssignment = record { bits = bits-are memory run (failure .fails); isMemory = failure .isMemory };
@@ -104,15 +104,15 @@ module _ (set map : List ℕ) (bound : ℕ) (accepted : setAccepted set ≡ true
           (λ e. let r = bits-are (g .first) run fails k kind t e in stands-out S cs g bound run stands k kind t (r .0) (r .1 .0) (r .1 .1) ∙ e)
 
   pair-of : (g : Assignment) → Satisfying set map bound g → (run : List Choice) × ((g ≡ assignmentOf (g .first) run) × Failure set map bound (g .first) run)
-  pair-of g model =
-      let r = table-meant g .0 (model .satisfied) in
+  pair-of g satisfying =
+      let r = table-meant g .0 (satisfying .satisfied) in
       let run = r .1 .0 in
       let fails = fails-out S bound (g .first) run cs g (r .1 .1 .0) in (
         run,
         (
-          own-bits g (model .isAssignment) run fails (r .1 .1 .1),
+          own-bits g (satisfying .isAssignment) run fails (r .1 .1 .1),
           record {
-            isMemory = model .isAssignment .isMemory;
+            isMemory = satisfying .isAssignment .isMemory;
             agrees = agrees-out S cs g map (r .0);
             fails = fails;
           },
@@ -121,7 +121,7 @@ module _ (set map : List ℕ) (bound : ℕ) (accepted : setAccepted set ≡ true
 
   one-to-one : OneToOne set map bound
   one-to-one = record {
-    model = model-of;
+    assignment = assignment-of;
     pair = pair-of;
     apart = λ memory other run another f h e.
         (ap (λ (g : Assignment). g .first) e, bits-apart run another (λ k kind t. ap (λ (g : Assignment). g .choice k kind t) e));
@@ -130,7 +130,7 @@ module _ (set map : List ℕ) (bound : ℕ) (accepted : setAccepted set ≡ true
   exactly : SatisfiableExactly set map bound
   exactly = (
     λ w. let r = pair-of (w .0) (w .1) in (w .0 .first, (r .0, r .1 .1)),
-    λ w. (assignmentOf (w .0) (w .1 .0), model-of (w .0) (w .1 .0) (w .1 .1)),
+    λ w. (assignmentOf (w .0) (w .1 .0), assignment-of (w .0) (w .1 .0) (w .1 .1)),
   )
 
 pub tableMeansTheProgram : TableMeansTheProgram

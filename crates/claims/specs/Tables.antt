@@ -76,7 +76,7 @@ SatisfiableExactly set map bound =
 -- Satisfying assignments match such pairs of memory and run one to one.
 pub record OneToOne (set map : List ℕ) (bound : ℕ) : Type 0 where
   -- each pair has its assignment
-  pub model : (memory : ℕ → ℕ) (run : List Choice) → Failure set map bound memory run → Satisfying set map bound (assignmentOf memory run)
+  pub assignment : (memory : ℕ → ℕ) (run : List Choice) → Failure set map bound memory run → Satisfying set map bound (assignmentOf memory run)
   -- each satisfying assignment is that of a pair
   pub pair : (g : Assignment) → Satisfying set map bound g →
       (run : List Choice) × ((g ≡ assignmentOf (g .first) run) × Failure set map bound (g .first) run)

@@ -10,7 +10,7 @@ use lib.ListN.{length, getD, drop}
 use Rattle.base.specs.Below.{every}
 use Rattle.base.specs.Bytes.{over}
 use Rattle.base.proofs.Choice.{chosen, passed, and-true, and-left, or-left, or-right}
-use Rattle.records.specs.Maps.{cells, mapAccepted}
+use Rattle.records.specs.Maps.{cells, mapAccepted, runCells}
 use Rattle.records.specs.Sets.{setOf}
 use Rattle.table.specs.Formulas.{tableBytes}
 use Rattle.table.specs.Tables.{WellFormedTable}
@@ -29,6 +29,7 @@ use Rattle.decoder.specs.declared.CheckAnswer.the-variants.{Refused}
 use Rattle.decoder.specs.declared.DecodeAnswer.{DecodeAnswer}
 use Rattle.decoder.specs.declared.DecodeAnswer.the-variants.{Refused as Undecoded}
 use Rattle.decoder.proofs.Sized.{Sized, sized}
+use Rattle.decoding.specs.Decodings.{longestMap}
 
 -- a model that fits has all its bits
 pub model-bits : (threads bound : ℕ) (model : List ℕ) → modelFits threads bound model ≡ true → bits threads bound ≤ length model
@@ -36,7 +37,7 @@ unfolding modelFits
 model-bits threads bound model h =
     let a = leb (bits threads bound) (length model) in
     let b = every (bits threads bound) (λ i. ltb (getD model i 0) 2) in
-    leb-true (bits threads bound) (length model) (and-left a b (and-left (a && b) (mapAccepted 256 (listedCells threads bound model)) h))
+    leb-true (bits threads bound) (length model) (and-left a b (and-left (a && b) (mapAccepted runCells (listedCells threads bound model)) h))
 
 module _ (set map : List ℕ) (bound n : ℕ) (e : sizeAnswer set map bound ≡ Encoded n) where
   abbrev facts : Sized set map bound n
@@ -138,10 +139,10 @@ module _ (size bound room traceRoom mapRoom : ℕ) (h : tooShort size bound room
   outputs = ltb traceRoom (24 * bound)
 
   pub work-room : 32 * size ≤ room
-  work-room = ltb-false room (32 * size) (or-left work outputs (or-left (work || outputs) (ltb mapRoom 1024) h))
+  work-room = ltb-false room (32 * size) (or-left work outputs (or-left (work || outputs) (ltb mapRoom longestMap) h))
 
   pub trace-room : 24 * bound ≤ traceRoom
-  trace-room = ltb-false traceRoom (24 * bound) (or-right work outputs (or-left (work || outputs) (ltb mapRoom 1024) h))
+  trace-room = ltb-false traceRoom (24 * bound) (or-right work outputs (or-left (work || outputs) (ltb mapRoom longestMap) h))
 
-  pub map-room : 1024 ≤ mapRoom
-  map-room = ltb-false mapRoom 1024 (or-right (work || outputs) (ltb mapRoom 1024) h)
+  pub map-room : longestMap ≤ mapRoom
+  map-room = ltb-false mapRoom longestMap (or-right (work || outputs) (ltb mapRoom longestMap) h)

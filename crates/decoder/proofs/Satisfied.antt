@@ -8,7 +8,7 @@ use borrow.Author.Tests.{lt-ltb, le-ltb, le-leb}
 use lib.Dec.{ltb}
 use lib.ListN.{length}
 use Rattle.base.proofs.Choice.{chosen, passed, and-true}
-use Rattle.records.specs.Maps.{mapAccepted}
+use Rattle.records.specs.Maps.{mapAccepted, setCells}
 use Rattle.records.specs.Sets.{setOf, setAccepted}
 use Rattle.table.specs.Values.{Assignment, Value, asBit, isDemand, met, satisfies, valuesOf}
 use Rattle.table.specs.declared.Formula.{Formula}
@@ -47,7 +47,7 @@ judged-satisfies g table =
 
 -- the whole call, once nothing before 16 refuses
 pub check-satisfies : (set map : List ℕ) (bound : ℕ) (model : List ℕ) (room : ℕ) →
-    setAccepted set ≡ true → mapAccepted 128 map ≡ true → 0 < bound → bound ≤ 64 →
+    setAccepted set ≡ true → mapAccepted setCells map ≡ true → 0 < bound → bound ≤ 64 →
     modelFits (setOf set .threads) bound model ≡ true → 32 * length (tableOf set map bound) ≤ room →
     checkAnswer set map bound model room
     ≡ cond (satisfies (assigned (setOf set .threads) bound model) (tableOf set map bound)) Accepted

@@ -7,7 +7,7 @@ use borrow.Author.Tests.{ltb-true, leb-true}
 use lib.Dec.{eqb, ltb, leb}
 use lib.ListN.{length}
 use Rattle.base.proofs.Choice.{chosen, passed, and-left, and-right, clash}
-use Rattle.records.specs.Maps.{mapAccepted}
+use Rattle.records.specs.Maps.{mapAccepted, setCells}
 use Rattle.records.specs.Sets.{setAccepted}
 use Rattle.encoding.specs.Encodings.{tableOf}
 use Rattle.encoder.specs.Answers.{sizeAnswer}
@@ -39,14 +39,14 @@ placeOf (Unsized number place) = place
 
 module _ (set map : List ℕ) (bound : ℕ) where
   abbrev records : Bool
-  records = setAccepted set && mapAccepted 128 map
+  records = setAccepted set && mapAccepted setCells map
 
   abbrev steps : Bool
   steps = ltb 0 bound && leb bound 64
 
   pub record Sized (n : ℕ) : Type 0 where
     pub accepted : setAccepted set ≡ true
-    pub mapped : mapAccepted 128 map ≡ true
+    pub mapped : mapAccepted setCells map ≡ true
     pub someStep : 0 < bound
     pub fewSteps : bound ≤ 64
     pub count : n ≡ length (tableOf set map bound)
@@ -57,8 +57,8 @@ module _ (set map : List ℕ) (bound : ℕ) where
     where
       go : (a : Bool) → records ≡ a → (b : Bool) → steps ≡ b → Sized n
       go true p true q = record {
-        accepted = and-left (setAccepted set) (mapAccepted 128 map) p;
-        mapped = and-right (setAccepted set) (mapAccepted 128 map) p;
+        accepted = and-left (setAccepted set) (mapAccepted setCells map) p;
+        mapped = and-right (setAccepted set) (mapAccepted setCells map) p;
         someStep = ltb-true 0 bound (and-left (ltb 0 bound) (leb bound 64) q);
         fewSteps = leb-true bound 64 (and-right (ltb 0 bound) (leb bound 64) q);
         count = sym (ap size e) ∙ ap size (chosen _ _ p ∙ chosen _ _ q);

@@ -6,8 +6,8 @@ ghost use lib.Dec.{eqb, ltb};
 ghost use lib.ListN.{length, getD, take, replicate};
 ghost use Rattle.base.specs.Below.{every, least};
 ghost use Rattle.base.specs.Bytes.{over};
-ghost use Rattle.records.specs.Sets.{setOf, layoutOf};
-ghost use Rattle.machine.specs.Runs.{choiceOf, choices};
+ghost use Rattle.records.specs.Sets.{setOf, layoutOf, mostThreads};
+ghost use Rattle.machine.specs.Runs.{choiceOf, choices, mostSteps};
 ghost use Rattle.machine.specs.Traces.{stepLength};
 ghost use Rattle.encoding.specs.Encodings.{tableOf};
 ghost use Rattle.decoding.specs.Decodings.{choiceNumber, runOf, decodedTrace, decodedMap, longestMap};
@@ -18,6 +18,7 @@ ghost use Rattle.decoder.specs.Answers.{falseRecord, modelAnswer, checkA
 use decoding::MAP_BYTES;
 use decoding::MODEL_CELLS;
 use decoding::WORK;
+use machine::Choice;
 use machine::Machine;
 use records::Layout;
 use records::refusals::MODEL;
@@ -173,18 +174,18 @@ fn first_bit(model: &[u8], at: usize, n: usize) -> usize
 
 // The schedule byte of choice j: executes by thread, then flushes by thread.
 fn schedule_byte(threads: u8, j: u8) -> u8
-    requires { ⌜ (threads ≤ 4) × (j < threads + threads) ⌝ }
+    requires { ⌜ (threads ≤ mostThreads) × (j < threads + threads) ⌝ }
     ensures { λ r. ⌜ choiceOf r ≡ choiceNumber threads j ⌝ }
 {
     if j < threads {
         return j;
     }
-    128 + (j - threads)
+    Choice::FLUSH + (j - threads)
 }
 
 // Writes the schedule of a model's run, and gives its length.
 fn schedule_of(model: &[u8], threads: u8, bound: u8, schedule: &mut [u8]) -> usize
-    requires { ⌜ (threads ≤ 4) × (bound ≤ 64) × (length (now schedule) ≡ 64) ⌝ }
+    requires { ⌜ (threads ≤ mostThreads) × (bound ≤ mostSteps) × (length (now schedule) ≡ mostSteps) ⌝ }
     ensures { λ r. ⌜ (r ≤ bound) × (choices (take r (now (schedule .exit))) ≡ runOf threads bound (assigned threads bound (now (model .entry)))) ⌝ }
 {
     let row = 2 * (threads as usize);

@@ -13,7 +13,7 @@ use lib.Seq.{getD-append-add, getD-append-seam, getD-drop, drop-at}
 use borrow.Author.Tests.{ltb-true, lt-ltb, le-leb, eqb-true, eq-eqb}
 use Rattle.base.proofs.Below.{every-all}
 use Rattle.base.proofs.Choice.{and-true, and-left, and-right}
-use Rattle.records.specs.Maps.{mapAccepted, mapValue}
+use Rattle.records.specs.Maps.{mapAccepted, mapValue, runCells}
 use Rattle.records.specs.Sets.{Set}
 use Rattle.machine.specs.Machine.{State}
 use Rattle.machine.specs.Runs.{isRun}
@@ -157,12 +157,12 @@ module _ (threads bound : ℕ) (run : List Choice) (map : List ℕ) where
   unfolding modelOf
   model-bytes h = append-below 256 front map (λ i. let b = all-below threads (bitsOf run) bound i in omega arith) h
 
-  pub model-fits : mapAccepted 256 map ≡ true → modelFits threads bound (modelOf threads bound run map) ≡ true
+  pub model-fits : mapAccepted runCells map ≡ true → modelFits threads bound (modelOf threads bound run map) ≡ true
   unfolding modelFits modelOf
   model-fits ok = and-true
       (and-true (le-leb (bits threads bound) (length (front ++ map)) (omega (arith, length-append front map, length-all threads (bitsOf run) bound)))
       (every-all (λ i. ltb (getD (front ++ map) i 0) 2) (bits threads bound) small))
-      (ap (mapAccepted 256) (drop-at front map (bits threads bound) (length-all threads (bitsOf run) bound)) ∙ ok)
+      (ap (mapAccepted runCells) (drop-at front map (bits threads bound) (length-all threads (bitsOf run) bound)) ∙ ok)
     where
       small : (i : ℕ) → i < bits threads bound → ltb (getD (front ++ map) i 0) 2 ≡ true
       small i h = lt-ltb (getD (front ++ map) i 0) 2

@@ -2,8 +2,8 @@
 use Prim.Native.Nat.{ℕ}
 use mathlib.Core.List.{List}
 use Rattle.records.specs.Maps.{mapped, mapValue}
-use Rattle.decoding.specs.declared.Cell.{Cell}
+use Rattle.decoding.specs.declared.Known.{Known}
 
 -- the cell of a map at an address
-abbrev pub cellOf : List ℕ → ℕ → Cell
+abbrev pub cellOf : List ℕ → ℕ → Known
 cellOf map a = record { known = mapped map a; value = mapValue map a }

@@ -10,7 +10,7 @@ use lib.Dec.{ltb, leb}
 use lib.ListN.{take, replicate, length-replicate}
 use lib.Seq.{take-all}
 use Rattle.base.proofs.Choice.{chosen, passed, and-true, and-false, and-right-false}
-use Rattle.records.specs.Maps.{mapAccepted}
+use Rattle.records.specs.Maps.{mapAccepted, setCells}
 use Rattle.records.specs.Sets.{Set, setOf, setBy, setAccepted, layoutOf}
 use Rattle.records.specs.declared.Layout.{Layout}
 use Rattle.records.proofs.Sets.{well-formed}
@@ -75,12 +75,12 @@ ready-start {S} byClass byName = record {
 
 module _ (set map : List ℕ) (bound : ℕ) (rest : TableAnswer) where
   pub set-refused : setAccepted set ≡ false → checked set map bound rest ≡ Refused 9 0
-  set-refused e = passed _ _ (and-false (mapAccepted 128 map) e)
+  set-refused e = passed _ _ (and-false (mapAccepted setCells map) e)
 
-  pub map-refused : mapAccepted 128 map ≡ false → checked set map bound rest ≡ Refused 9 0
+  pub map-refused : mapAccepted setCells map ≡ false → checked set map bound rest ≡ Refused 9 0
   map-refused e = passed _ _ (and-right-false (setAccepted set) e)
 
-  module _ (ok : setAccepted set ≡ true) (mapped : mapAccepted 128 map ≡ true) where
+  module _ (ok : setAccepted set ≡ true) (mapped : mapAccepted setCells map ≡ true) where
     pub bound-zero : bound ≡ 0 → checked set map bound rest ≡ Refused 10 0
     bound-zero e = chosen _ _ (and-true ok mapped) ∙ passed _ _ (and-false (leb bound 64) (le-ltb 0 bound (omega arith)))
 

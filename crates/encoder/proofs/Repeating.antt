@@ -16,7 +16,7 @@ use Rattle.table.specs.Repeats.{movedBy, repeated, repeatedAt, lastIndex}
 use Rattle.table.proofs.Numbered.{upto-length}
 use Rattle.table.proofs.Renamed.{renamed, AllBounded}
 use Rattle.table.proofs.Repeated.{AllInRange, all-repeated-renamed, part-written}
-use Rattle.table.proofs.Sequences.{compiled-++, compiled-length, program-grows}
+use Rattle.table.proofs.Sequences.{upto-last, compiled-++, compiled-length, program-grows}
 use Rattle.table.proofs.Written.{written-++, written-length}
 use Rattle.encoding.specs.Encodings.{goalTree, firsts, encoded}
 use Rattle.encoding.specs.Slots.{Slot, same, code}
@@ -43,10 +43,6 @@ in-range S cs most small (x ∷ xs) o b =
     let w = r .boundedC in
     let z = r .constantless in
     (record { constantFits = omega arith; fitsA = omega arith; fitsB = omega arith; fitsC = omega arith }, in-range S cs most small xs (o .1) (b .1))
-
-upto-suc : {A : Type 0} (f : ℕ → List A) (k : ℕ) → upto f (suc k) ≡ upto f k ++ f k
-unfolding upto
-upto-suc f k = refl
 
 module _ (S : Set) (cs : List ℕ) (start : Slot → ℕ) (threads first stride : ℕ) (s : Started S cs start threads first stride) where
   -- the step's own number of records, as the laws of `encoding` have it
@@ -79,7 +75,7 @@ module _ (S : Set) (cs : List ℕ) (start : Slot → ℕ) (threads first stride 
 
   one-more : (k : ℕ) → all (suc k) ≡ all k ++ (bits k ++ others k)
   one-more k =
-      ap (compiled same start first) (upto-suc (step S cs) k)
+      ap (compiled same start first) (upto-last (step S cs) k)
       ∙ (compiled-++ same start first (upto (step S cs) k) (step S cs k)
       ∙ ap (λ x. all k ++ x) (step-records S cs k (indexAt S cs start first (s .low) k) (placesAt S cs start first (s .low) k)))
 

@@ -8,14 +8,15 @@ use lib.ListN.{length}
 use Rattle.base.specs.Bytes.{over}
 use Rattle.records.specs.Maps.{mapAccepted, setCells}
 use Rattle.records.specs.Sets.{setAccepted}
-use Rattle.table.specs.Formulas.{tableBytes}
+use Rattle.table.specs.Formulas.{tableBytes, formulaLength}
 use Rattle.encoding.specs.Encodings.{tableOf}
 use Rattle.encoder.specs.declared.TableAnswer.{TableAnswer}
 use Rattle.encoder.specs.declared.TableAnswer.the-variants.{Encoded, Refused}
+use Rattle.machine.specs.Runs.{mostSteps}
 
 -- a bound from 1 to 64
 abbrev pub boundFits : ℕ → Bool
-boundFits bound = ltb 0 bound && leb bound 64
+boundFits bound = ltb 0 bound && leb bound mostSteps
 
 -- 9, set or map records not as document 01 has them; 10, a bound not 1 to 64; else what comes after
 abbrev pub checked : (set map : List ℕ) (bound : ℕ) → TableAnswer → TableAnswer
@@ -30,7 +31,7 @@ sizeAnswer set map bound = checked set map bound (Encoded (length (tableOf set m
 unfoldable pub encodeAnswer : (set map : List ℕ) (bound room : ℕ) → TableAnswer
 encodeAnswer set map bound room =
     checked set map bound
-    (cond (ltb room (16 * length (tableOf set map bound))) (Refused 11 0) (Encoded (length (tableOf set map bound))))
+    (cond (ltb room (formulaLength * length (tableOf set map bound))) (Refused 11 0) (Encoded (length (tableOf set map bound))))
 
 -- the output afterwards: the table's bytes over its start, and as it was where the call is refused
 abbrev pub tableOutput : TableAnswer → (set map : List ℕ) (bound : ℕ) (out : List ℕ) → List ℕ

@@ -9,13 +9,14 @@ use Rattle.table.specs.Programs.{upto, nextAfter, placesAfter, compiled}
 use Rattle.encoding.specs.Slots.{Slot, same, code}
 use Rattle.encoding.specs.Steps.{only, word0, step}
 use Rattle.encoder_step.specs.Entries.{stepRoom}
+use Rattle.machine.specs.Runs.{mostSteps}
 
 -- what stands before the steps has at most so many records, and the steps that are written for themselves have at most so many
 abbrev pub earlyRoom : ℕ
 earlyRoom = 10000
 
 abbrev pub stepsRoom : ℕ
-stepsRoom = 64 * stepRoom
+stepsRoom = mostSteps * stepRoom
 
 -- what the steps of a set of so many threads are written over: slots that lie before record `first`; a step has `stride` records
 pub record Started (S : Set) (cs : List ℕ) (start : Slot → ℕ) (threads first stride : ℕ) : Type 0 where

@@ -6,8 +6,8 @@ ghost use Prim.Native.Nat.{ℕ, _+_, _-_, _*_, _≤_, _<_};
 ghost use lib.Dec.{ltb};
 ghost use lib.ListN.{length};
 ghost use Rattle.records.specs.Maps.{cells, mapAccepted, setCells};
-ghost use Rattle.records.specs.Sets.{Set, setBy, setAccepted, layoutOf};
-ghost use Rattle.table.specs.Formulas.{writtenAt};
+ghost use Rattle.records.specs.Sets.{Set, setBy, setAccepted, layoutOf, mostThreads};
+ghost use Rattle.table.specs.Formulas.{writtenAt, formulaLength};
 ghost use Rattle.table.specs.Repeats.{movedBy, lastIndex};
 ghost use Rattle.table.specs.Programs.{leafFormula, choiceBit, aims, upto, compiled, nextAfter};
 ghost use Rattle.encoding.specs.Encodings.{mapDemand, starting, goalTree, firsts as firstsOf, encoded as encodedOf};
@@ -20,6 +20,7 @@ ghost use Rattle.encoder.specs.Answers.{sizeAnswer, encodeAnswer, tableO
 ghost use Rattle.encoder_slots.specs.Pieces.{Writes, Ready};
 ghost use Rattle.encoder.specs.Repeating.{Started, Stepped, Ended, earlyRoom, stepsRoom};
 ghost use Rattle.encoder_size.specs.Sizes.{Limits};
+ghost use Rattle.machine.specs.Runs.{mostSteps};
 use encoder_slots::kinds::CODE;
 use encoder_slots::kinds::SHARED_MEMORY;
 use encoder_slots::kinds::WORD_ZERO;
@@ -71,7 +72,7 @@ fn steps(
     bound: u8,
     n: u32,
 ) -> u32
-    requires { ⌜ (Ready (setBy (now set) layout) (listed points) (now members) (now lists) (now slots) n) × (n ≤ earlyRoom) × (bound ≤ 64) ⌝ }
+    requires { ⌜ (Ready (setBy (now set) layout) (listed points) (now members) (now lists) (now slots) n) × (n ≤ earlyRoom) × (bound ≤ mostSteps) ⌝ }
     ensures { λ r. ⌜ (Writes (upto (stepOf (setBy (now (set .entry)) layout) (listed points)) bound)
         (now (out .entry)) (now (slots .entry)) n (now (out .exit)) (now (slots .exit)) r)
         × (r ≤ n + stepsRoom) ⌝ }
@@ -171,12 +172,12 @@ fn demand(map: &[u8], slots: &[u32], out: &mut [u8], j: u32, n: u32) -> u32
 
 // Writes the constraints of the map.
 fn demands(map: &[u8], slots: &[u32], out: &mut [u8], n: u32) -> u32
-    requires { ⌜ (n ≤ earlyRoom) × (cells (now map) ≤ 128) ⌝ }
+    requires { ⌜ (n ≤ earlyRoom) × (cells (now map) ≤ setCells) ⌝ }
     ensures { λ r. ⌜ (Writes (upto (mapDemand (now (map .entry))) (cells (now (map .entry))))
         (now (out .entry)) (now (slots .entry)) n (now (out .exit)) (now (slots .entry)) r)
         × (r ≤ n + 640) ⌝ }
 {
-    let count = map.len() / 4;
+    let count = map.len() / Layout::CELL;
     let mut next = n;
     let mut j: usize = 0;
     while j < count {
@@ -196,7 +197,7 @@ fn before_steps(
     slots: &mut [u32],
     out: &mut [u8],
 ) -> u32
-    requires { ⌜ cells (now map) ≤ 128 ⌝ }
+    requires { ⌜ cells (now map) ≤ setCells ⌝ }
     ensures { λ r. ⌜ ((lists : List ℕ) → Ready (setBy (now (set .entry)) layout) (listed points) (now (members .entry)) lists (now (slots .entry)) 4
         → Writes (starting (setBy (now (set .entry)) layout) (listed points) ++ upto (mapDemand (now (map .entry))) (cells (now (map .entry))))
         (now (out .entry)) (now (slots .entry)) 4 (now (out .exit)) (now (slots .exit)) r)
@@ -270,7 +271,7 @@ fn choice_bit(threads: u8, step: u8, j: u8) -> Formula
 
 // Writes the choice bits of a step.
 fn choice_bits(threads: u8, out: &mut [u8], step: u8, n: u32)
-    requires { ⌜ (n + (threads + threads) ≤ lastIndex) × (threads ≤ 4) ⌝ }
+    requires { ⌜ (n + (threads + threads) ≤ lastIndex) × (threads ≤ mostThreads) ⌝ }
     ensures { λ _. ⌜ now (out .exit) ≡ writtenAt (now (out .entry)) n
         (upto (λ j. leafFormula (cond (ltb j threads) (choiceBit step 0 j) (choiceBit step 1 (j - threads))) ∷ []) (threads + threads)) ⌝ }
 {
@@ -285,9 +286,9 @@ fn choice_bits(threads: u8, out: &mut [u8], step: u8, n: u32)
 
 // Writes step k by repeating the one before it: its choice bits, and the other records with their operands moved on.
 fn repeated_step(threads: u8, out: &mut [u8], k: u8, first: u32, stride: u32, n: u32)
-    requires { ⌜ (n + stride ≤ lastIndex) × (threads ≤ 4) × (threads + threads ≤ stride) ⌝ }
+    requires { ⌜ (n + stride ≤ lastIndex) × (threads ≤ mostThreads) × (threads + threads ≤ stride) ⌝ }
     ensures { λ _. ⌜ ((S : Set) (cs : List ℕ) (start : Slot → ℕ) (begun : List ℕ) → Started S cs start threads first stride → 2 ≤ k
-        → 16 * (n + stride) ≤ length begun → Stepped S cs start first k begun (now (out .entry)) n
+        → formulaLength * (n + stride) ≤ length begun → Stepped S cs start first k begun (now (out .entry)) n
         → Stepped S cs start first (k + 1) begun (now (out .exit)) (n + stride)) ⌝ }
 {
     choice_bits(threads, out, k, n);
@@ -297,9 +298,9 @@ fn repeated_step(threads: u8, out: &mut [u8], k: u8, first: u32, stride: u32, n:
 
 // Writes the steps after the second.
 fn repeated_steps(threads: u8, out: &mut [u8], bound: u8, first: u32, stride: u32, n: u32) -> u32
-    requires { ⌜ (n ≤ earlyRoom + stepsRoom) × (threads ≤ 4) × (threads + threads ≤ stride) × (stride ≤ stepsRoom) × (2 ≤ bound) × (bound ≤ 64) ⌝ }
+    requires { ⌜ (n ≤ earlyRoom + stepsRoom) × (threads ≤ mostThreads) × (threads + threads ≤ stride) × (stride ≤ stepsRoom) × (2 ≤ bound) × (bound ≤ mostSteps) ⌝ }
     ensures { λ r. ⌜ ((S : Set) (cs : List ℕ) (start : Slot → ℕ) (begun : List ℕ) → Started S cs start threads first stride
-        → 16 * (first + bound * stride) ≤ length begun → Stepped S cs start first 2 begun (now (out .entry)) n
+        → formulaLength * (first + bound * stride) ≤ length begun → Stepped S cs start first 2 begun (now (out .entry)) n
         → Stepped S cs start first bound begun (now (out .exit)) r)
         × (r ≤ n + stepsRoom * bound) ⌝ }
 {
@@ -343,7 +344,7 @@ fn few_steps(
     bound: u8,
     first: u32,
 ) -> Last
-    requires { ⌜ (Ready (setBy (now set) layout) (listed points) (now members) (now lists) (now slots) first) × (first ≤ earlyRoom) × (bound ≤ 64) ⌝ }
+    requires { ⌜ (Ready (setBy (now set) layout) (listed points) (now members) (now lists) (now slots) first) × (first ≤ earlyRoom) × (bound ≤ mostSteps) ⌝ }
     ensures { λ r. ⌜ (Ended (setBy (now (set .entry)) layout) (listed points) (placeOf (now (slots .entry))) first bound
         (now (out .entry)) (now (out .exit)) (r .next) (r .code) (r .zero))
         × (r .next ≤ earlyRoom + stepsRoom) ⌝ }
@@ -368,10 +369,10 @@ fn few_steps(
 
 // Writes the steps after the second, which repeat the one before.
 fn later_steps(threads: u8, out: &mut [u8], bound: u8, first: u32, second: Last) -> Last
-    requires { ⌜ (threads ≤ 4) × (2 ≤ bound) × (bound ≤ 64) × (first + 4 * threads ≤ second .next) × (second .next ≤ earlyRoom + stepsRoom)
+    requires { ⌜ (threads ≤ mostThreads) × (2 ≤ bound) × (bound ≤ mostSteps) × (first + 4 * threads ≤ second .next) × (second .next ≤ earlyRoom + stepsRoom)
         × (second .code ≤ 4294967296) × (second .zero ≤ 4294967296) ⌝ }
     ensures { λ r. ⌜ ((S : Set) (cs : List ℕ) (start : Slot → ℕ) (begun : List ℕ) → S .threads ≡ threads → ((s : Slot) → start s < first)
-        → 16 * nextAfter same first (upto (stepOf S cs) bound) ≤ length begun
+        → formulaLength * nextAfter same first (upto (stepOf S cs) bound) ≤ length begun
         → Ended S cs start first 2 begun (now (out .entry)) (second .next) (second .code) (second .zero)
         → Ended S cs start first bound begun (now (out .exit)) (r .next) (r .code) (r .zero))
         × (r .next ≤ lastIndex) ⌝ }
@@ -398,8 +399,8 @@ fn all_steps(
     bound: u8,
     first: u32,
 ) -> Last
-    requires { ⌜ (Ready (setBy (now set) layout) (listed points) (now members) (now lists) (now slots) first) × (first ≤ earlyRoom) × (bound ≤ 64)
-        × (16 * nextAfter same first (upto (stepOf (setBy (now set) layout) (listed points)) bound) ≤ length (now out)) ⌝ }
+    requires { ⌜ (Ready (setBy (now set) layout) (listed points) (now members) (now lists) (now slots) first) × (first ≤ earlyRoom) × (bound ≤ mostSteps)
+        × (formulaLength * nextAfter same first (upto (stepOf (setBy (now set) layout) (listed points)) bound) ≤ length (now out)) ⌝ }
     ensures { λ r. ⌜ (Ended (setBy (now (set .entry)) layout) (listed points) (placeOf (now (slots .entry))) first bound
         (now (out .entry)) (now (out .exit)) (r .next) (r .code) (r .zero))
         × (r .next ≤ lastIndex) ⌝ }
@@ -425,8 +426,8 @@ fn all_steps(
 
 // Writes a table that fits.
 fn write(set: &[u8], layout: Layout, points: Points, map: &[u8], bound: u8, table: &mut [u8])
-    requires { ⌜ (Limits layout) × (cells (now map) ≤ 128) × (bound ≤ 64)
-        × (16 * length (encodedOf (setBy (now set) layout) (listed points) (now map) bound) ≤ length (now table))
+    requires { ⌜ (Limits layout) × (cells (now map) ≤ setCells) × (bound ≤ mostSteps)
+        × (formulaLength * length (encodedOf (setBy (now set) layout) (listed points) (now map) bound) ≤ length (now table))
         × (Distinct (listed points)) ⌝ }
     ensures { λ _. ⌜ now (table .exit) ≡ writtenAt (now (table .entry)) 0 (encodedOf (setBy (now (set .entry)) layout) (listed points) (now (map .entry)) bound) ⌝ }
 {

@@ -11,6 +11,10 @@ use Rattle.encoding.specs.Slots.{Slot, slot, Term, full, adr, val, sharedMemory
 use Rattle.encoder_bases.specs.declared.written.Load.{Load}
 use Rattle.encoder_bases.specs.declared.written.WrittenTree.{WrittenTree}
 
+-- the most records of such a tree
+abbrev pub treeRoom : ℕ
+treeRoom = 4
+
 -- how many records, the index of the tree's own, and the records
 pub record SmallTree : Type 0 where
   pub count : ℕ
@@ -28,14 +32,14 @@ pub record Gives (given : SmallTree) (places : Slot → ℕ) (n : ℕ) (t : Term
   pub formulasAre : formulas given ≡ records places n t []
   pub rootIs : given .root ≡ root places n t
   pub countIs : n + given .count ≡ next n t
-  pub few : given .count ≤ 4
+  pub few : given .count ≤ treeRoom
 
 -- a tree's records are written to an output from index n on
 pub record Puts (put : WrittenTree) (places : Slot → ℕ) (n : ℕ) (t : Term) (out after : List ℕ) : Type 0 where
   pub written : after ≡ writtenAt out n (records places n t [])
   pub rootPut : put .root ≡ root places n t
   pub countPut : n + put .count ≡ next n t
-  pub fewPut : put .count ≤ 4
+  pub fewPut : put .count ≤ treeRoom
 
 -- where the values lie that every load of thread t uses
 abbrev pub loadOf : (Slot → ℕ) → ℕ → Load

@@ -6,7 +6,7 @@ ghost use lib.Dec.{eqb, ltb};
 ghost use Rattle.table.specs.Programs.{ref, leaf, binary, ternary, choiceBit, and2, if3};
 ghost use Rattle.encoding.specs.Slots.{Slot, slot, choice, mayExecute, none, full, bitZero, bitOne};
 ghost use Rattle.encoder_slots.specs.Places.{placeOf};
-ghost use Rattle.encoder_bases.specs.SmallTrees.{Puts};
+ghost use Rattle.encoder_bases.specs.SmallTrees.{Puts, treeRoom};
 use crate::written::WrittenTree;
 use crate::written::put_none;
 use crate::written::put_one;
@@ -28,7 +28,7 @@ const THREADS: u16 = Layout::THREADS as u16;
 
 // Choice bit j of a step: executes by thread, then flushes by thread.
 pub fn put_choice(out: &mut [u8], threads: u8, step: u8, j: u16, n: u32) -> WrittenTree
-    ensures { λ r. ⌜ ((at : Slot → ℕ) → Puts r at n (leaf (cond (ltb j threads) (choiceBit step 0 j) (choiceBit step 1 (j - threads)))) (now (out .entry)) (now (out .exit))) × (r .count ≤ 4) ⌝ }
+    ensures { λ r. ⌜ ((at : Slot → ℕ) → Puts r at n (leaf (cond (ltb j threads) (choiceBit step 0 j) (choiceBit step 1 (j - threads)))) (now (out .entry)) (now (out .exit))) × (r .count ≤ treeRoom) ⌝ }
 {
     let t = threads as u16;
     if j < t {
@@ -48,7 +48,7 @@ pub fn put_choice(out: &mut [u8], threads: u8, step: u8, j: u16, n: u32) -> Writ
 // No choice before choice j is taken.
 pub fn put_none_before(slots: &[u32], out: &mut [u8], j: u16, n: u32) -> WrittenTree
     ensures { λ r. ⌜ (Puts r (placeOf (now (slots .entry))) n
-        (cond (eqb j 0) (ref (slot bitOne 0 0)) (ternary (if3 1) (ref (slot choice 0 (j - 1))) (ref (slot bitZero 0 0)) (ref (slot none 0 (j - 1))))) (now (out .entry)) (now (out .exit))) × (r .count ≤ 4) ⌝ }
+        (cond (eqb j 0) (ref (slot bitOne 0 0)) (ternary (if3 1) (ref (slot choice 0 (j - 1))) (ref (slot bitZero 0 0)) (ref (slot none 0 (j - 1))))) (now (out .entry)) (now (out .exit))) × (r .count ≤ treeRoom) ⌝ }
 {
     if j == 0 {
         return put_none(slots, BIT_ONE, 0, 0, start::BIT1);
@@ -84,7 +84,7 @@ pub fn put_permitted_first(
     n: u32,
 ) -> WrittenTree
     ensures { λ r. ⌜ (Puts r (placeOf (now (slots .entry))) n
-        (binary and2 (ref (cond (ltb j threads) (slot mayExecute j 0) (slot full (j - threads) 0))) (ref (slot none 0 j))) (now (out .entry)) (now (out .exit))) × (r .count ≤ 4) ⌝ }
+        (binary and2 (ref (cond (ltb j threads) (slot mayExecute j 0) (slot full (j - threads) 0))) (ref (slot none 0 j))) (now (out .entry)) (now (out .exit))) × (r .count ≤ treeRoom) ⌝ }
 {
     let permitted = permit(slots, threads, j);
     let none = place(slots, NONE, 0, j, start::BIT0);

@@ -7,7 +7,7 @@ ghost use Rattle.records.specs.Sets.{Set};
 ghost use Rattle.encoding.specs.Slots.{kindAt, kindNumber, flag};
 ghost use Rattle.encoding.specs.Steps.{base as baseOf};
 ghost use Rattle.encoder_slots.specs.Places.{placeOf};
-ghost use Rattle.encoder_bases.specs.SmallTrees.{Puts};
+ghost use Rattle.encoder_bases.specs.SmallTrees.{Puts, treeRoom};
 ghost use Rattle.encoder_slots.specs.Places.{ofStatement};
 ghost use Rattle.table.specs.Repeats.{lastIndex};
 
@@ -57,7 +57,7 @@ pub fn put_base(
     n: u32,
 ) -> WrittenTree
     ensures { λ r. ⌜ ((S : Set) (cs : List ℕ) → S .threads ≡ threads → ofStatement kind ≡ false → (kind ≡ kindNumber flag → ⊥) → n ≤ lastIndex
-        → Puts r (placeOf (now (slots .entry))) n (baseOf S cs step (kindAt kind) a b) (now (out .entry)) (now (out .exit))) × (r .count ≤ 4) ⌝ }
+        → Puts r (placeOf (now (slots .entry))) n (baseOf S cs step (kindAt kind) a b) (now (out .entry)) (now (out .exit))) × (r .count ≤ treeRoom) ⌝ }
 {
     match kind {
         kinds::CHOICE => put_choice(out, threads, step, b, n),

@@ -3,7 +3,7 @@ ghost use Prim.Native.Nat.{_+_, _≤_};
 ghost use Rattle.table.specs.Programs.{ref, unary, binary, ternary, not1, and2, or2, read2, if3, write3};
 ghost use Rattle.encoding.specs.Slots.{slot, choice, opening, barred, waits, writeTo, writeValue, sharedMemory, full, bitZero};
 ghost use Rattle.encoder_slots.specs.Places.{placeOf};
-ghost use Rattle.encoder_bases.specs.SmallTrees.{Puts};
+ghost use Rattle.encoder_bases.specs.SmallTrees.{Puts, treeRoom};
 ghost use Rattle.table.specs.Repeats.{lastIndex};
 use crate::written::WrittenTree;
 use crate::written::formula;
@@ -32,7 +32,7 @@ use table::operations::WRITE;
 
 // Checkpoint p is not open.
 pub fn put_shut(slots: &[u32], out: &mut [u8], p: u16, n: u32) -> WrittenTree
-    ensures { λ r. ⌜ (Puts r (placeOf (now (slots .entry))) n (unary not1 (ref (slot opening 0 p))) (now (out .entry)) (now (out .exit))) × (r .count ≤ 4) ⌝ }
+    ensures { λ r. ⌜ (Puts r (placeOf (now (slots .entry))) n (unary not1 (ref (slot opening 0 p))) (now (out .entry)) (now (out .exit))) × (r .count ≤ treeRoom) ⌝ }
 {
     let opening = place(slots, OPENING, 0, p, start::BIT0);
     put_one(out, n, NOT, BIT, opening, 0, 0)
@@ -41,7 +41,7 @@ pub fn put_shut(slots: &[u32], out: &mut [u8], p: u16, n: u32) -> WrittenTree
 // Thread t may execute.
 pub fn put_may_execute(slots: &[u32], out: &mut [u8], t: u8, n: u32) -> WrittenTree
     ensures { λ r. ⌜ (n ≤ lastIndex → Puts r (placeOf (now (slots .entry))) n
-        (unary not1 (binary or2 (binary and2 (ref (slot full t 0)) (ref (slot barred t 0))) (ref (slot waits t 0)))) (now (out .entry)) (now (out .exit))) × (r .count ≤ 4) ⌝ }
+        (unary not1 (binary or2 (binary and2 (ref (slot full t 0)) (ref (slot barred t 0))) (ref (slot waits t 0)))) (now (out .entry)) (now (out .exit))) × (r .count ≤ treeRoom) ⌝ }
 {
     let k = n as u64;
     let next = k + 1;
@@ -57,7 +57,7 @@ pub fn put_may_execute(slots: &[u32], out: &mut [u8], t: u8, n: u32) -> WrittenT
 // Thread t's buffer is full unless it is flushed.
 pub fn put_full(slots: &[u32], out: &mut [u8], threads: u8, t: u8, n: u32) -> WrittenTree
     ensures { λ r. ⌜ (Puts r (placeOf (now (slots .entry))) n
-        (ternary (if3 1) (ref (slot choice 0 (threads + t))) (ref (slot bitZero 0 0)) (ref (slot full t 0))) (now (out .entry)) (now (out .exit))) × (r .count ≤ 4) ⌝ }
+        (ternary (if3 1) (ref (slot choice 0 (threads + t))) (ref (slot bitZero 0 0)) (ref (slot full t 0))) (now (out .entry)) (now (out .exit))) × (r .count ≤ treeRoom) ⌝ }
 {
     let j = (threads as u16) + (t as u16);
     let flushes = place(slots, CHOICE, 0, j, start::BIT0);
@@ -68,7 +68,7 @@ pub fn put_full(slots: &[u32], out: &mut [u8], threads: u8, t: u8, n: u32) -> Wr
 
 // The cell that is written, as it is.
 pub fn put_flush_value(slots: &[u32], out: &mut [u8], threads: u8, n: u32) -> WrittenTree
-    ensures { λ r. ⌜ (Puts r (placeOf (now (slots .entry))) n (binary read2 (ref (slot sharedMemory 0 0)) (ref (slot writeTo 0 threads))) (now (out .entry)) (now (out .exit))) × (r .count ≤ 4) ⌝ }
+    ensures { λ r. ⌜ (Puts r (placeOf (now (slots .entry))) n (binary read2 (ref (slot sharedMemory 0 0)) (ref (slot writeTo 0 threads))) (now (out .entry)) (now (out .exit))) × (r .count ≤ treeRoom) ⌝ }
 {
     let memory = place(slots, SHARED_MEMORY, 0, 0, start::MEMORY);
     let address = place(slots, WRITE_TO, 0, threads as u16, start::WORD0);
@@ -78,7 +78,7 @@ pub fn put_flush_value(slots: &[u32], out: &mut [u8], threads: u8, n: u32) -> Wr
 // The memory with the cell written.
 pub fn put_memory(slots: &[u32], out: &mut [u8], threads: u8, n: u32) -> WrittenTree
     ensures { λ r. ⌜ (Puts r (placeOf (now (slots .entry))) n
-        (ternary write3 (ref (slot sharedMemory 0 0)) (ref (slot writeTo 0 threads)) (ref (slot writeValue 0 threads))) (now (out .entry)) (now (out .exit))) × (r .count ≤ 4) ⌝ }
+        (ternary write3 (ref (slot sharedMemory 0 0)) (ref (slot writeTo 0 threads)) (ref (slot writeValue 0 threads))) (now (out .entry)) (now (out .exit))) × (r .count ≤ treeRoom) ⌝ }
 {
     let memory = place(slots, SHARED_MEMORY, 0, 0, start::MEMORY);
     let address = place(slots, WRITE_TO, 0, threads as u16, start::WORD0);

@@ -7,7 +7,7 @@ ghost use Rattle.table.specs.Programs.{Binary, binaryNumber, binarySort, ref, u
 ghost use Rattle.encoding.specs.Slots.{Kind, Slot, slot, kindNumber, startPlace, choice, active, address, loaded, swaps, result, test, flag, accu, accu as accuKind, bitZero, wordZero, argument};
 ghost use Rattle.encoding.specs.Steps.{base as baseOf};
 ghost use Rattle.encoder_slots.specs.Places.{placeOf};
-ghost use Rattle.encoder_bases.specs.SmallTrees.{Puts, loadOf};
+ghost use Rattle.encoder_bases.specs.SmallTrees.{Puts, loadOf, treeRoom};
 ghost use Rattle.table.specs.Repeats.{lastIndex};
 use crate::written::Load;
 use crate::written::WrittenTree;
@@ -64,7 +64,7 @@ pub fn put_active(
     n: u32,
 ) -> WrittenTree
     ensures { λ r. ⌜ (executes ≡ placeOf (now (slots .entry)) (slot choice 0 t) → n ≤ lastIndex
-        → Puts r (placeOf (now (slots .entry))) n (binary and2 (ref (slot flag t i)) (ref (slot choice 0 t))) (now (out .entry)) (now (out .exit))) × (r .count ≤ 4) ⌝ }
+        → Puts r (placeOf (now (slots .entry))) n (binary and2 (ref (slot flag t i)) (ref (slot choice 0 t))) (now (out .entry)) (now (out .exit))) × (r .count ≤ treeRoom) ⌝ }
 {
     let flag = flag_place(slots, t, i);
     put_one(out, n, AND, BIT, flag, executes, 0)
@@ -81,7 +81,7 @@ pub fn put_address(
     n: u32,
 ) -> WrittenTree
     ensures { λ r. ⌜ ((S : Set) (cs : List ℕ) (k : ℕ) → statement ≡ S .statement t i → load ≡ loadOf (placeOf (now (slots .entry))) t → n ≤ lastIndex
-        → Puts r (placeOf (now (slots .entry))) n (baseOf S cs k address t i) (now (out .entry)) (now (out .exit))) × (r .count ≤ 4) ⌝ }
+        → Puts r (placeOf (now (slots .entry))) n (baseOf S cs k address t i) (now (out .entry)) (now (out .exit))) × (r .count ≤ treeRoom) ⌝ }
 {
     if statement.mode == 1 {
         let argument = place(slots, ARGUMENT, t, i, start::WORD0);
@@ -102,7 +102,7 @@ pub fn put_loaded(
     n: u32,
 ) -> WrittenTree
     ensures { λ r. ⌜ ((S : Set) (cs : List ℕ) (k : ℕ) → statement ≡ S .statement t i → load ≡ loadOf (placeOf (now (slots .entry))) t → nothing ≡ placeOf (now (slots .entry)) (slot wordZero 0 0) → n ≤ lastIndex
-        → Puts r (placeOf (now (slots .entry))) n (baseOf S cs k loaded t i) (now (out .entry)) (now (out .exit))) × (r .count ≤ 4) ⌝ }
+        → Puts r (placeOf (now (slots .entry))) n (baseOf S cs k loaded t i) (now (out .entry)) (now (out .exit))) × (r .count ≤ treeRoom) ⌝ }
 {
     let number = statement.number;
     if (number == instructions::LOAD)
@@ -128,7 +128,7 @@ pub fn put_swaps(
     n: u32,
 ) -> WrittenTree
     ensures { λ r. ⌜ ((S : Set) (cs : List ℕ) (k : ℕ) → statement ≡ S .statement t i → nothing ≡ placeOf (now (slots .entry)) (slot bitZero 0 0) → n ≤ lastIndex
-        → Puts r (placeOf (now (slots .entry))) n (baseOf S cs k swaps t i) (now (out .entry)) (now (out .exit))) × (r .count ≤ 4) ⌝ }
+        → Puts r (placeOf (now (slots .entry))) n (baseOf S cs k swaps t i) (now (out .entry)) (now (out .exit))) × (r .count ≤ treeRoom) ⌝ }
 {
     let k = n as u64;
     let next = k + 1;
@@ -156,7 +156,7 @@ fn put_arithmetic(
     n: u32,
 ) -> WrittenTree
     ensures { λ r. ⌜ ((o : Binary) (k : Kind) → operation ≡ binaryNumber o → 2 ≡ binarySort o → kind ≡ kindNumber k → 2 ≡ startPlace (slot k t i) → n ≤ lastIndex
-        → Puts r (placeOf (now (slots .entry))) n (binary o (ref (slot accu t 0)) (ref (slot k t i))) (now (out .entry)) (now (out .exit))) × (r .count ≤ 4) ⌝ }
+        → Puts r (placeOf (now (slots .entry))) n (binary o (ref (slot accu t 0)) (ref (slot k t i))) (now (out .entry)) (now (out .exit))) × (r .count ≤ treeRoom) ⌝ }
 {
     let accu = place(slots, ACCU, t, 0, start::WORD0);
     let operand = place(slots, kind, t, i, start::WORD0);
@@ -173,7 +173,7 @@ pub fn put_result(
     n: u32,
 ) -> WrittenTree
     ensures { λ r. ⌜ ((S : Set) (cs : List ℕ) (k : ℕ) → statement ≡ S .statement t i → n ≤ lastIndex
-        → Puts r (placeOf (now (slots .entry))) n (baseOf S cs k result t i) (now (out .entry)) (now (out .exit))) × (r .count ≤ 4) ⌝ }
+        → Puts r (placeOf (now (slots .entry))) n (baseOf S cs k result t i) (now (out .entry)) (now (out .exit))) × (r .count ≤ treeRoom) ⌝ }
 {
     let number = statement.number;
     match number {
@@ -203,7 +203,7 @@ pub fn put_test(
     n: u32,
 ) -> WrittenTree
     ensures { λ r. ⌜ ((S : Set) (cs : List ℕ) (k t i : ℕ) (at : Slot → ℕ) → statement ≡ S .statement t i → accu ≡ at (slot accuKind t 0) → zero ≡ at (slot wordZero 0 0) → nothing ≡ at (slot bitZero 0 0) → n ≤ lastIndex
-        → Puts r at n (baseOf S cs k test t i) (now (out .entry)) (now (out .exit))) × (r .count ≤ 4) ⌝ }
+        → Puts r at n (baseOf S cs k test t i) (now (out .entry)) (now (out .exit))) × (r .count ≤ treeRoom) ⌝ }
 {
     let k = n as u64;
     let next = k + 1;
@@ -225,7 +225,7 @@ pub fn put_test(
 
 // The test of statement i of thread t, a conditional jump, does not hold.
 pub fn put_not_test(slots: &[u32], out: &mut [u8], t: u8, i: u16, n: u32) -> WrittenTree
-    ensures { λ r. ⌜ (n ≤ lastIndex → Puts r (placeOf (now (slots .entry))) n (unary not1 (ref (slot test t i))) (now (out .entry)) (now (out .exit))) × (r .count ≤ 4) ⌝ }
+    ensures { λ r. ⌜ (n ≤ lastIndex → Puts r (placeOf (now (slots .entry))) n (unary not1 (ref (slot test t i))) (now (out .entry)) (now (out .exit))) × (r .count ≤ treeRoom) ⌝ }
 {
     let holds = place(slots, TEST, t, i, start::BIT0);
     put_one(out, n, NOT, BIT, holds, 0, 0)
@@ -243,7 +243,7 @@ pub fn put_flag(
     n: u32,
 ) -> WrittenTree
     ensures { λ r. ⌜ ((S : Set) (cs : List ℕ) (k : ℕ) → statement ≡ S .statement t i → executes ≡ placeOf (now (slots .entry)) (slot choice 0 t) → zero ≡ placeOf (now (slots .entry)) (slot bitZero 0 0) → n ≤ lastIndex
-        → Puts r (placeOf (now (slots .entry))) n (baseOf S cs k flag t i) (now (out .entry)) (now (out .exit))) × (r .count ≤ 4) ⌝ }
+        → Puts r (placeOf (now (slots .entry))) n (baseOf S cs k flag t i) (now (out .entry)) (now (out .exit))) × (r .count ≤ treeRoom) ⌝ }
 {
     let number = statement.number;
     if (number == instructions::HALT) | (number == instructions::EXIT) {
@@ -255,7 +255,7 @@ pub fn put_flag(
 
 // The argument of a statement.
 pub fn put_argument(statement: Statement, out: &mut [u8], n: u32) -> WrittenTree
-    ensures { λ r. ⌜ ((S : Set) (at : Slot → ℕ) (cs : List ℕ) (k t i : ℕ) → statement ≡ S .statement t i → Puts r at n (baseOf S cs k argument t i) (now (out .entry)) (now (out .exit))) × (r .count ≤ 4) ⌝ }
+    ensures { λ r. ⌜ ((S : Set) (at : Slot → ℕ) (cs : List ℕ) (k t i : ℕ) → statement ≡ S .statement t i → Puts r at n (baseOf S cs k argument t i) (now (out .entry)) (now (out .exit))) × (r .count ≤ treeRoom) ⌝ }
 {
     put_constant(out, n, statement.argument)
 }

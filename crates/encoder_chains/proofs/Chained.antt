@@ -9,14 +9,15 @@ use Rattle.records.specs.Sets.{Set}
 use Rattle.encoding.specs.Slots.{kinds, kindAt, kindNumber, flushTo, flushValue, halts, onePermitted}
 use Rattle.encoding.specs.Steps.{links}
 use Rattle.encoder_chains.specs.Chained.{chained}
-use Rattle.encoder_slots.proofs.Matches.{Apart, one-of}
+use Rattle.base.proofs.Choice.{either}
+use Rattle.encoder_slots.proofs.Matches.{Apart}
 
 -- what holds of each of the four
 each : (P : ℕ → Type 0) → P (kindNumber onePermitted) → P (kindNumber flushTo) → P (kindNumber flushValue) → P (kindNumber halts) → (n : ℕ) → chained n ≡ true → P n
 each P one two three four n e =
-    one-of (eqb n (kindNumber onePermitted) || eqb n (kindNumber flushTo) || eqb n (kindNumber flushValue)) (eqb n (kindNumber halts)) e
-    (λ e. one-of (eqb n (kindNumber onePermitted) || eqb n (kindNumber flushTo)) (eqb n (kindNumber flushValue)) e
-    (λ e. one-of (eqb n (kindNumber onePermitted)) (eqb n (kindNumber flushTo)) e (λ h. subst P (sym (eqb-true n (kindNumber onePermitted) h)) one) (λ h. subst P (sym (eqb-true n (kindNumber flushTo) h)) two))
+    either (eqb n (kindNumber onePermitted) || eqb n (kindNumber flushTo) || eqb n (kindNumber flushValue)) (eqb n (kindNumber halts)) e
+    (λ e. either (eqb n (kindNumber onePermitted) || eqb n (kindNumber flushTo)) (eqb n (kindNumber flushValue)) e
+    (λ e. either (eqb n (kindNumber onePermitted)) (eqb n (kindNumber flushTo)) e (λ h. subst P (sym (eqb-true n (kindNumber onePermitted) h)) one) (λ h. subst P (sym (eqb-true n (kindNumber flushTo) h)) two))
     (λ h. subst P (sym (eqb-true n (kindNumber flushValue) h)) three))
     (λ h. subst P (sym (eqb-true n (kindNumber halts) h)) four)
 

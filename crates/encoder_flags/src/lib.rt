@@ -9,7 +9,7 @@ ghost use Rattle.encoding.specs.Slots.{Slot, slot, Term, choice, flag as flagKi
 ghost use Rattle.encoding.specs.Steps.{chain as chainOf, leads as leadsOf, entry as entryOf, line as lineOf};
 ghost use Rattle.encoder_slots.specs.Places.{placeOf, size};
 ghost use Rattle.encoder_slots.specs.Pieces.{Writes, WritesTree, Ready, lineRoom};
-ghost use Rattle.set_index.specs.StatementRecords.{StandsFrom, Stands};
+ghost use Rattle.records.specs.StatementRecords.{StandsFrom, Stands};
 ghost use Rattle.set_index.specs.ListTables.{JumpsOf, onward, nextJumps};
 ghost use Rattle.encoder_flags.specs.Named.{NamedFirst};
 ghost use Rattle.table.specs.Repeats.{lastIndex};

@@ -15,14 +15,15 @@ use Rattle.encoder_slots.specs.Pieces.{WritesTree}
 use Rattle.encoder_slots.proofs.Entries.{treeOf}
 use Rattle.encoder_bases.specs.declared.written.WrittenTree.{WrittenTree}
 use Rattle.encoder_bases.specs.SmallTrees.{Puts}
-use Rattle.encoder_slots.proofs.Matches.{Apart, one-of}
+use Rattle.base.proofs.Choice.{either}
+use Rattle.encoder_slots.proofs.Matches.{Apart}
 use Rattle.encoder_marks.specs.Marked.{marked}
 
 -- what holds of each of the three
 each : (P : ℕ → Type 0) → P (kindNumber held) → P (kindNumber raised) → P (kindNumber mark) → (n : ℕ) → marked n ≡ true → P n
 each P one two three n e =
-    one-of (eqb n (kindNumber held) || eqb n (kindNumber raised)) (eqb n (kindNumber mark)) e
-    (λ e. one-of (eqb n (kindNumber held)) (eqb n (kindNumber raised)) e (λ h. subst P (sym (eqb-true n (kindNumber held) h)) one) (λ h. subst P (sym (eqb-true n (kindNumber raised) h)) two))
+    either (eqb n (kindNumber held) || eqb n (kindNumber raised)) (eqb n (kindNumber mark)) e
+    (λ e. either (eqb n (kindNumber held)) (eqb n (kindNumber raised)) e (λ h. subst P (sym (eqb-true n (kindNumber held) h)) one) (λ h. subst P (sym (eqb-true n (kindNumber raised) h)) two))
     (λ h. subst P (sym (eqb-true n (kindNumber mark) h)) three)
 
 pub marked-known : (n : ℕ) → marked n ≡ true → n < kindCount

@@ -11,7 +11,7 @@ use lib.ListN.{length, getD, set, replicate, length-replicate, getD-replicate, L
 use lib.Seq.{getD-set-same, getD-set-other}
 use Rattle.base.specs.Below.{some, number}
 use Rattle.base.proofs.Below.{number-stays, number-ext}
-use Rattle.base.proofs.Choice.{or-no, or-right-true}
+use Rattle.base.proofs.Choice.{or-no, or-three, or-right-true}
 use Rattle.encoder_size.specs.Seen.{isSeen, Notes}
 use Rattle.encoder_size.proofs.Sums.{total-ext, total-number}
 
@@ -67,10 +67,6 @@ notes-ext n f g seen after e w = record {
   below = λ (p : ℕ) h. w .below p h ∙ ap (λ (b : Bool). isSeen seen p || b) (e p);
   past = w .past;
 }
-
-or-three : (a b c : Bool) → ((a || b) || c) ≡ (a || (b || c))
-or-three true b c = refl
-or-three false b c = refl
 
 -- two tests
 pub notes-then : (n : ℕ) (f g : ℕ → Bool) (seen between after : List ℕ) → Notes n f seen between → Notes n g between after →

@@ -8,7 +8,7 @@ use lib.ListN.{getD, length}
 use Rattle.base.specs.Below.{number}
 use Rattle.records.specs.Instructions.{CHECK}
 use Rattle.records.specs.Maps.{cells}
-use Rattle.records.specs.Sets.{Set}
+use Rattle.records.specs.Sets.{Set, mostThreads, mostStatements}
 use Rattle.records.specs.declared.Statement.{Statement}
 use Rattle.machine.specs.Machine.{contains}
 use Rattle.encoding.specs.Steps.{isConditional, isOneWay, rests}
@@ -16,8 +16,8 @@ use Rattle.records.specs.declared.Layout.{Layout}
 
 -- what the layout of an accepted set keeps to: at most 4 threads of 32 statements
 pub record Limits (layout : Layout) : Type 0 where
-  pub fourThreads : layout .threads ≤ 4
-  pub fewStatements : (t : ℕ) → getD (layout .counts) t 0 ≤ 32
+  pub fourThreads : layout .threads ≤ mostThreads
+  pub fewStatements : (t : ℕ) → getD (layout .counts) t 0 ≤ mostStatements
 
 -- the sum of f over the numbers below n
 unfoldable pub total : (ℕ → ℕ) → ℕ → ℕ

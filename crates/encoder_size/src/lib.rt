@@ -5,8 +5,8 @@ ghost use Prim.Native.Nat.{ℕ, _+_, _*_, _≤_};
 ghost use lib.Dec.{eqb};
 ghost use lib.ListN.{length, getD};
 ghost use Rattle.base.specs.Below.{number as numberBelow};
-ghost use Rattle.records.specs.Maps.{cells};
-ghost use Rattle.records.specs.Sets.{setBy};
+ghost use Rattle.records.specs.Maps.{cells, setCells};
+ghost use Rattle.records.specs.Sets.{setBy, mostCheckpoints, mostRecords};
 ghost use Rattle.machine.specs.Machine.{contains};
 ghost use Rattle.table.specs.Programs.{nextAfter};
 ghost use Rattle.encoding.specs.Encodings.{encoded as encodedOf};
@@ -15,6 +15,7 @@ ghost use Rattle.encoding.specs.Steps.{step as stepOf};
 ghost use Rattle.set_index.specs.Points.{listed};
 ghost use Rattle.encoder_size.specs.Seen.{isSeen, checksAt, Notes};
 ghost use Rattle.encoder_size.specs.Sizes.{Limits, total, ownRecords, within as withinOf, leadRecords, checkRecords, statementRecords, threadRecords};
+ghost use Rattle.machine.specs.Runs.{mostSteps};
 use records::Layout;
 use records::Statement;
 use records::instructions::CHECK;
@@ -95,8 +96,8 @@ fn leads(n: u8, target: u16, i: u16, count: u16) -> u64
 
 // How many of the checkpoints have number c; each of them is noted as seen.
 fn checks(points: Points, c: u16, seen: &mut [u8]) -> u64
-    requires { ⌜ length (now seen) ≡ 8 ⌝ }
-    ensures { λ r. ⌜ (r ≡ numberBelow (length (listed points)) (λ p. eqb c (getD (listed points) p 0))) × (r ≤ 8)
+    requires { ⌜ length (now seen) ≡ mostCheckpoints ⌝ }
+    ensures { λ r. ⌜ (r ≡ numberBelow (length (listed points)) (λ p. eqb c (getD (listed points) p 0))) × (r ≤ mostCheckpoints)
         × (length (now (seen .exit)) ≡ length (now (seen .entry)))
         × Notes (length (listed points)) (λ p. eqb c (getD (listed points) p 0)) (now (seen .entry)) (now (seen .exit)) ⌝ }
 {
@@ -119,8 +120,8 @@ fn checks(points: Points, c: u16, seen: &mut [u8]) -> u64
 
 // How many of them a statement is a CHECK of; each of them is noted as seen.
 fn raises(points: Points, n: u8, argument: u16, seen: &mut [u8]) -> u64
-    requires { ⌜ length (now seen) ≡ 8 ⌝ }
-    ensures { λ r. ⌜ (r ≡ checkRecords (listed points) n argument) × (r ≤ 8)
+    requires { ⌜ length (now seen) ≡ mostCheckpoints ⌝ }
+    ensures { λ r. ⌜ (r ≡ checkRecords (listed points) n argument) × (r ≤ mostCheckpoints)
         × (length (now (seen .exit)) ≡ length (now (seen .entry)))
         × Notes (length (listed points)) (checksAt (listed points) n argument) (now (seen .entry)) (now (seen .exit)) ⌝ }
 {
@@ -142,7 +143,7 @@ fn indirect(mode: u8) -> u64
 
 // The records of statement i in a thread of `count`; the checkpoints that it is a CHECK of are noted as seen.
 fn statement(points: Points, s: Statement, i: u16, count: u16, seen: &mut [u8]) -> u64
-    requires { ⌜ length (now seen) ≡ 8 ⌝ }
+    requires { ⌜ length (now seen) ≡ mostCheckpoints ⌝ }
     ensures { λ r. ⌜ (r ≡ statementRecords (listed points) count i s) × (r ≤ 24)
         × (length (now (seen .exit)) ≡ length (now (seen .entry)))
         × Notes (length (listed points)) (checksAt (listed points) (s .number) (s .argument)) (now (seen .entry)) (now (seen .exit)) ⌝ }
@@ -157,7 +158,7 @@ fn statement(points: Points, s: Statement, i: u16, count: u16, seen: &mut [u8]) 
 
 // The records of the statements of thread t, which has `count` of them; the checkpoints that it contains are noted as seen.
 fn statements(set: &[u8], layout: Layout, points: Points, t: u8, count: u16, seen: &mut [u8]) -> u64
-    requires { ⌜ (count ≡ getD (layout .counts) t 0) × (length (now seen) ≡ 8) ⌝ }
+    requires { ⌜ (count ≡ getD (layout .counts) t 0) × (length (now seen) ≡ mostCheckpoints) ⌝ }
     ensures { λ r. ⌜ (r ≡ total (λ i. statementRecords (listed points) count i (setBy (now (set .entry)) layout .statement t i)) count) × (r ≤ 24 * count)
         × (length (now (seen .exit)) ≡ length (now (seen .entry)))
         × Notes (length (listed points)) (λ p. contains (setBy (now (set .entry)) layout) t (getD (listed points) p 0)) (now (seen .entry)) (now (seen .exit)) ⌝ }
@@ -175,7 +176,7 @@ fn statements(set: &[u8], layout: Layout, points: Points, t: u8, count: u16, see
 
 // How many checkpoints are noted as seen.
 fn marks(seen: &[u8]) -> u64
-    ensures { λ r. ⌜ (r ≡ numberBelow 8 (isSeen (now (seen .entry)))) × (r ≤ 8) ⌝ }
+    ensures { λ r. ⌜ (r ≡ numberBelow mostCheckpoints (isSeen (now (seen .entry)))) × (r ≤ mostCheckpoints) ⌝ }
 {
     let mut found: u64 = 0;
     let mut p: usize = 0;
@@ -219,7 +220,7 @@ fn step_records(set: &[u8], layout: Layout, points: Points) -> u64
 // How many statements there are.
 fn all_statements(layout: Layout) -> u64
     ensures { λ r. ⌜ (r ≡ total (λ t. getD (layout .counts) t 0) (layout .threads))
-        × (Limits layout → r ≤ 128)
+        × (Limits layout → r ≤ mostRecords)
         × (r ≤ 16711425) ⌝ }
 {
     let threads = layout.threads;
@@ -235,9 +236,9 @@ fn all_statements(layout: Layout) -> u64
 // How many records the table of a set, a map and a bound has.
 pub fn table_records(set: &[u8], layout: Layout, points: Points, map: &[u8], bound: u8) -> u64
     ensures { λ r. ⌜ (r ≡ length (encodedOf (setBy (now (set .entry)) layout) (listed points) (now (map .entry)) bound))
-        × (Limits layout → cells (now (map .entry)) ≤ 128 → bound ≤ 64 → r ≤ 210248) ⌝ }
+        × (Limits layout → cells (now (map .entry)) ≤ setCells → bound ≤ mostSteps → r ≤ 210248) ⌝ }
 {
     let step = step_records(set, layout, points);
-    let before = FIRST + all_statements(layout) + CELL * ((map.len() / 4) as u64);
+    let before = FIRST + all_statements(layout) + CELL * ((map.len() / Layout::CELL) as u64);
     before + (bound as u64) * step + GOAL
 }

@@ -13,66 +13,12 @@ use Rattle.table.specs.Formulas.{writtenAt}
 use Rattle.table.specs.Programs.{ref, next, root, records, upto, Command, sets, needs, put, compiled, nextAfter, placesAfter}
 use Rattle.table.proofs.Sequences.{places-++}
 use Rattle.encoding.specs.Slots.{Kind, choice, active, opening, shut, barred, held, waits, mayExecute, none, permittedFirst, onePermitted, address, loaded, swaps, result, test, notTest, flushTo, writeTo, flushValue, writeValue, raised, exits, codes, sharedMemory, val, adr, mem, accu, full, halted, flag, mark, halts, ended, code, bitZero, bitOne, wordZero, wordOne, argument, Slot, slot, same, Term, kinds, kindAt, kindNumber}
+use Rattle.encoding.proofs.KindNumbers.{same-slot}
 use Rattle.encoding.specs.Steps.{only, word0, loads, setsAccu, isConditional, shape, chain, tree, kept, columns, rows, entry, line, block, blocks, ruled, step}
 use Rattle.encoder_slots.specs.Places.{placeOf}
 use Rattle.encoder_slots.specs.Pieces.{Writes}
 use Rattle.encoder_slots.specs.Idle.{Idle}
 use Rattle.encoder_slots.proofs.Starts.{place-replicate}
-
--- ---- slots are told apart by `same`
-
-kind-of : (kind : Kind) → kindAt (kindNumber kind) ≡ kind
-unfolding kinds
-kind-of choice = refl
-kind-of active = refl
-kind-of opening = refl
-kind-of shut = refl
-kind-of barred = refl
-kind-of held = refl
-kind-of waits = refl
-kind-of mayExecute = refl
-kind-of none = refl
-kind-of permittedFirst = refl
-kind-of onePermitted = refl
-kind-of address = refl
-kind-of loaded = refl
-kind-of swaps = refl
-kind-of result = refl
-kind-of test = refl
-kind-of notTest = refl
-kind-of flushTo = refl
-kind-of writeTo = refl
-kind-of flushValue = refl
-kind-of writeValue = refl
-kind-of raised = refl
-kind-of exits = refl
-kind-of codes = refl
-kind-of sharedMemory = refl
-kind-of val = refl
-kind-of adr = refl
-kind-of mem = refl
-kind-of accu = refl
-kind-of full = refl
-kind-of halted = refl
-kind-of flag = refl
-kind-of mark = refl
-kind-of halts = refl
-kind-of ended = refl
-kind-of code = refl
-kind-of bitZero = refl
-kind-of bitOne = refl
-kind-of wordZero = refl
-kind-of wordOne = refl
-kind-of argument = refl
-
-same-slot : (x s : Slot) → same x s ≡ true → x ≡ s
-same-slot (slot l c d) (slot kind a b) e =
-    let n = eqb (kindNumber l) (kindNumber kind) in
-    let rest = and-right n (eqb c a && eqb d b) e in
-    let p : l ≡ kind = sym (kind-of l) ∙ (ap kindAt (eqb-true (kindNumber l) (kindNumber kind) (and-left n (eqb c a && eqb d b) e)) ∙ kind-of kind) in
-    let q : c ≡ a = eqb-true c a (and-left (eqb c a) (eqb d b) rest) in
-    let r : d ≡ b = eqb-true d b (and-right (eqb c a) (eqb d b) rest) in
-    λ z. slot (p z) (q z) (r z)
 
 -- a slot set to where it lies: no place changes
 put-none : (places : Slot → ℕ) (s : Slot) (v : ℕ) → places s ≡ v → places ≡ put same places s v

@@ -1,7 +1,7 @@
--- Tests of numbers: one that no arm of a `match` names, and one of two that hold. Assumes nothing.
+-- A number that no arm of a `match` names. Assumes nothing.
 use Prim.Native.Nat.{ℕ}
 use mathlib.Core.Path.{_≡_, refl}
-use mathlib.Core.Bool.{Bool, true, false, _||_}
+use mathlib.Core.Bool.{Bool, false, _||_}
 use mathlib.Core.List.{List, [], _∷_}
 use lib.Dec.{eqb}
 use borrow.Author.Tests.{ne-eqb}
@@ -21,8 +21,3 @@ pub apart-among : (n : ℕ) (ks : List ℕ) → Apart n ks → among n ks ≡ fa
 unfolding among
 apart-among n [] r = refl
 apart-among n (k ∷ ks) r = or-false (apart-among n ks (r .0)) (ne-eqb n k (r .1))
-
--- what follows from either of two tests
-pub one-of : {X : Type 0} (a b : Bool) → (a || b) ≡ true → (a ≡ true → X) → (b ≡ true → X) → X
-one-of true b e f g = f refl
-one-of false b e f g = g e

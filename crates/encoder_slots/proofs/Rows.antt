@@ -9,7 +9,8 @@ use borrow.Author.Tests.{eqb-true}
 use Rattle.base.specs.Below.{every, number}
 use Rattle.base.proofs.Below.{every-at, number-below}
 use Rattle.base.proofs.Choice.{cond-both}
-use Rattle.encoder_slots.specs.Places.{wide, width, begin, indexOf}
+use Rattle.encoder_slots.specs.Places.{wide, width, begin, indexOf, size}
+use Rattle.encoding.specs.Slots.{kindCount}
 
 -- ---- how long rows are
 
@@ -47,7 +48,7 @@ begin-later kind (suc later) h = elim (ℕ-discrete kind later) [
 ]
 
 -- the rows of the 41 kinds are the whole array
-pub begin-most : (kind : ℕ) → kind < 41 → begin kind + 4 * width kind ≤ 2304
+pub begin-most : (kind : ℕ) → kind < kindCount → begin kind + 4 * width kind ≤ size
 unfolding begin
 begin-most kind h = begin-later kind 41 h
 
@@ -80,8 +81,8 @@ pub record Counted (kind a b rows index : ℕ) : Type 0 where
   pub column : b < width kind
   pub rowsSmall : rows < 128
   pub small : index < 32768
-  pub within : kind < 41 → index < 2304
-  pub past : 41 ≤ kind → 2304 ≤ index
+  pub within : kind < kindCount → index < size
+  pub past : kindCount ≤ kind → size ≤ index
 
 module _ (kind a b : ℕ) (h : kind < 256) (row : a < 4) (column : b < width kind) where
   at-rows : Counted kind a b (width kind * a + b) (begin kind + (width kind * a + b))

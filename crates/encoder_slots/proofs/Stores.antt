@@ -10,26 +10,10 @@ use lib.Seq.{getD-set-same, getD-set-other}
 use borrow.Author.Tests.{lt-ltb, le-ltb, ltb-true, eq-eqb, ne-eqb, eqb-true}
 use Rattle.base.proofs.Choice.{chosen, passed, and-true, and-false, and-right-false, and-left, and-right, clash}
 use Rattle.table.specs.Programs.{put}
-use Rattle.encoding.specs.Slots.{Kind, choice, kinds, kindAt, kindNumber, Slot, slot, same, startPlace}
+use Rattle.encoding.specs.Slots.{Kind, choice, kinds, kindAt, kindNumber, Slot, slot, same, startPlace, kindCount}
+use Rattle.encoding.proofs.KindNumbers.{kind-number}
 use Rattle.encoder_slots.specs.Places.{width, indexOf, fits, keptAt, placeFrom, placeOf}
 use Rattle.encoder_slots.proofs.Rows.{same-kind, same-row-number, same-column-number}
-
--- ---- kinds by number
-
--- the kinds' numbers count up from j
-abbrev inOrder : ℕ → List Kind → Bool
-inOrder j [] = true
-inOrder j (k ∷ ks) = eqb (kindNumber k) j && inOrder (suc j) ks
-
-number-at : (ks : List Kind) (j n : ℕ) → inOrder j ks ≡ true → n < length ks → kindNumber (getD ks n choice) ≡ j + n
-number-at [] j n e h = absurd (omega arith)
-number-at (k ∷ ks) j zero e h = eqb-true (kindNumber k) j (and-left _ _ e) ∙ omega arith
-number-at (k ∷ ks) j (suc n) e h = number-at ks (suc j) n (and-right (eqb (kindNumber k) j) _ e) (omega arith) ∙ omega arith
-
--- the number of the kind that a number names
-pub kind-number : (kind : ℕ) → kind < 41 → kindNumber (kindAt kind) ≡ kind
-unfolding kinds
-kind-number kind h = number-at kinds 0 kind refl h ∙ omega arith
 
 -- ---- what is read
 
@@ -93,7 +77,7 @@ module _ (slots : List ℕ) (kind a b index : ℕ) (row : a < 4) (column : b < w
       go false e = elsewhere l c d start (λ p q r. clash (and-true (eq-eqb l kind p) (and-true (eq-eqb c a q) (eq-eqb d b r))) e)
 
   -- a store is a change of the places at one slot
-  pub place-put : kind < 41 → placeOf stored ≡ put same (placeOf slots) (slot (kindAt kind) a b) index
+  pub place-put : kind < kindCount → placeOf stored ≡ put same (placeOf slots) (slot (kindAt kind) a b) index
   place-put h = fun-ext at
     where
       at : (s : Slot) → placeOf stored s ≡ put same (placeOf slots) (slot (kindAt kind) a b) index s

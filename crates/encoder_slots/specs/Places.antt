@@ -6,6 +6,7 @@ use mathlib.Core.List.{List}
 use lib.Dec.{eqb, ltb}
 use lib.ListN.{getD}
 use Rattle.encoding.specs.Slots.{Slot, slot, kindNumber, startPlace, active, address, loaded, swaps, result, test, notTest, flag, argument}
+use Rattle.records.specs.Sets.{mostThreads, mostStatements}
 
 -- the kinds by number that have one value for each statement, and no links
 abbrev pub ofStatement : ℕ → Bool
@@ -19,12 +20,12 @@ wide kind = ofStatement kind || eqb kind (kindNumber flag)
 
 -- the length of a kind's rows: the statements of a thread, else one more than there are choices
 abbrev pub width : ℕ → ℕ
-width kind = cond (wide kind) 32 9
+width kind = cond (wide kind) mostStatements (mostThreads + mostThreads + 1)
 
 -- where the rows of a kind begin: the kinds stand one after another
 unfoldable pub begin : ℕ → ℕ
 begin zero = 0
-begin (suc kind) = begin kind + 4 * width kind
+begin (suc kind) = begin kind + mostThreads * width kind
 
 -- the index of a kind's value for a and b
 abbrev pub indexOf : (kind a b : ℕ) → ℕ
@@ -32,7 +33,7 @@ indexOf kind a b = begin kind + (width kind * a + b)
 
 -- a and b have an index of their own
 abbrev pub fits : (kind a b : ℕ) → Bool
-fits kind a b = ltb a 4 && ltb b (width kind)
+fits kind a b = ltb a mostThreads && ltb b (width kind)
 
 -- the number kept for a value, 0 without one
 abbrev pub keptAt : List ℕ → (kind a b : ℕ) → ℕ

@@ -84,4 +84,4 @@ pub const ARGUMENT: u8 = 40;
 // The last kind, and how many there are.
 pub const LAST: u8 = ARGUMENT;
 
-pub const COUNT: u8 = 41;
+pub const COUNT: u8 = LAST + 1;

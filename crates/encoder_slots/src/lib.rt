@@ -6,30 +6,37 @@ ghost use Rattle.base.specs.Below.{number};
 ghost use Rattle.table.specs.Programs.{put};
 ghost use Rattle.encoding.specs.Slots.{slot, same, kindAt, kindCount};
 ghost use Rattle.encoder_slots.specs.Places.{wide, width, begin, keptAt, placeFrom, placeOf, size};
+ghost use Rattle.records.specs.Sets.{mostThreads};
 
 pub mod kinds;
 pub mod start;
 
 use records::Layout;
 
-// How many places there are.
-pub const SIZE: usize = 2304;
+// The most records of one value: a tree of four and a link for each statement of a thread.
+const ENTRY: u32 = 4 + (Layout::STATEMENTS as u32);
 
 // The most records of a kind's values for one thread, and for all threads.
-pub const LINE: u32 = 1152;
+pub const LINE: u32 = (Layout::STATEMENTS as u32) * ENTRY;
 
-pub const BLOCK: u32 = 4608;
+pub const BLOCK: u32 = (Layout::THREADS as u32) * LINE;
 
 // The most threads: each kind has so many rows.
 pub const THREADS: u8 = Layout::THREADS as u8;
 
 // The length of the rows of a kind that has no value for each statement: one more than there are choices.
-const NARROW: u16 = 9;
+const NARROW: u16 = 2 * (Layout::THREADS as u16) + 1;
 
 // The rows of such a kind, and what those of a kind of statements have more.
-const NARROW_ROWS: usize = 36;
+const NARROW_ROWS: usize = Layout::THREADS * (NARROW as usize);
 
-const WIDE_MORE: usize = 92;
+const WIDE_MORE: usize = Layout::THREADS * ((Layout::STATEMENTS - NARROW) as usize);
+
+// How many kinds have a value for each statement.
+const WIDE_KINDS: usize = 9;
+
+// How many places there are.
+pub const SIZE: usize = (kinds::COUNT as usize) * NARROW_ROWS + WIDE_KINDS * WIDE_MORE;
 
 // Whether a kind has a value for each statement.
 fn wide(kind: u8) -> bool
@@ -122,7 +129,7 @@ pub fn place(slots: &[u32], kind: u8, a: u8, b: u16, start: u64) -> u64
 // Sets the record of a kind's value for a and b, if there is a place for it.
 pub fn set_place(slots: &mut [u32], kind: u8, a: u8, b: u16, index: u64)
     ensures { λ _. ⌜ (length (now (slots .exit)) ≡ length (now (slots .entry)))
-        × (length (now (slots .entry)) ≡ size → kind < kindCount → a < 4 → b < width kind → index < 4294967295
+        × (length (now (slots .entry)) ≡ size → kind < kindCount → a < mostThreads → b < width kind → index < 4294967295
         → placeOf (now (slots .exit)) ≡ put same (placeOf (now (slots .entry))) (slot (kindAt kind) a b) index) ⌝ }
 {
     if a < THREADS {

@@ -9,7 +9,7 @@ use lib.ListN.{length, getD}
 use Rattle.records.specs.declared.Layout.{Layout}
 use Rattle.records.specs.Sets.{Set, setBy}
 use Rattle.table.specs.Programs.{upto}
-use Rattle.encoding.specs.Slots.{Slot, slot, kinds, kindAt, kindNumber, loaded, swaps, result, test, notTest}
+use Rattle.encoding.specs.Slots.{Slot, slot, kinds, kindAt, kindNumber, loaded, swaps, result, test, notTest, kindCount}
 use Rattle.encoding.specs.Steps.{entry, line}
 use Rattle.encoder_slots.specs.Places.{placeOf}
 use Rattle.encoder_slots.specs.Pieces.{Writes, Ready}
@@ -21,8 +21,8 @@ use Rattle.encoder_slots.proofs.Idle.{idle-entry, idle-written, no-load, no-swa
 use Rattle.encoder_slots.specs.Places.{ofStatement}
 use Rattle.set_index.specs.Members.{members, membersOf, Members, loadClass, casClass, accuClass, conditionalClass}
 use Rattle.set_index.proofs.Listed.{members-below, members-belong}
-use Rattle.set_index.specs.StatementRecords.{Stands}
-use Rattle.set_index.proofs.StatementRecords.{stands-by}
+use Rattle.records.specs.StatementRecords.{Stands}
+use Rattle.records.proofs.StatementRecords.{stands-by}
 use Rattle.encoder_statements.specs.StatementValues.{Listed}
 use Rattle.encoder_statements.proofs.Values.{Others, statement-columns}
 use Rattle.encoder_statements.proofs.Members.{belongs, members-none, members-in, members-out, member-at}
@@ -138,7 +138,7 @@ module _ (kind c : ℕ) (rests : Rests kind c) (set members : List ℕ) (first t
       reached-more S cs members lists k kind c t rests out slots n j i out1 slots1 n1 out2 slots2 n2 (is S listed) r (one S cs k count stands least small mine (r .ready .below) (r .others))
 
   -- those of all members are the line
-  pub some-line : kind < 41 → ofStatement kind ≡ true → (j : ℕ) → ((S : Set) → Members S members → j ≡ length (membersOf S c t)) → (out1 slots1 : List ℕ) (n1 : ℕ) →
+  pub some-line : kind < kindCount → ofStatement kind ≡ true → (j : ℕ) → ((S : Set) → Members S members → j ≡ length (membersOf S c t)) → (out1 slots1 : List ℕ) (n1 : ℕ) →
       Some kind c set members first t j out slots n out1 slots1 n1 → Listed (kindAt kind) set members first t out slots n out1 slots1 n1
   some-line h of j all out1 slots1 n1 some S cs lists k count stands ready =
       subst (λ (m : ℕ). Writes (upto (entry S cs k (kindAt kind) t) m) out slots n out1 slots1 n1) (statement-columns S cs t k kind h of)

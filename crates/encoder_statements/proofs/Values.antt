@@ -20,8 +20,8 @@ use Rattle.encoder_slots.proofs.Pieces.{below-after, writes-row, writes-more}
 use Rattle.encoder_slots.proofs.Entries.{treeOf, line-at, row-others}
 use Rattle.encoder_slots.specs.Places.{ofStatement}
 use Rattle.encoder_slots.proofs.Matches.{Apart}
-use Rattle.set_index.specs.StatementRecords.{Stands}
-use Rattle.set_index.proofs.StatementRecords.{stands-by}
+use Rattle.records.specs.StatementRecords.{Stands}
+use Rattle.records.proofs.StatementRecords.{stands-by}
 use Rattle.encoder_statements.specs.StatementValues.{Line}
 
 -- ---- kinds of statements

@@ -5,7 +5,7 @@ use Rattle.records.specs.Sets.{Set}
 use Rattle.encoding.specs.Slots.{Kind}
 use Rattle.encoding.specs.Steps.{line as lineOf}
 use Rattle.encoder_slots.specs.Pieces.{Writes, Ready}
-use Rattle.set_index.specs.StatementRecords.{Stands}
+use Rattle.records.specs.StatementRecords.{Stands}
 
 -- the values of a kind are written for these statements, in any set that has them, from output, slots and next index to those afterwards
 abbrev pub Line : Kind → (set : List ℕ) (first count t : ℕ) (out slots : List ℕ) (n : ℕ) (outAfter slotsAfter : List ℕ) (after : ℕ) → Type 0

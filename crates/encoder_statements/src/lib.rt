@@ -5,12 +5,12 @@ ghost use mathlib.Core.Bool.{true};
 ghost use mathlib.Core.List.{List};
 ghost use Prim.Native.Nat.{ℕ, _+_, _≤_, _<_};
 ghost use lib.ListN.{length};
-ghost use Rattle.records.specs.Sets.{Set, setBy};
+ghost use Rattle.records.specs.Sets.{Set, setBy, mostThreads, mostStatements};
 ghost use Rattle.encoding.specs.Slots.{Slot, kindAt, active, address, loaded, swaps, result, test, notTest, argument, kindCount};
 ghost use Rattle.encoding.specs.Steps.{base as baseOf, entry as entryOf, line as lineOf};
 ghost use Rattle.encoder_slots.specs.Places.{placeOf, size};
 ghost use Rattle.encoder_slots.specs.Pieces.{Writes, Ready, lineRoom};
-ghost use Rattle.encoder_bases.specs.SmallTrees.{Puts};
+ghost use Rattle.encoder_bases.specs.SmallTrees.{Puts, treeRoom};
 ghost use Rattle.encoder_slots.specs.Places.{ofStatement};
 ghost use Rattle.encoder_statements.specs.StatementValues.{Line, Listed};
 ghost use Rattle.table.specs.Repeats.{lastIndex};
@@ -28,13 +28,13 @@ const LIMIT: u32 = Formula::LAST - LINE;
 
 // Sets the place of a value whose tree was written from index n on; gives the next index.
 fn settle(slots: &mut [u32], kind: u8, t: u8, i: u16, n: u32, tree: WrittenTree) -> u32
-    requires { ⌜ (n + 4 ≤ lastIndex) × (tree .count ≤ 4) ⌝ }
-    ensures { λ r. ⌜ ((S : Set) (cs : List ℕ) (k : ℕ) (out after : List ℕ) → kind < kindCount → ofStatement kind ≡ true → t < 4 → i < 32
+    requires { ⌜ (n + treeRoom ≤ lastIndex) × (tree .count ≤ treeRoom) ⌝ }
+    ensures { λ r. ⌜ ((S : Set) (cs : List ℕ) (k : ℕ) (out after : List ℕ) → kind < kindCount → ofStatement kind ≡ true → t < mostThreads → i < mostStatements
         → length (now (slots .entry)) ≡ size → ((s : Slot) → placeOf (now (slots .entry)) s < n)
         → Puts tree (placeOf (now (slots .entry))) n (baseOf S cs k (kindAt kind) t i) out after
         → Writes (entryOf S cs k (kindAt kind) t i) out (now (slots .entry)) n after (now (slots .exit)) r)
         × (length (now (slots .exit)) ≡ length (now (slots .entry)))
-        × (r ≤ n + 4) ⌝ }
+        × (r ≤ n + treeRoom) ⌝ }
 {
     encoder_slots::set_place(slots, kind, t, i, tree.root);
     n + tree.count
@@ -50,7 +50,7 @@ fn actives(
     t: u8,
     n: u32,
 ) -> u32
-    requires { ⌜ (count ≤ 32) × (t < 4) × (n + lineRoom ≤ lastIndex) × (length (now slots) ≡ size) ⌝ }
+    requires { ⌜ (count ≤ mostStatements) × (t < mostThreads) × (n + lineRoom ≤ lastIndex) × (length (now slots) ≡ size) ⌝ }
     ensures { λ r. ⌜ (Line active (now (set .entry)) first count t (now (out .entry)) (now (slots .entry)) n (now (out .exit)) (now (slots .exit)) r) × (r ≤ n + lineRoom) ⌝ }
 {
     let executes = encoder_slots::place(slots, kinds::CHOICE, 0, t as u16, start::BIT0);
@@ -74,7 +74,7 @@ fn addresses(
     t: u8,
     n: u32,
 ) -> u32
-    requires { ⌜ (count ≤ 32) × (t < 4) × (n + lineRoom ≤ lastIndex) × (length (now slots) ≡ size) ⌝ }
+    requires { ⌜ (count ≤ mostStatements) × (t < mostThreads) × (n + lineRoom ≤ lastIndex) × (length (now slots) ≡ size) ⌝ }
     ensures { λ r. ⌜ (Line address (now (set .entry)) first count t (now (out .entry)) (now (slots .entry)) n (now (out .exit)) (now (slots .exit)) r) × (r ≤ n + lineRoom) ⌝ }
 {
     let load = encoder_bases::load_of(slots, t);
@@ -99,7 +99,7 @@ fn loads(
     t: u8,
     n: u32,
 ) -> u32
-    requires { ⌜ (t < 4) × (n + lineRoom ≤ lastIndex) × (length (now slots) ≡ size) ⌝ }
+    requires { ⌜ (t < mostThreads) × (n + lineRoom ≤ lastIndex) × (length (now slots) ≡ size) ⌝ }
     ensures { λ r. ⌜ (Listed loaded (now (set .entry)) (now (members .entry)) first t (now (out .entry)) (now (slots .entry)) n (now (out .exit)) (now (slots .exit)) r) × (r ≤ n + lineRoom) ⌝ }
 {
     let load = encoder_bases::load_of(slots, t);
@@ -127,7 +127,7 @@ fn swaps(
     t: u8,
     n: u32,
 ) -> u32
-    requires { ⌜ (t < 4) × (n + lineRoom ≤ lastIndex) × (length (now slots) ≡ size) ⌝ }
+    requires { ⌜ (t < mostThreads) × (n + lineRoom ≤ lastIndex) × (length (now slots) ≡ size) ⌝ }
     ensures { λ r. ⌜ (Listed swaps (now (set .entry)) (now (members .entry)) first t (now (out .entry)) (now (slots .entry)) n (now (out .exit)) (now (slots .exit)) r) × (r ≤ n + lineRoom) ⌝ }
 {
     let nothing = encoder_slots::place(slots, kinds::BIT_ZERO, 0, 0, start::BIT0);
@@ -154,7 +154,7 @@ fn results(
     t: u8,
     n: u32,
 ) -> u32
-    requires { ⌜ (t < 4) × (n + lineRoom ≤ lastIndex) × (length (now slots) ≡ size) ⌝ }
+    requires { ⌜ (t < mostThreads) × (n + lineRoom ≤ lastIndex) × (length (now slots) ≡ size) ⌝ }
     ensures { λ r. ⌜ (Listed result (now (set .entry)) (now (members .entry)) first t (now (out .entry)) (now (slots .entry)) n (now (out .exit)) (now (slots .exit)) r) × (r ≤ n + lineRoom) ⌝ }
 {
     let mut next = n;
@@ -180,7 +180,7 @@ fn tests(
     t: u8,
     n: u32,
 ) -> u32
-    requires { ⌜ (t < 4) × (n + lineRoom ≤ lastIndex) × (length (now slots) ≡ size) ⌝ }
+    requires { ⌜ (t < mostThreads) × (n + lineRoom ≤ lastIndex) × (length (now slots) ≡ size) ⌝ }
     ensures { λ r. ⌜ (Listed test (now (set .entry)) (now (members .entry)) first t (now (out .entry)) (now (slots .entry)) n (now (out .exit)) (now (slots .exit)) r) × (r ≤ n + lineRoom) ⌝ }
 {
     let accu = encoder_slots::place(slots, kinds::ACCU, t, 0, start::WORD0);
@@ -201,7 +201,7 @@ fn tests(
 
 // Whether the test of each statement does not hold; those that are no conditional jump have this bit already.
 fn not_tests(members: &[u8], slots: &mut [u32], out: &mut [u8], t: u8, n: u32) -> u32
-    requires { ⌜ (t < 4) × (n + lineRoom ≤ lastIndex) × (length (now slots) ≡ size) ⌝ }
+    requires { ⌜ (t < mostThreads) × (n + lineRoom ≤ lastIndex) × (length (now slots) ≡ size) ⌝ }
     ensures { λ r. ⌜ ((set : List ℕ) (first : ℕ) → Listed notTest set (now (members .entry)) first t (now (out .entry)) (now (slots .entry)) n (now (out .exit)) (now (slots .exit)) r) × (r ≤ n + lineRoom) ⌝ }
 {
     let mut next = n;
@@ -226,7 +226,7 @@ fn arguments(
     t: u8,
     n: u32,
 ) -> u32
-    requires { ⌜ (count ≤ 32) × (t < 4) × (n + lineRoom ≤ lastIndex) × (length (now slots) ≡ size) ⌝ }
+    requires { ⌜ (count ≤ mostStatements) × (t < mostThreads) × (n + lineRoom ≤ lastIndex) × (length (now slots) ≡ size) ⌝ }
     ensures { λ r. ⌜ (Line argument (now (set .entry)) first count t (now (out .entry)) (now (slots .entry)) n (now (out .exit)) (now (slots .exit)) r) × (r ≤ n + lineRoom) ⌝ }
 {
     let mut next = n;
@@ -252,7 +252,7 @@ pub fn statement_line(
     t: u8,
     n: u32,
 ) -> u32
-    ensures { λ r. ⌜ ((cs lists : List ℕ) (k : ℕ) → ofStatement kind ≡ true → t < 4 → n + lineRoom ≤ lastIndex
+    ensures { λ r. ⌜ ((cs lists : List ℕ) (k : ℕ) → ofStatement kind ≡ true → t < mostThreads → n + lineRoom ≤ lastIndex
         → Ready (setBy (now (set .entry)) layout) cs (now (members .entry)) lists (now (slots .entry)) n
         → Writes (lineOf (setBy (now (set .entry)) layout) cs k (kindAt kind) t) (now (out .entry)) (now (slots .entry)) n (now (out .exit)) (now (slots .exit)) r)
         × (r ≤ n + lineRoom) ⌝ }

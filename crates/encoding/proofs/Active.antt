@@ -7,7 +7,7 @@ use native.Mathlib.Omega.{arith}
 use native.Mathlib.Decide.{ℕ-discrete, decLt}
 use borrow.Author.Tests.{lt-ltb, le-ltb, ltb-true, eqb-true, eqb-false, eq-eqb, ne-eqb}
 use lib.Dec.{eqb, ltb}
-use Rattle.base.proofs.Choice.{and-true, and-left, and-right-false, and-yes, passed}
+use Rattle.base.proofs.Choice.{eqb-swap, and-true, and-left, and-right-false, and-yes, passed}
 use Rattle.records.specs.Sets.{Set, nothing}
 use Rattle.records.specs.declared.Statement.{Statement}
 use Rattle.machine.specs.Machine.{State, current, executed, flushed, permitted, actor, acted, threadsAfter}
@@ -20,13 +20,6 @@ use Rattle.encoding.specs.Slots.{active, Slot, slot}
 use Rattle.encoding.specs.Steps.{skip, ifThen, ifActive}
 use Rattle.encoding.proofs.Blocks.{linkValue, linksValue, quiet-if, quiet-cond, links-at}
 use Rattle.encoding.proofs.Stages.{Given, stage}
-
-pub eqb-swap : (a b : ℕ) → eqb a b ≡ eqb b a
-eqb-swap a b = go (eqb a b) refl
-  where
-    go : (t : Bool) → eqb a b ≡ t → eqb a b ≡ eqb b a
-    go true e = e ∙ sym (eq-eqb b a (sym (eqb-true a b e)))
-    go false e = e ∙ sym (ne-eqb b a (λ (q : b ≡ a). eqb-false a b e (sym q)))
 
 -- ---- choices
 

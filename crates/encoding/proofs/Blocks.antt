@@ -9,7 +9,7 @@ use borrow.Author.Tests.{lt-ltb, le-ltb, ltb-true, eqb-true, not-true, eq-eqb, n
 use lib.Dec.{eqb, ltb}
 use Rattle.base.proofs.Choice.{chosen, passed, and-true, and-left, and-right, and-false, and-right-false, clash}
 use Rattle.records.specs.Sets.{Set}
-use Rattle.table.proofs.Sequences.{values-++}
+use Rattle.table.proofs.Sequences.{values-++, upto-last, upto-none}
 use Rattle.table.specs.Programs.{ref, leaf, unary, binary, ternary, unaryValue, binaryValue, ternaryValue, treeValue, Command, sets, upto, valuesAfter}
 use Rattle.table.specs.Values.{Assignment, Value, bit, asBit}
 use Rattle.encoding.specs.Slots.{Kind, Slot, slot, same, Term, kindNumber, kindAt}
@@ -149,26 +149,12 @@ module _ (g : Assignment) where
   unfolding valuesAfter
   values-none slots = refl
 
--- what comes one after the other, from the back and from the front
-pub upto-snoc : {A : Type 0} (f : ℕ → List A) (n : ℕ) → upto f (suc n) ≡ upto f n ++ f n
-unfolding upto
-upto-snoc f n = refl
-
-pub upto-none : {A : Type 0} (f : ℕ → List A) → upto f 0 ≡ []
-unfolding upto
-upto-none f = refl
-
-pub upto-front : {A : Type 0} (f : ℕ → List A) (n : ℕ) → upto f (suc n) ≡ f 0 ++ upto (λ i. f (suc i)) n
-unfolding upto
-upto-front f zero = sym (append-nil (f 0))
-upto-front f (suc n) = ap (λ l. l ++ f (suc n)) (upto-front f n) ∙ append-assoc (f 0) (upto (λ i. f (suc i)) n) (f (suc n))
-
 -- ---- a kind's block
 
 module _ (g : Assignment) where
   -- the values after one more
   pub values-snoc : (slots : Slot → Value) (f : ℕ → List (Command Slot)) (n : ℕ) → valuesAfter same g slots (upto f (suc n)) ≡ valuesAfter same g (valuesAfter same g slots (upto f n)) (f n)
-  values-snoc slots f n = ap (valuesAfter same g slots) (upto-snoc f n) ∙ values-++ same g slots (upto f n) (f n)
+  values-snoc slots f n = ap (valuesAfter same g slots) (upto-last f n) ∙ values-++ same g slots (upto f n) (f n)
 
   pub values-zero : (slots : Slot → Value) (f : ℕ → List (Command Slot)) → valuesAfter same g slots (upto f 0) ≡ slots
   values-zero slots f = ap (valuesAfter same g slots) (upto-none f) ∙ values-none g slots

@@ -9,6 +9,7 @@ pub mod Demands
 pub mod Distinct
 pub mod Ends
 pub mod Failing
+pub mod KindNumbers
 pub mod Leads
 pub mod Leaves
 pub mod Listed

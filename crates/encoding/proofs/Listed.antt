@@ -11,7 +11,7 @@ use lib.ListN.{length, getD, length-append}
 use borrow.Author.Tests.{eqb-true, lt-ltb, eq-eqb, ne-eqb}
 use Rattle.base.specs.Below.{some, number}
 use Rattle.base.proofs.Below.{some-at, number-grows}
-use Rattle.base.proofs.Choice.{chosen, or-no, clash}
+use Rattle.base.proofs.Choice.{chosen, or-no, or-three, eqb-swap, clash}
 use Rattle.records.specs.Instructions.{CHECK}
 use Rattle.records.specs.Sets.{Set, records, statementAt, argumentAt, countOf, startOf, setOf, threadsOf, checksAt, opensAt, setAccepted}
 use Rattle.records.specs.declared.Statement.{Statement}
@@ -21,12 +21,6 @@ use Rattle.encoding.specs.Checkpoints.{member, noted, notedIn, notedBelo
 use Rattle.encoding.proofs.Shown.{Complete}
 
 -- ---- which numbers are listed
-
-pub eqb-turned : (a b : ℕ) → eqb a b ≡ eqb b a
-eqb-turned a b = elim (ℕ-discrete a b) [
-  | yes e ↦ eq-eqb a b e ∙ sym (eq-eqb b a (sym e))
-  | no f ↦ ne-eqb a b f ∙ sym (ne-eqb b a (λ e. f (sym e)))
-]
 
 member-++ : (c : ℕ) (xs ys : List ℕ) → member c (xs ++ ys) ≡ (member c xs || member c ys)
 unfolding member
@@ -39,7 +33,7 @@ member-++ c (x ∷ xs) ys = go (eqb c x) (member-++ c xs ys)
 
 member-one : (c d : ℕ) → member c (d ∷ []) ≡ eqb d c
 unfolding member
-member-one c d = or-no (eqb c d) ∙ eqb-turned c d
+member-one c d = or-no (eqb c d) ∙ eqb-swap c d
 
 member-noted : (c : ℕ) (seen : List ℕ) (i : Statement) → member c (noted seen i) ≡ (member c seen || (eqb (i .number) CHECK && eqb (i .argument) c))
 unfolding noted
@@ -54,17 +48,13 @@ member-noted c seen i = go (eqb (i .number) CHECK) (member (i .argument) seen) r
     go true false e = member-++ c seen (i .argument ∷ []) ∙ ap (λ (b : Bool). member c seen || b) (member-one c (i .argument))
     go false m e = sym (or-no (member c seen))
 
-or-turn : (a b c : Bool) → ((a || b) || c) ≡ (a || (b || c))
-or-turn true b c = refl
-or-turn false b c = refl
-
 member-in : (S : Set) (t c : ℕ) (seen : List ℕ) (n : ℕ) → member c (notedIn S t seen n) ≡ (member c seen || some n (isCheck S t c))
 unfolding notedIn some
 member-in S t c seen zero = sym (or-no (member c seen))
 member-in S t c seen (suc n) =
     member-noted c (notedIn S t seen n) (S .statement t n)
     ∙ ap (λ (b : Bool). b || isCheck S t c n) (member-in S t c seen n)
-    ∙ or-turn (member c seen) (some n (isCheck S t c)) (isCheck S t c n)
+    ∙ or-three (member c seen) (some n (isCheck S t c)) (isCheck S t c n)
 
 -- a number is listed where one of the first n threads contains it
 pub member-below : (S : Set) (c n : ℕ) → member c (notedBelow S n) ≡ some n (λ t. contains S t c)

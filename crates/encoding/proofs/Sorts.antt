@@ -17,67 +17,18 @@ use Rattle.table.specs.Formulas.{noSort, bitSort, wordSort, memorySort}
 use Rattle.table.specs.Values.{changed}
 use Rattle.table.specs.Programs.{choiceBit, sets}
 use Rattle.table.proofs.Sorted.{LeafFits, Fits, ProgramFits, fits-upto}
-use Rattle.encoding.specs.Slots.{Kind, choice, active, opening, shut, barred, held, waits, mayExecute, none, permittedFirst, onePermitted, address, loaded, swaps, result, test, notTest, flushTo, writeTo, flushValue, writeValue, raised, exits, codes, sharedMemory, val, adr, mem, accu, full, halted, flag, mark, halts, ended, code, bitZero, bitOne, wordZero, wordOne, argument, Slot, slot, same, Term, kinds, kindAt, kindNumber, kindSort, startPlace}
+use Rattle.encoding.specs.Slots.{Kind, choice, active, opening, shut, barred, held, waits, mayExecute, none, permittedFirst, onePermitted, address, loaded, swaps, result, test, notTest, flushTo, writeTo, flushValue, writeValue, raised, exits, codes, sharedMemory, val, adr, mem, accu, full, halted, flag, mark, halts, ended, code, bitZero, bitOne, wordZero, wordOne, argument, Slot, slot, same, Term, kinds, kindAt, kindNumber, kindSort, startPlace, kindCount}
+use Rattle.encoding.proofs.KindNumbers.{kind-at}
 use Rattle.encoding.specs.Steps.{Link, skip, ifThen, andWith, orWith, linked, chain, only, loads, setsAccu, isConditional, isOneWay, isPlain, rests, shape, base, loadTree, resultTree, testTree, leads, link, links, tree, ifActive, kept, entry, line, block, rows, columns, ruled}
-
--- ---- kinds by number
 
 -- a slot's sort is that of its kind
 abbrev pub slotSort : Slot → ℕ
 slotSort (slot k a b) = kindSort k
 
-kind-known : (k : Kind) → kindAt (kindNumber k) ≡ k
-unfolding kinds
-kind-known choice = refl
-kind-known active = refl
-kind-known opening = refl
-kind-known shut = refl
-kind-known barred = refl
-kind-known held = refl
-kind-known waits = refl
-kind-known mayExecute = refl
-kind-known none = refl
-kind-known permittedFirst = refl
-kind-known onePermitted = refl
-kind-known address = refl
-kind-known loaded = refl
-kind-known swaps = refl
-kind-known result = refl
-kind-known test = refl
-kind-known notTest = refl
-kind-known flushTo = refl
-kind-known writeTo = refl
-kind-known flushValue = refl
-kind-known writeValue = refl
-kind-known raised = refl
-kind-known exits = refl
-kind-known codes = refl
-kind-known sharedMemory = refl
-kind-known val = refl
-kind-known adr = refl
-kind-known mem = refl
-kind-known accu = refl
-kind-known full = refl
-kind-known halted = refl
-kind-known flag = refl
-kind-known mark = refl
-kind-known halts = refl
-kind-known ended = refl
-kind-known code = refl
-kind-known bitZero = refl
-kind-known bitOne = refl
-kind-known wordZero = refl
-kind-known wordOne = refl
-kind-known argument = refl
-
-pub kind-number : (n : ℕ) → n < 41 → kindNumber (kindAt n) ≡ n
-unfolding every kinds
-kind-number n h = eqb-true (kindNumber (kindAt n)) n (every-at (λ i. eqb (kindNumber (kindAt i)) i) 41 n refl h)
-
 -- slots that are the same have one sort
 pub sort-alike : (x s : Slot) → same x s ≡ true → slotSort x ≡ slotSort s
 sort-alike (slot k a b) (slot l c d) e =
-    ap kindSort (sym (kind-known k) ∙ (ap kindAt (eqb-true (kindNumber k) (kindNumber l) (and-left (eqb (kindNumber k) (kindNumber l)) _ e)) ∙ kind-known l))
+    ap kindSort (sym (kind-at k) ∙ (ap kindAt (eqb-true (kindNumber k) (kindNumber l) (and-left (eqb (kindNumber k) (kindNumber l)) _ e)) ∙ kind-at l))
 
 -- ---- at the start
 
@@ -260,7 +211,7 @@ module _ (S : Set) (cs : List ℕ) (k : ℕ) where
         Bit x = Fits slotSort bits x bitSort
 
     -- choice bits are a kind of their own
-    base-fits : (kind : Kind) (a b : ℕ) → (kindNumber kind ≡ 0 → bits ≡ true) → Fits slotSort bits (base S cs k kind a b) (kindSort kind)
+    base-fits : (kind : Kind) (a b : ℕ) → (kindNumber kind ≡ kindNumber choice → bits ≡ true) → Fits slotSort bits (base S cs k kind a b) (kindSort kind)
     base-fits choice a j h =
         cond-both (λ x. LeafFits bits x bitSort) (ltb j (S .threads)) {x = choiceBit k 0 j} {y = choiceBit k 1 (j - S .threads)}
         (h refl, (omega arith, refl)) (h refl, (omega arith, refl))
@@ -305,13 +256,13 @@ module _ (S : Set) (cs : List ℕ) (k : ℕ) where
     base-fits wordOne a b h = (omega arith, refl)
     base-fits argument t i h = (words t i, refl)
 
-    pub tree-fits : (kind : Kind) (a b : ℕ) → (kindNumber kind ≡ 0 → bits ≡ true) → Fits slotSort bits (tree S cs k kind a b) (kindSort kind)
+    pub tree-fits : (kind : Kind) (a b : ℕ) → (kindNumber kind ≡ kindNumber choice → bits ≡ true) → Fits slotSort bits (tree S cs k kind a b) (kindSort kind)
     tree-fits kind a b h =
         chain-fits bits (link S cs k kind a b) (links S cs k kind a b) (base S cs k kind a b) (kindSort kind) (link-fits kind a b) (base-fits kind a b h)
 
     -- ---- blocks
 
-    pub block-fits : (kind : Kind) → (kindNumber kind ≡ 0 → bits ≡ true) → ProgramFits slotSort bits (block S cs k kind)
+    pub block-fits : (kind : Kind) → (kindNumber kind ≡ kindNumber choice → bits ≡ true) → ProgramFits slotSort bits (block S cs k kind)
     block-fits kind h =
         fits-upto slotSort bits (line S cs k kind) (rows S cs k (shape kind))
         (λ a l. fits-upto slotSort bits (entry S cs k kind a) (columns S cs k (shape kind) a)

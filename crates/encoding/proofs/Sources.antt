@@ -13,7 +13,8 @@ use Rattle.table.specs.Programs.{ref, leaf, unary, binary, ternary, next, root,
 use Rattle.table.proofs.Sequences.{next-shift}
 use Rattle.encoding.specs.Slots.{Kind, choice, active, opening, shut, barred, held, waits, mayExecute, none, permittedFirst, onePermitted, address, loaded, swaps, result, test, notTest, flushTo, writeTo, flushValue, writeValue, raised, exits, codes, sharedMemory, val, adr, mem, accu, full, halted, flag, mark, halts, ended, code, bitZero as bit0, bitOne as bit1, wordZero, wordOne, argument, Slot, slot, same, Term, kindNumber}
 use Rattle.encoding.specs.Steps.{Link, skip, ifThen, andWith, orWith, linked, chain, only, rests, numberOf, leavingTree, base, link, links, step}
-use Rattle.encoding.proofs.Walks.{same-slot, with, After, There, SetBefore, Along, along-step}
+use Rattle.encoding.proofs.KindNumbers.{same-slot}
+use Rattle.encoding.proofs.Walks.{with, After, There, SetBefore, Along, along-step}
 
 -- ---- slots
 

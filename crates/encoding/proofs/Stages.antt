@@ -14,8 +14,9 @@ use Rattle.machine.specs.Machine.{State, permitted}
 use Rattle.machine.specs.declared.Choice.{Choice}
 use Rattle.table.specs.Programs.{treeValue, valuesAfter}
 use Rattle.table.specs.Values.{Assignment, Value}
-use Rattle.encoding.specs.Slots.{Kind, choice, active, opening, shut, barred, held, waits, mayExecute, none, permittedFirst, onePermitted, address, loaded, swaps, result, test, notTest, flushTo, writeTo, flushValue, writeValue, raised, exits, codes, sharedMemory, val, adr, mem, accu, full, halted, flag, mark, halts, ended, code, bitZero, bitOne, wordZero, wordOne, argument, Slot, slot, same, kindNumber, kindAt, kinds}
+use Rattle.encoding.specs.Slots.{Kind, choice, active, opening, shut, barred, held, waits, mayExecute, none, permittedFirst, onePermitted, address, loaded, swaps, result, test, notTest, flushTo, writeTo, flushValue, writeValue, raised, exits, codes, sharedMemory, val, adr, mem, accu, full, halted, flag, mark, halts, ended, code, bitZero, bitOne, wordZero, wordOne, argument, Slot, slot, same, kindNumber, kindAt, kinds, kindCount}
 use Rattle.encoding.specs.Steps.{shape, tree, base, links, link, rows, columns, kept, block}
+use Rattle.encoding.proofs.KindNumbers.{kind-at, kind-number}
 use Rattle.encoding.proofs.Blocks.{linksValue, chain-value, others, through, through-none, through-next}
 use Rattle.encoding.proofs.Named.{scans, settledAt, scannedAt}
 use Rattle.encoding.proofs.Shown.{Bits, Ready}
@@ -27,59 +28,6 @@ pub record Given (S : Set) (cs : List ℕ) (g : Assignment) (k : ℕ) (slots : S
   pub ready : Ready S cs g k slots s
   pub isPermitted : permitted S s c ≡ true
   pub bits : Bits S g k c
-
--- ---- kinds by number
-
-pub kind-at : (kind : Kind) → kindAt (kindNumber kind) ≡ kind
-unfolding kinds
-kind-at choice = refl
-kind-at active = refl
-kind-at opening = refl
-kind-at shut = refl
-kind-at barred = refl
-kind-at held = refl
-kind-at waits = refl
-kind-at mayExecute = refl
-kind-at none = refl
-kind-at permittedFirst = refl
-kind-at onePermitted = refl
-kind-at address = refl
-kind-at loaded = refl
-kind-at swaps = refl
-kind-at result = refl
-kind-at test = refl
-kind-at notTest = refl
-kind-at flushTo = refl
-kind-at writeTo = refl
-kind-at flushValue = refl
-kind-at writeValue = refl
-kind-at raised = refl
-kind-at exits = refl
-kind-at codes = refl
-kind-at sharedMemory = refl
-kind-at val = refl
-kind-at adr = refl
-kind-at mem = refl
-kind-at accu = refl
-kind-at full = refl
-kind-at halted = refl
-kind-at flag = refl
-kind-at mark = refl
-kind-at halts = refl
-kind-at ended = refl
-kind-at code = refl
-kind-at bitZero = refl
-kind-at bitOne = refl
-kind-at wordZero = refl
-kind-at wordOne = refl
-kind-at argument = refl
-
-numbered : every 41 (λ m. eqb (kindNumber (kindAt m)) m) ≡ true
-unfolding kinds every
-numbered = refl
-
-pub number-at : (m : ℕ) → m < 41 → kindNumber (kindAt m) ≡ m
-number-at m h = eqb-true (kindNumber (kindAt m)) m (every-at (λ m. eqb (kindNumber (kindAt m)) m) 41 m numbered h)
 
 -- ---- stages
 
@@ -93,7 +41,7 @@ module _ (S : Set) (cs : List ℕ) (g : Assignment) (k : ℕ) (slots : Slot → 
   stays l a b n zero h f = let sum : n + 0 ≡ n = omega arith in ap (λ m. stage m (slot l a b)) sum
   stays l a b n (suc d) h f =
       let onePermitted : n + suc d ≡ suc (n + d) = omega arith in
-      let number = number-at (11 + (n + d)) (omega arith) in
+      let number = kind-number (11 + (n + d)) (omega arith) in
       ap (λ m. stage m (slot l a b)) onePermitted
       ∙ (ap (λ v. v (slot l a b)) (through-next g S cs k slots 11 (n + d))
       ∙ (others g S cs k (kindAt (11 + (n + d))) (stage (n + d)) l a b (ne-eqb (kindNumber l) (kindNumber (kindAt (11 + (n + d)))) (λ (e : kindNumber l ≡ kindNumber (kindAt (11 + (n + d)))). f (n + d) (omega arith) (omega arith) (e ∙ number)))

@@ -14,18 +14,9 @@ use Rattle.encoding.specs.Slots.{Kind, Slot, slot, same, Term, kindNumbe
 use Rattle.encoding.specs.Steps.{shape, tree, rows, columns, kept, entry, line, block, blocks, ruled, step}
 use Rattle.table.proofs.Sequences.{upto-ext}
 use Rattle.encoding.proofs.Split.{rest}
-use Rattle.encoding.proofs.Stages.{kind-at, number-at}
+use Rattle.encoding.proofs.KindNumbers.{kind-at, kind-number, same-slot}
 
 -- ---- slots
-
-pub same-slot : (x s : Slot) → same x s ≡ true → x ≡ s
-same-slot (slot k a b) (slot l c d) e =
-    let rest = and-right (eqb (kindNumber k) (kindNumber l)) (eqb a c && eqb b d) e in
-    let numbers = eqb-true (kindNumber k) (kindNumber l) (and-left (eqb (kindNumber k) (kindNumber l)) (eqb a c && eqb b d) e) in
-    let p : k ≡ l = sym (kind-at k) ∙ (ap kindAt numbers ∙ kind-at l) in
-    let q = eqb-true a c (and-left (eqb a c) (eqb b d) rest) in
-    let r = eqb-true b d (and-right (eqb a c) (eqb b d) rest) in
-    λ i. slot (p i) (q i) (r i)
 
 same-self : (s : Slot) → same s s ≡ true
 same-self (slot k a b) = and-true (eq-eqb (kindNumber k) (kindNumber k) refl) (and-true (eq-eqb a a refl) (eq-eqb b b refl))
@@ -169,7 +160,7 @@ module _ (S : Set) (cs : List ℕ) where
           let r = blocks-along j i l (omega arith) done from low in
           let mid = After done (blocks S cs 0 j i) in
           let kind = kindAt (j + i) in
-          let number : j + i ≡ kindNumber kind = sym (number-at (j + i) (omega arith)) in
+          let number : j + i ≡ kindNumber kind = sym (kind-number (j + i) (omega arith)) in
           let few : kindNumber kind < 36 = omega arith in
           let under : Below (kindNumber kind) mid = subst (λ (c : ℕ). Below c mid) number (r .1) in
           let e : suc (kindNumber kind) ≡ j + suc i = omega arith in

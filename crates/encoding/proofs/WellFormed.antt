@@ -22,7 +22,8 @@ use Rattle.encoding.specs.Encodings.{mapDemand, goalTree, starting, prog
 use Rattle.encoding.specs.Slots.{Kind, choice, wordOne, argument, code, wordZero, Slot, slot, same, kindAt, kindNumber, kinds, startPlace}
 use Rattle.encoding.specs.Steps.{shape, chain, kept, tree, entry, line, block, blocks, rows, columns, ruled, step}
 use Rattle.encoding.proofs.Bytes.{Bytes, word-below, set-words}
-use Rattle.encoding.proofs.Sorts.{slotSort, kind-number, sort-alike, start-lies, startSorts, Words, block-fits, ruled-fits}
+use Rattle.encoding.proofs.KindNumbers.{kind-number}
+use Rattle.encoding.proofs.Sorts.{slotSort, sort-alike, start-lies, startSorts, Words, block-fits, ruled-fits}
 
 -- ---- steps
 

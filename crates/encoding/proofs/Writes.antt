@@ -6,7 +6,7 @@ use mathlib.Core.List.{List}
 use native.Mathlib.Omega.{arith}
 use borrow.Author.Tests.{ltb-true, ltb-false, lt-ltb, eqb-true, eq-eqb, ne-eqb}
 use lib.Dec.{eqb, ltb}
-use Rattle.base.proofs.Choice.{chosen, passed, and-true, and-left, and-false, and-right-false}
+use Rattle.base.proofs.Choice.{eqb-swap, chosen, passed, and-true, and-left, and-false, and-right-false}
 use Rattle.records.specs.Instructions.{CAS}
 use Rattle.records.specs.Sets.{Set}
 use Rattle.records.specs.declared.Statement.{Statement}
@@ -18,7 +18,7 @@ use Rattle.table.specs.Formulas.{wordSort}
 use Rattle.table.specs.Values.{Assignment, Value, bit, word, memory, asBit, asWord, asMemory}
 use Rattle.encoding.specs.Slots.{choice, address, swaps, flushTo, writeTo, flushValue, writeValue, sharedMemory, val, adr, accu, wordZero, Slot, slot}
 use Rattle.encoding.specs.Steps.{skip, ifThen, only, link}
-use Rattle.encoding.proofs.Active.{eqb-swap, executing, flushing, scan-one, actor-below, executes-is, flushes-is, past, number-fits}
+use Rattle.encoding.proofs.Active.{executing, flushing, scan-one, actor-below, executes-is, flushes-is, past, number-fits}
 use Rattle.encoding.proofs.Blocks.{linkValue, linksValue, links-none, links-at, quiet-if, quiet-cond}
 use Rattle.encoding.proofs.Rows.{target, matchOf, cas-row, cas-address}
 use Rattle.encoding.proofs.Stages.{Given, stage, was, since, settles, scanned}

@@ -9,7 +9,7 @@ use borrow.Author.Tests.{eq-eqb, ne-eqb, lt-ltb, le-ltb}
 use lib.Dec.{eqb, ltb}
 use Rattle.base.proofs.Below.{least-hit, least-none}
 use Rattle.base.proofs.Choice.{chosen, passed}
-use Rattle.records.specs.Maps.{cells, addressAt, valueAt, mapValue, mapAccepted}
+use Rattle.records.specs.Maps.{cells, addressAt, valueAt, mapValue, mapAccepted, runCells}
 use Rattle.records.proofs.Maps.{ascending}
 
 module _ (bytes : List ℕ) (x : ℕ) where
@@ -25,7 +25,7 @@ module _ (bytes : List ℕ) (x : ℕ) where
       ap valueOfLeast (least-none at (cells bytes) (λ j h. ne-eqb (addressAt bytes j) x (f j h)))
       ∙ passed (valueAt bytes (cells bytes)) 0 (le-ltb (cells bytes) (cells bytes) (omega arith))
 
-  module _ (ok : mapAccepted 256 bytes ≡ true) (i : ℕ) (h : i < cells bytes) where
+  module _ (ok : mapAccepted runCells bytes ≡ true) (i : ℕ) (h : i < cells bytes) where
     -- cell i is at x, so that none before it is
     pub found : addressAt bytes i ≡ x → mapValue bytes x ≡ valueAt bytes i
     found e =

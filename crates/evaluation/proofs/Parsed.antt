@@ -6,6 +6,7 @@ use native.Mathlib.Omega.{arith}
 use lib.ListN.{length, getD, set, length-set}
 use lib.Seq.{getD-append-add, getD-set-same, getD-set-other}
 use Rattle.base.specs.Bytes.{wordAt}
+use Rattle.base.proofs.Bytes.{word-bytes}
 use Rattle.table.specs.Formulas.{formulaAt, formulaBytes, tableBytes}
 use Rattle.table.specs.declared.Formula.{Formula}
 use Rattle.table.proofs.Read.{read-long}
@@ -16,16 +17,13 @@ use Rattle.evaluation.proofs.Views.{Small}
 
 -- ---- one record
 
-word-back : (n : ℕ) → n < 65536 → n % 256 + 256 * (n / 256 % 256) ≡ n
-word-back n h = omega arith
-
 parsed : (f : Formula) (rest : List ℕ) → Small f → formulaAt (formulaBytes f ++ rest) 0 ≡ f
 unfolding formulaAt formulaBytes
 parsed f rest small =
     λ z. record {
       operation = f .operation;
       sort = f .sort;
-      constant = word-back (f .constant) (small .smallConstant) z;
+      constant = word-bytes (f .constant) (small .smallConstant) z;
       a = read-long (f .a) (small .smallA) z;
       b = read-long (f .b) (small .smallB) z;
       c = read-long (f .c) (small .smallC) z;

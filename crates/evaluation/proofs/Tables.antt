@@ -13,6 +13,7 @@ use Rattle.table.specs.Formulas.{bitSort, memorySort, WRITE, IF}
 use Rattle.table.specs.Tables.{formed, allFormed}
 use Rattle.table.specs.Values.{Assignment, Value, asBit, asWord, asMemory, changed, valueOf, valuesFrom}
 use Rattle.table.specs.declared.Formula.{Formula}
+use Rattle.table.proofs.Meaning.{stays}
 use Rattle.evaluation.specs.Evaluations.{noFormula, cellBack}
 use Rattle.evaluation.proofs.Backwards.{back-hit, back-first, back-on}
 use Rattle.evaluation.proofs.Views.{Operand, View, isChoice, isFirst, isBit, isWord, isNot, isAnd, isOr, isEqual, isIf, isPlus, isMinus, isTimes, isRead, isWrite, isTop, isConstraint, isGoal, Small, SmallChoice, view-of}
@@ -96,12 +97,6 @@ views table few small h j l =
 -- ---- values
 
 module _ (g : Assignment) where
-  -- what stands below n stays
-  stays : (table : List Formula) (n : ℕ) (values : ℕ → Value) (i : ℕ) → i < n → valuesFrom g n values table i ≡ values i
-  unfolding valuesFrom
-  stays [] n values i h = refl
-  stays (f ∷ table) n values i h = stays table (suc n) _ i (omega arith) ∙ passed _ _ (ne-eqb i n (omega arith))
-
   pub agree-from : (sorts : ℕ → ℕ) (table : List Formula) (n : ℕ) (values : ℕ → Value) →
       ((j : ℕ) → j < length table → View sorts (n + j) (recordAt table j)) →
       (j : ℕ) → j < length table → valuesFrom g n values table (n + j) ≡ valueOf g (valuesFrom g n values table) (recordAt table j)
@@ -110,9 +105,9 @@ module _ (g : Assignment) where
   agree-from sorts (f ∷ table) n values view zero l =
       let e : n + 0 ≡ n = omega arith in
       let rest = valuesFrom g (suc n) (changed values n (valueOf g values f)) table in
-      ap rest e ∙ (stays table (suc n) _ n (omega arith) ∙ (chosen _ _ (eq-eqb n n refl)
+      ap rest e ∙ (stays g table (suc n) _ n (omega arith) ∙ (chosen _ _ (eq-eqb n n refl)
       ∙ local g sorts n f values rest
-      (λ i (h : i < n). sym (stays table (suc n) _ i (omega arith) ∙ passed _ _ (ne-eqb i n (omega arith))))
+      (λ i (h : i < n). sym (stays g table (suc n) _ i (omega arith) ∙ passed _ _ (ne-eqb i n (omega arith))))
       (subst (λ (m : ℕ). View sorts m f) e (view 0 (omega arith)))))
   agree-from sorts (f ∷ table) n values view (suc j) l =
       let e : n + suc j ≡ suc n + j = omega arith in

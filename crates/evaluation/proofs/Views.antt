@@ -6,7 +6,7 @@ use mathlib.Core.Bool.{Bool, true, false, cond, _&&_, _||_}
 use native.Mathlib.Omega.{arith}
 use borrow.Author.Tests.{eqb-true, ltb-true}
 use lib.Dec.{eqb, ltb}
-use Rattle.base.proofs.Choice.{chosen, passed, and-left, and-right, clash}
+use Rattle.base.proofs.Choice.{chosen, either, passed, and-left, and-right, clash}
 use Rattle.table.specs.Formulas.{noSort, bitSort, wordSort, memorySort, CHOICE, FIRST, CONSTANT, NOT, AND, OR, EQUAL, IF, PLUS, MINUS, TIMES, READ, WRITE, TOP, CONSTRAINT, GOAL}
 use Rattle.table.specs.Tables.{formed}
 use Rattle.table.specs.declared.Formula.{Formula}
@@ -56,10 +56,6 @@ split {R} o k {x} {y} e p q = go (eqb o k) refl
     go : (b : Bool) → eqb o k ≡ b → R
     go true t = p (eqb-true o k t) (sym (chosen x y t) ∙ e)
     go false t = q (sym (passed x y t) ∙ e)
-
-either : {R : Type 0} (a b : Bool) → (a || b) ≡ true → (a ≡ true → R) → (b ≡ true → R) → R
-either true b e p q = p refl
-either false b e p q = q e
 
 split-or : {R : Type 0} (t : Bool) {x y : Bool} → cond t x y ≡ true → (t ≡ true → x ≡ true → R) → (y ≡ true → R) → R
 split-or true e p q = p refl e

@@ -8,7 +8,7 @@ use lib.ListN.{length, set}
 use Rattle.base.specs.Bytes.{wordAt}
 use Rattle.base.specs.Words.{plus, minus, times, topBit}
 use Rattle.records.specs.Maps.{mapValue}
-use Rattle.table.specs.Formulas.{formulaAt, CHOICE, CONSTANT, NOT, AND, OR, EQUAL, IF, PLUS, MINUS, TIMES, READ, WRITE, TOP}
+use Rattle.table.specs.Formulas.{formulaAt, CHOICE, CONSTANT, NOT, AND, OR, EQUAL, IF, PLUS, MINUS, TIMES, READ, WRITE, TOP, formulaLength}
 use Rattle.table.specs.Values.{Assignment, isDemand}
 use Rattle.table.specs.declared.Formula.{Formula}
 use Rattle.decoding.specs.Models.{assigned, workLength}
@@ -27,11 +27,11 @@ formulaIn s n i = cond (ltb i n) (formulaAt s i) noFormula
 
 -- the word of record i's value, 0 past the last record
 abbrev pub valueIn : List ℕ → ℕ → ℕ → ℕ
-valueIn s n i = cond (ltb i n) (wordAt s (16 * n + 2 * i)) 0
+valueIn s n i = cond (ltb i n) (wordAt s (formulaLength * n + 2 * i)) 0
 
 -- the bytes once the word of record i's value is v
 abbrev pub stored : List ℕ → ℕ → ℕ → ℕ → List ℕ
-stored s n i v = set (set s (16 * n + 2 * i) (v % 256)) (16 * n + 2 * i + 1) (v / 256)
+stored s n i v = set (set s (formulaLength * n + 2 * i) (v % 256)) (formulaLength * n + 2 * i + 1) (v / 256)
 
 -- ---- one record
 

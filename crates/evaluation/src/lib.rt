@@ -10,6 +10,7 @@ ghost use Rattle.decoding.specs.Models.{assigned, workLength};
 ghost use Rattle.evaluation.specs.Evaluations.{formulaIn, valueIn, stored, memoryBehind, cellBack, wordIn, isFalse, givenBy, falseIn};
 use decoding::MODEL_CELLS;
 use decoding::WORK;
+use records::Layout;
 use table::Formula;
 use table::operations::AND;
 use table::operations::CHOICE;
@@ -26,17 +27,6 @@ use table::operations::READ;
 use table::operations::TIMES;
 use table::operations::TOP;
 use table::operations::WRITE;
-
-// Bytes of a formula record.
-const RECORD: usize = 16;
-
-// The word whose two bytes stand from index at on.
-fn word(s: &[u8], at: usize) -> u16
-    requires { ⌜ at + 1 < length (now s) ⌝ }
-    ensures { λ r. ⌜ r ≡ wordAt (now (s .entry)) at ⌝ }
-{
-    (s[at] as u16) + 256 * (s[at + 1] as u16)
-}
 
 // An operand: the number whose four bytes stand from index at on.
 fn operand(s: &[u8], at: usize) -> u64
@@ -55,11 +45,11 @@ fn formula(work: &[u8], n: u32, i: u64) -> Formula
     ensures { λ r. ⌜ r ≡ formulaIn (now (work .entry)) n i ⌝ }
 {
     if i < (n as u64) {
-        let at = RECORD * (i as usize);
+        let at = Formula::BYTES * (i as usize);
         return Formula {
             operation: work[at],
             sort: work[at + 1],
-            constant: word(work, at + 2),
+            constant: base::word_at(work, at + 2),
             a: operand(work, at + 4),
             b: operand(work, at + 8),
             c: operand(work, at + 12),
@@ -81,7 +71,7 @@ fn value(work: &[u8], n: u32, i: u64) -> u16
     ensures { λ r. ⌜ r ≡ valueIn (now (work .entry)) n i ⌝ }
 {
     if i < (n as u64) {
-        return word(work, RECORD * (n as usize) + 2 * (i as usize));
+        return base::word_at(work, Formula::BYTES * (n as usize) + 2 * (i as usize));
     }
     0
 }
@@ -91,7 +81,7 @@ fn store(work: &mut [u8], n: u32, i: u32, word: u16)
     requires { ⌜ (workLength * n ≤ length (now work)) × (i < n) ⌝ }
     ensures { λ _. ⌜ now (work .exit) ≡ stored (now (work .entry)) n i word ⌝ }
 {
-    let at = RECORD * (n as usize) + 2 * (i as usize);
+    let at = Formula::BYTES * (n as usize) + 2 * (i as usize);
     work[at] = (word % 256) as u8;
     work[at + 1] = (word / 256) as u8;
 }
@@ -118,12 +108,12 @@ fn search(cells: &[u8], x: u16) -> u16
     ensures { λ r. ⌜ r ≡ mapValue (now (cells .entry)) x ⌝ }
 {
     let mut low: usize = 0;
-    let mut high = cells.len() / 4;
+    let mut high = cells.len() / Layout::CELL;
     while low < high {
         let middle = low + (high - low) / 2;
-        let address = word(cells, 4 * middle);
+        let address = base::word_at(cells, Layout::CELL * middle);
         if address == x {
-            return word(cells, 4 * middle + 2);
+            return base::word_at(cells, Layout::CELL * middle + 2);
         }
         if address < x {
             low = middle + 1;

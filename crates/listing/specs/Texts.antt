@@ -1,6 +1,8 @@
 -- What the listing program prints for a set text (document 01, "Sample runs"). A reader of the calls believes this. Assumes nothing.
-use Prim.Native.Nat.{ℕ}
+use Prim.Native.Nat.{ℕ, _*_}
 use mathlib.Core.List.{List}
+use Rattle.records.specs.Maps.{cellLength, setCells}
+use Rattle.records.specs.Sets.{recordLength, mostRecords}
 use Rattle.text_lines.specs.Lines.{lines}
 use Rattle.text.specs.Answers.{answer}
 use Rattle.text.specs.Records.{setBytes, mapBytes}
@@ -16,4 +18,4 @@ listingBy (Refused number place) text = refusedLine number
 
 -- with room for the largest set, 128 statements, and the largest map, 128 cells
 unfoldable pub listingOf : List ℕ → List ℕ
-listingOf text = listingBy (answer text 1024 512) text
+listingOf text = listingBy (answer text (recordLength * mostRecords) (cellLength * setCells)) text

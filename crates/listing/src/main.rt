@@ -5,6 +5,7 @@ ghost use Rattle.listing_output.specs.Printed.{count, printed};
 ghost use Rattle.listing.specs.Texts.{listingOf};
 use libc::STDIN_FILENO;
 use libc::STDOUT_FILENO;
+use machine::Machine;
 use records::Layout;
 use records::Statement;
 use text::ReadAnswer;
@@ -13,7 +14,7 @@ use text::Reading;
 // One byte more than a text may have shows that it is too long.
 const INPUT: usize = Reading::TEXT + 1;
 // Room for every listing.
-const LISTING: usize = 4112;
+const LISTING: usize = 64 * Machine::STEPS + 16;
 
 // Prints the listing of a set text from the start of an output on, and gives how many bytes it printed.
 fn list_text(text: &[u8], out: &mut [u8]) -> usize

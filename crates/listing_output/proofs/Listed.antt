@@ -11,13 +11,13 @@ use Rattle.base.proofs.Below.{least-ext}
 use Rattle.base.proofs.Choice.{chosen, passed, and-left}
 use Rattle.base.specs.Bytes.{over}
 use Rattle.records.proofs.Sets.{four-threads}
-use Rattle.records.specs.Maps.{mapAccepted}
+use Rattle.records.specs.Maps.{mapAccepted, runCells}
 use Rattle.records.specs.Sets.{Set, setOf, setAccepted}
-use Rattle.machine.proofs.Runs.{AllTaken, follow-taken, length-choices, length-trace, length-traceStep, ran-taken, ran-where, refused-ran, taken-takes, choices-more}
+use Rattle.machine.proofs.Runs.{AllTaken, follow-taken, length-choices, length-trace, length-traceStep, ran-taken, ran-where, refused-ran, taken-takes, lacking-takes, choices-more}
 use Rattle.machine.specs.Machine.{State, step, written, noWrite, reads}
 use Rattle.machine.specs.Maps.{Held, begin, knowsAll, outcome, advanced, onOutcome, follow}
 use Rattle.machine.specs.Runs.{choiceOf, choices, takes, endOf}
-use Rattle.machine.specs.Traces.{traceStep, trace}
+use Rattle.machine.specs.Traces.{traceStep, trace, longestTrace}
 use Rattle.machine.specs.declared.RunAnswer.{RunAnswer}
 use Rattle.machine.specs.declared.RunAnswer.the-variants.{Ran, Refused}
 use Rattle.machine.specs.declared.Choice.{Choice}
@@ -36,14 +36,6 @@ use Rattle.listing_output.proofs.StepLines.{line-of-step}
 -- ---- outcomes
 
 module _ (S : Set) (h : Held) (c : Choice) where
-  lacking-takes : outcome S h c ≡ Lacking → takes S (h .state) c ≡ true
-  unfolding outcome
-  lacking-takes = go (takes S (h .state) c) (knowsAll (h .known) (reads S (h .state) c))
-    where
-      go : (a b : Bool) → cond a (cond b Taken Lacking) NotPermitted ≡ Lacking → a ≡ true
-      go true b e = refl
-      go false b e = cc
-
   not-permitted-takes : outcome S h c ≡ NotPermitted → takes S (h .state) c ≡ false
   unfolding outcome
   not-permitted-takes = go (takes S (h .state) c) (knowsAll (h .known) (reads S (h .state) c))
@@ -114,11 +106,11 @@ module _ (set map : List ℕ) (a : accepts set map ≡ true) where
   wroteBy bytes = wroteAfter (setOf set) (begin map) noWrite (choices bytes)
 
   four : setOf set .threads ≤ 4
-  four = four-threads set (and-left (setAccepted set) (mapAccepted 256 map) a)
+  four = four-threads set (and-left (setAccepted set) (mapAccepted runCells map) a)
 
   -- the last choice decides
   decided : (bytes : List ℕ) (b : ℕ) → length bytes < 64 → AllTaken (setOf set) (begin map) (choices bytes) →
-      simulated set map (bytes ++ (b ∷ [])) 1536
+      simulated set map (bytes ++ (b ∷ [])) longestTrace
       ≡ onOutcome (outcome (setOf set) (heldBy bytes) (choiceOf b)) (0 + length (choices bytes)) (Ran (0 + length (choices bytes) + 1) (endOf (setOf set) (step (setOf set) (heldBy bytes .state) (choiceOf b))))
   decided bytes b l taken =
       simulated-runs set map (bytes ++ (b ∷ [])) a (omega (arith, length-append bytes (b ∷ [])))
@@ -136,7 +128,7 @@ module _ (set map : List ℕ) (a : accepts set map ≡ true) where
 
   -- the last line after a schedule
   finished : (bytes : List ℕ) → length bytes ≤ 64 → AllTaken (setOf set) (begin map) (choices bytes) →
-      lastOf (simulated set map bytes 1536) ≡ lastLine (endOf (setOf set) (heldBy bytes .state))
+      lastOf (simulated set map bytes longestTrace) ≡ lastLine (endOf (setOf set) (heldBy bytes .state))
   unfolding lastOf
   finished bytes l taken =
       ap lastOf (simulated-runs set map bytes a l ∙ follow-taken (setOf set) (begin map) 0 (choices bytes) taken)
@@ -144,7 +136,7 @@ module _ (set map : List ℕ) (a : accepts set map ≡ true) where
 
   -- the choice is taken
   pub goes-on : (listing bytes : List ℕ) (n m : ℕ) (e : End) → length bytes < 64 → Follows (setOf set) (begin map) listing (choices bytes) (suc n) →
-      simulated set map (bytes ++ (nextByte set map bytes ∷ [])) 1536 ≡ Ran m e →
+      simulated set map (bytes ++ (nextByte set map bytes ∷ [])) longestTrace ≡ Ran m e →
       Follows (setOf set) (begin map) listing (choices (bytes ++ (nextByte set map bytes ∷ []))) n
   goes-on listing bytes n m e l f p =
       let S = setOf set in
@@ -157,8 +149,8 @@ module _ (set map : List ℕ) (a : accepts set map ≡ true) where
 
   -- the choice is refused: 14 where a first cell read is lacking, else nothing is permitted
   refused-next : (bytes : List ℕ) (n number place : ℕ) → length bytes < 64 → AllTaken (setOf set) (begin map) (choices bytes) →
-      simulated set map (bytes ++ (nextByte set map bytes ∷ [])) 1536 ≡ Refused number place →
-      listingFrom (setOf set) (heldBy bytes) (wroteBy bytes) (suc n) ≡ cond (eqb number 14) (refusedLine 14) (lastOf (simulated set map bytes 1536))
+      simulated set map (bytes ++ (nextByte set map bytes ∷ [])) longestTrace ≡ Refused number place →
+      listingFrom (setOf set) (heldBy bytes) (wroteBy bytes) (suc n) ≡ cond (eqb number 14) (refusedLine 14) (lastOf (simulated set map bytes longestTrace))
   refused-next bytes n number place l taken p = go (outcome S H (choiceOf b)) refl _ _ _ (sym (decided bytes b l taken) ∙ p)
     where
       S : Set
@@ -177,7 +169,7 @@ module _ (set map : List ℕ) (a : accepts set map ≡ true) where
       same = byte-found bytes l taken
 
       printed : ℕ → List ℕ
-      printed k = cond (eqb k 14) (refusedLine 14) (lastOf (simulated set map bytes 1536))
+      printed k = cond (eqb k 14) (refusedLine 14) (lastOf (simulated set map bytes longestTrace))
 
       go : (o : Outcome) → outcome S H (choiceOf b) ≡ o → (i m : ℕ) (d : End) → onOutcome (outcome S H (choiceOf b)) i (Ran m d) ≡ Refused number place →
           listingFrom S H (wroteBy bytes) (suc n) ≡ printed number
@@ -194,14 +186,14 @@ module _ (set map : List ℕ) (a : accepts set map ≡ true) where
           by-lowest S H (wroteBy bytes) n (choiceOf b) Lacking (found-lowest S four (H .state) t ∙ sym same) e ∙ ap printed k
 
   pub stops : (listing bytes : List ℕ) (n number place : ℕ) → length bytes < 64 → Follows (setOf set) (begin map) listing (choices bytes) (suc n) →
-      simulated set map (bytes ++ (nextByte set map bytes ∷ [])) 1536 ≡ Refused number place →
-      linesOf (setOf set) (begin map) noWrite (choices bytes) ++ cond (eqb number 14) (refusedLine 14) (lastOf (simulated set map bytes 1536)) ≡ listing
+      simulated set map (bytes ++ (nextByte set map bytes ∷ [])) longestTrace ≡ Refused number place →
+      linesOf (setOf set) (begin map) noWrite (choices bytes) ++ cond (eqb number 14) (refusedLine 14) (lastOf (simulated set map bytes longestTrace)) ≡ listing
   stops listing bytes n number place l f p =
       ap (λ (more : List ℕ). linesOf (setOf set) (begin map) noWrite (choices bytes) ++ more) (sym (refused-next bytes n number place l (f .taken) p)) ∙ sym (f .rest)
 
   -- no step is left
   pub ends : (listing bytes : List ℕ) (n : ℕ) → length bytes ≤ 64 → Follows (setOf set) (begin map) listing (choices bytes) n → n ≡ 0 →
-      linesOf (setOf set) (begin map) noWrite (choices bytes) ++ lastOf (simulated set map bytes 1536) ≡ listing
+      linesOf (setOf set) (begin map) noWrite (choices bytes) ++ lastOf (simulated set map bytes longestTrace) ≡ listing
   unfolding listingFrom
   ends listing bytes n l f z =
       ap (λ (more : List ℕ). linesOf (setOf set) (begin map) noWrite (choices bytes) ++ more)

@@ -12,7 +12,7 @@ use Rattle.base.specs.Below.{least}
 use Rattle.records.specs.Sets.{Set}
 use Rattle.machine.proofs.Runs.{takes-actor}
 use Rattle.machine.specs.Machine.{State, permitted}
-use Rattle.machine.specs.Runs.{choiceOf, takes}
+use Rattle.machine.specs.Runs.{choiceOf, takes, flushByte}
 use Rattle.machine.specs.declared.Choice.{Choice}
 use Rattle.machine.specs.declared.Choice.the-variants.{Execute, Flush}
 use Rattle.listing_output.specs.Listings.{lowest}
@@ -53,11 +53,11 @@ module _ (test : ℕ → Bool) where
 
 executes : (j : ℕ) → j < 4 → choiceOf (candidate j) ≡ Execute j
 unfolding choiceOf
-executes j h = ap choiceOf (chosen _ _ (lt-ltb j 4 h)) ∙ chosen _ _ (lt-ltb j 128 (omega arith))
+executes j h = ap choiceOf (chosen _ _ (lt-ltb j 4 h)) ∙ chosen _ _ (lt-ltb j flushByte (omega arith))
 
 flushes : (t : ℕ) → choiceOf (candidate (4 + t)) ≡ Flush t
 unfolding choiceOf
-flushes t = ap choiceOf (passed _ _ (le-ltb (4 + t) 4 (omega arith))) ∙ passed _ _ (le-ltb (124 + (4 + t)) 128 (omega arith)) ∙ ap Flush (omega arith)
+flushes t = ap choiceOf (passed _ _ (le-ltb (4 + t) 4 (omega arith))) ∙ passed _ _ (le-ltb (flushByte + (4 + t - 4)) flushByte (omega arith)) ∙ ap Flush (omega arith)
 
 module _ (S : Set) (four : S .threads ≤ 4) (s : State) where
   -- candidate j can be taken

@@ -15,7 +15,7 @@ use Rattle.base.specs.Below.{every}
 use Rattle.base.specs.Bytes.{over}
 use Rattle.records.proofs.Sets.{four-threads}
 use Rattle.records.specs.Instructions.{instructions, words, wordOf}
-use Rattle.records.specs.Maps.{mapAccepted}
+use Rattle.records.specs.Maps.{mapAccepted, runCells}
 use Rattle.records.specs.Sets.{Set, setOf, setAccepted}
 use Rattle.records.specs.declared.Statement.{Statement}
 use Rattle.machine.proofs.Runs.{takes-actor, taken-takes}
@@ -30,7 +30,7 @@ use Rattle.machine.specs.declared.Outcome.{Outcome}
 use Rattle.machine.specs.declared.Outcome.the-variants.{Taken, NotPermitted, Lacking}
 use Rattle.machine.specs.declared.Thread.{Thread}
 use Rattle.machine.specs.declared.Written.{Written}
-use Rattle.listing_output.specs.Listings.{text, digits, places, decimal, name, hasNone, argument, pair, cell, lineOf, line, lastLine, refusedLine, lowest, onLowest, listingFrom, listing}
+use Rattle.listing_output.specs.Listings.{text, digits, places, decimal, name, hasNone, argument, pair, cell, lineOf, line, lastLine, refusedLine, lowest, onLowest, listingFrom, listing, longestListing}
 use Rattle.listing_output.specs.Printed.{printed, count}
 use Rattle.listing_output.proofs.Texts.{few-places, printed-fits}
 
@@ -122,18 +122,18 @@ length-from S four h w (suc n) = go (outcome S h c) refl (length-from S four (ad
     go NotPermitted e k = omega (arith, length-last (endOf S (h .state)))
     go Lacking e k = omega (arith, length-refused 14)
 
-pub listing-size : (set map : List ℕ) → length (listing set map) ≤ 4112
+pub listing-size : (set map : List ℕ) → length (listing set map) ≤ longestListing
 unfolding listing
-listing-size set map = go (setAccepted set && mapAccepted 256 map) refl
+listing-size set map = go (setAccepted set && mapAccepted runCells map) refl
   where
-    go : (b : Bool) → (setAccepted set && mapAccepted 256 map) ≡ b → length (cond (setAccepted set && mapAccepted 256 map) (listingFrom (setOf set) (begin map) noWrite 64) (refusedLine 9)) ≤ 4112
+    go : (b : Bool) → (setAccepted set && mapAccepted runCells map) ≡ b → length (cond (setAccepted set && mapAccepted runCells map) (listingFrom (setOf set) (begin map) noWrite 64) (refusedLine 9)) ≤ longestListing
     go true e =
-        let four = four-threads set (and-left (setAccepted set) (mapAccepted 256 map) e) in
+        let four = four-threads set (and-left (setAccepted set) (mapAccepted runCells map) e) in
         omega (arith, ap length (chosen (listingFrom (setOf set) (begin map) noWrite 64) (refusedLine 9) e), length-from (setOf set) four (begin map) noWrite 64)
     go false e = omega (arith, ap length (passed (listingFrom (setOf set) (begin map) noWrite 64) (refusedLine 9) e), length-refused 9)
 
 -- an output of that size holds the whole listing
-pub whole-listing : (set map out : List ℕ) → 4112 ≤ length out →
+pub whole-listing : (set map out : List ℕ) → longestListing ≤ length out →
     (count (listing set map) out ≡ length (listing set map)) × (printed (listing set map) out ≡ over (listing set map) out)
 whole-listing set map out h =
     let l = listing-size set map in

@@ -10,7 +10,7 @@ use Rattle.base.proofs.Below.{least-hit}
 use Rattle.base.proofs.Choice.{chosen, and-true, or-right-true, and-left, clash}
 use Rattle.base.specs.Below.{least}
 use Rattle.records.proofs.Sets.{well-formed}
-use Rattle.records.specs.Maps.{mapAccepted, mapValue}
+use Rattle.records.specs.Maps.{mapAccepted, mapValue, runCells}
 use Rattle.records.specs.Sets.{Set, setOf, setAccepted}
 use Rattle.machine.specs.Machine.{start, current, needsEmpty, waiting, permitted, written, noWrite, reads}
 use Rattle.machine.specs.Maps.{Held, begin, knowsAll, outcome, advanced}
@@ -56,7 +56,7 @@ unfolding begin
 step-zero-first set map a =
     let S = setOf set in
     let h = begin map in
-    let some = well-formed set (and-left (setAccepted set) (mapAccepted 256 map) a) .someThread in
+    let some = well-formed set (and-left (setAccepted set) (mapAccepted runCells map) a) .someThread in
     let shows = accepted-listing set map a in
     let e = lowest-first S some (mapValue map) in
     ⊎-elim

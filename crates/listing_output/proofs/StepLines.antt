@@ -17,6 +17,7 @@ use Rattle.machine.specs.Traces.{bit, shown, stepBytes, traceStep}
 use Rattle.machine.specs.declared.Choice.{Choice}
 use Rattle.machine.specs.declared.Thread.{Thread}
 use Rattle.machine.specs.declared.Written.{Written}
+use Rattle.machine.proofs.Runs.{bit-is}
 use Rattle.listing_output.specs.Listings.{text, decimal, item, name, argument, cell, lineOf, line}
 use Rattle.listing_output.specs.Outputs.{lineAt}
 
@@ -29,10 +30,6 @@ name-none n h = let k : 20 ≤ n = omega arith in passed _ _ (ne-eqb n 20 (omega
 two-bytes : (n : ℕ) → n % 256 + 256 * (n / 256) ≡ n
 two-bytes n = omega (arith, div-add-mod' n 256)
 
-done-bit : (b : Bool) → eqb (bit b) 1 ≡ b
-done-bit true = refl
-done-bit false = refl
-
 -- the bytes of a trace step give its line
 line-of-bytes : (t : ℕ) (i : Statement) (x : Thread) (w : Written) → lineAt (stepBytes t i x w) ≡ lineOf t i x w
 unfolding lineAt lineOf stepBytes
@@ -42,7 +39,7 @@ line-of-bytes t i x w =
     ++ item (argument (record { number = i .number; mode = i .mode; argument = two-bytes (i .argument) k })))
     ++ (item (decimal (two-bytes (x .accu) k)) ++ item (decimal (two-bytes (x .mem) k)) ++ item (decimal (two-bytes (x .adr) k))
     ++ item (decimal (two-bytes (x .val) k)) ++ item (decimal (bit (x .full))))
-    ++ cell (record { done = done-bit (w .done) k; address = two-bytes (w .address) k; value = two-bytes (w .value) k })
+    ++ cell (record { done = bit-is (w .done) k; address = two-bytes (w .address) k; value = two-bytes (w .value) k })
     ++ text "\n"
 
 pub line-of-step : (S : Set) (s : State) (w : Written) (c : Choice) → lineAt (traceStep S s w c) ≡ line S s w c

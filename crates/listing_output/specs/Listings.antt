@@ -1,7 +1,7 @@
 -- What the listing program prints (document 01, "Sample runs"): a line for each step, then the last line. A reader of the calls believes this.
 -- Assumes nothing.
 use Prim.Native.Char.{code}
-use Prim.Native.Nat.{ℕ, zero, suc, _+_, _/_, _%_}
+use Prim.Native.Nat.{ℕ, zero, suc, _+_, _*_, _/_, _%_}
 use Prim.Native.String.{String, [] as end, _∷_ as _then_}
 use mathlib.Core.Bool.{Bool, cond, _&&_, _||_}
 use mathlib.Core.List.{List, [], _∷_, _++_}
@@ -115,6 +115,10 @@ listingFrom S h w (suc n) =
     onLowest (outcome S h c)
     (line S (h .state) w c ++ listingFrom S (advanced S h c) (written S (h .state) c) n)
     (lastLine (endOf S (h .state)))
+
+-- room for every listing: a line of at most 64 bytes for each step, and the last line
+abbrev pub longestListing : ℕ
+longestListing = 64 * mostSteps + 16
 
 -- what is printed for statement and map records; 9 where they are not accepted
 unfoldable pub listing : (set map : List ℕ) → List ℕ

@@ -3,12 +3,12 @@
 mod lines;
 mod output;
 
-ghost use Prim.Native.Nat.{_<_};
+ghost use Prim.Native.Nat.{_*_, _<_};
 ghost use mathlib.Core.Path.{_≡_};
 ghost use mathlib.Core.Bool.{true, cond};
 ghost use lib.Dec.{eqb};
 ghost use lib.ListN.{take};
-ghost use Rattle.records.specs.Sets.{setOf};
+ghost use Rattle.records.specs.Sets.{setOf, mostThreads};
 ghost use Rattle.machine.specs.Machine.{noWrite};
 ghost use Rattle.machine.specs.Maps.{begin};
 ghost use Rattle.simulation.specs.Simulation.{simulated};
@@ -16,27 +16,30 @@ ghost use Rattle.listing_output.specs.Listings.{listingFrom, listing, re
 ghost use Rattle.listing_output.specs.Outputs.{Stands, Prints, lastOf};
 ghost use Rattle.listing_output.specs.Printed.{printed, count};
 ghost use Rattle.listing_output.specs.Schedules.{candidate as candidateOf, denies, nextByte, accepts};
+ghost use Rattle.machine.specs.Traces.{longestTrace};
+ghost use Rattle.machine.specs.Runs.{mostSteps};
 use lines::last;
 use lines::line;
 use lines::refusal;
+use machine::Choice;
 use machine::Machine;
 use machine::RunAnswer;
 use records::refusals;
 
 // The schedule byte of candidate j: executes by thread, then flushes by thread.
 fn candidate(j: u8) -> u8
-    requires { ⌜ j < 8 ⌝ }
+    requires { ⌜ j < 2 * mostThreads ⌝ }
     ensures { λ r. ⌜ r ≡ candidateOf j ⌝ }
 {
-    if j < 4 {
+    if j < Machine::THREADS {
         return j;
     }
-    124 + j
+    Choice::FLUSH + (j - Machine::THREADS)
 }
 
 // Whether simulation answers that a choice of the schedule is not permitted.
 fn denied(set: &[u8], map: &[u8], schedule: &[u8]) -> bool
-    ensures { λ r. ⌜ r ≡ denies (simulated (now (set .entry)) (now (map .entry)) (now (schedule .entry)) 1536) ⌝ }
+    ensures { λ r. ⌜ r ≡ denies (simulated (now (set .entry)) (now (map .entry)) (now (schedule .entry)) longestTrace) ⌝ }
 {
     let mut trace = [0u8; Machine::TRACE];
     let answer = simulation::simulate(set, map, schedule, &mut trace);
@@ -48,7 +51,7 @@ fn denied(set: &[u8], map: &[u8], schedule: &[u8]) -> bool
 
 // The byte of the first candidate that is permitted after the first k bytes of a schedule.
 fn next(set: &[u8], map: &[u8], schedule: [u8; Machine::STEPS], k: usize) -> u8
-    requires { ⌜ k < 64 ⌝ }
+    requires { ⌜ k < mostSteps ⌝ }
     ensures { λ r. ⌜ r ≡ nextByte (now (set .entry)) (now (map .entry)) (take k schedule) ⌝ }
 {
     let mut tried = schedule;
@@ -66,7 +69,7 @@ fn next(set: &[u8], map: &[u8], schedule: [u8; Machine::STEPS], k: usize) -> u8
 
 // Prints the last line after a schedule.
 fn finish(set: &[u8], map: &[u8], schedule: &[u8], out: &mut [u8], at: usize) -> usize
-    ensures { λ r. ⌜ Prints at (now (out .entry)) (lastOf (simulated (now (set .entry)) (now (map .entry)) (now (schedule .entry)) 1536)) r (now (out .exit)) ⌝ }
+    ensures { λ r. ⌜ Prints at (now (out .entry)) (lastOf (simulated (now (set .entry)) (now (map .entry)) (now (schedule .entry)) longestTrace)) r (now (out .exit)) ⌝ }
 {
     let mut trace = [0u8; Machine::TRACE];
     let answer = simulation::simulate(set, map, schedule, &mut trace);
@@ -78,7 +81,7 @@ fn finish(set: &[u8], map: &[u8], schedule: &[u8], out: &mut [u8], at: usize) ->
 
 // Prints the last line after a schedule whose next choice was refused with a number.
 fn stop(set: &[u8], map: &[u8], schedule: &[u8], number: u8, out: &mut [u8], at: usize) -> usize
-    ensures { λ r. ⌜ Prints at (now (out .entry)) (cond (eqb number 14) (refusedLine 14) (lastOf (simulated (now (set .entry)) (now (map .entry)) (now (schedule .entry)) 1536))) r (now (out .exit)) ⌝ }
+    ensures { λ r. ⌜ Prints at (now (out .entry)) (cond (eqb number 14) (refusedLine 14) (lastOf (simulated (now (set .entry)) (now (map .entry)) (now (schedule .entry)) longestTrace))) r (now (out .exit)) ⌝ }
 {
     if number == refusals::LACKS_CELL {
         return refusal(out, at, refusals::LACKS_CELL);
@@ -89,7 +92,7 @@ fn stop(set: &[u8], map: &[u8], schedule: &[u8], number: u8, out: &mut [u8], at:
 // Prints the lines of an accepted set and map, then the last line.
 fn run(set: &[u8], map: &[u8], out: &mut [u8]) -> usize
     requires { ⌜ accepts (now set) (now map) ≡ true ⌝ }
-    ensures { λ r. ⌜ Stands (listingFrom (setOf (now (set .entry))) (begin (now (map .entry))) noWrite 64) (now (out .entry)) r (now (out .exit)) ⌝ }
+    ensures { λ r. ⌜ Stands (listingFrom (setOf (now (set .entry))) (begin (now (map .entry))) noWrite mostSteps) (now (out .entry)) r (now (out .exit)) ⌝ }
 {
     let mut schedule = [0u8; Machine::STEPS];
     let mut trace = [0u8; Machine::TRACE];

@@ -14,9 +14,9 @@ use Rattle.base.proofs.Choice.{chosen, passed, and-true, and-left, and-right, c
 use Rattle.records.specs.Instructions.{JMP, JZ, JNZ, JS, JNS, JNZNS, HALT, EXIT, instructions, isJump, isLast}
 use Rattle.records.specs.Sets.{Set, WellFormedSet}
 use Rattle.machine.specs.Machine.{State, start, current, jumps, nextPc, executed, permitted, actor, acted, written, reads, step}
-use Rattle.machine.specs.Runs.{choiceOf, choices, takes, isRun, after, endOf}
+use Rattle.machine.specs.Runs.{flushByte, choiceOf, choices, takes, isRun, after, endOf}
 use Rattle.machine.specs.Maps.{Held, knowsAll, outcome, advanced, onOutcome, follow}
-use Rattle.machine.specs.Traces.{shown, stepBytes, traceStep, trace, stepChoice}
+use Rattle.machine.specs.Traces.{bit, shown, stepBytes, traceStep, trace, stepChoice}
 use Rattle.machine.specs.declared.RunAnswer.{RunAnswer}
 use Rattle.machine.specs.declared.RunAnswer.the-variants.{Ran, Refused}
 use Rattle.machine.specs.declared.Choice.{Choice}
@@ -164,7 +164,7 @@ module _ (S : Set) (s : State) where
 -- the schedule byte of a choice
 abbrev pub scheduleOf : Choice → ℕ
 scheduleOf (Execute t) = t
-scheduleOf (Flush t) = 128 + t
+scheduleOf (Flush t) = flushByte + t
 
 -- the schedule of a run
 unfoldable pub schedule : List Choice → List ℕ
@@ -172,18 +172,18 @@ schedule [] = []
 schedule (c ∷ run) = scheduleOf c ∷ schedule run
 
 -- a choice and its byte give each other back
-pub choiceOf-scheduleOf : (c : Choice) → actor c < 128 → choiceOf (scheduleOf c) ≡ c
+pub choiceOf-scheduleOf : (c : Choice) → actor c < flushByte → choiceOf (scheduleOf c) ≡ c
 unfolding choiceOf
-choiceOf-scheduleOf (Execute t) h = chosen _ _ (lt-ltb t 128 h)
-choiceOf-scheduleOf (Flush t) h = passed _ _ (le-ltb (128 + t) 128 (omega arith)) ∙ ap Flush (omega arith)
+choiceOf-scheduleOf (Execute t) h = chosen _ _ (lt-ltb t flushByte h)
+choiceOf-scheduleOf (Flush t) h = passed _ _ (le-ltb (flushByte + t) flushByte (omega arith)) ∙ ap Flush (omega arith)
 
 pub scheduleOf-choiceOf : (k : ℕ) → scheduleOf (choiceOf k) ≡ k
 unfolding choiceOf
-scheduleOf-choiceOf k = go (ltb k 128) refl
+scheduleOf-choiceOf k = go (ltb k flushByte) refl
   where
-    go : (b : Bool) → ltb k 128 ≡ b → scheduleOf (cond (ltb k 128) (Execute k) (Flush (k - 128))) ≡ k
+    go : (b : Bool) → ltb k flushByte ≡ b → scheduleOf (cond (ltb k flushByte) (Execute k) (Flush (k - flushByte))) ≡ k
     go true e = ap scheduleOf (chosen _ _ e)
-    go false e = let l = ltb-false k 128 e in ap scheduleOf (passed _ _ e) ∙ omega arith
+    go false e = let l = ltb-false k flushByte e in ap scheduleOf (passed _ _ e) ∙ omega arith
 
 -- a run and its schedule give each other back
 pub schedule-choices : (bytes : List ℕ) → schedule (choices bytes) ≡ bytes
@@ -191,7 +191,7 @@ unfolding schedule choices
 schedule-choices [] = refl
 schedule-choices (k ∷ bytes) = ap₂ _∷_ (scheduleOf-choiceOf k) (schedule-choices bytes)
 
-pub choices-schedule : (S : Set) (s : State) (run : List Choice) → S .threads ≤ 128 → isRun S s run ≡ true → choices (schedule run) ≡ run
+pub choices-schedule : (S : Set) (s : State) (run : List Choice) → S .threads ≤ flushByte → isRun S s run ≡ true → choices (schedule run) ≡ run
 unfolding schedule choices
 choices-schedule S s [] h e = refl
 choices-schedule S s (c ∷ run) h e =
@@ -341,3 +341,27 @@ stepChoices-trace S s w (c ∷ run) well inside e =
     ap₂ _∷_ (stepChoice-trace S s w c run well inside (run-first S s c run e))
     (ap (stepChoices (length run)) (drop-trace S s w c run)
     ∙ stepChoices-trace S (step S s c) (written S s c) run well (inside-step S well s c inside) (run-rest S s c run e))
+
+-- a step that lacks a cell can be taken, and reads one that is not known
+module _ (S : Set) (h : Held) (c : Choice) where
+  pub lacking-takes : outcome S h c ≡ Lacking → takes S (h .state) c ≡ true
+  unfolding outcome
+  lacking-takes = go (takes S (h .state) c) (knowsAll (h .known) (reads S (h .state) c))
+    where
+      go : (a b : Bool) → cond a (cond b Taken Lacking) NotPermitted ≡ Lacking → a ≡ true
+      go true b e = refl
+      go false b e = cc
+
+  pub lacking-knows : outcome S h c ≡ Lacking → knowsAll (h .known) (reads S (h .state) c) ≡ false
+  unfolding outcome
+  lacking-knows = go (takes S (h .state) c) (knowsAll (h .known) (reads S (h .state) c))
+    where
+      go : (a b : Bool) → cond a (cond b Taken Lacking) NotPermitted ≡ Lacking → b ≡ false
+      go a false e = refl
+      go true true e = cc
+      go false true e = cc
+
+-- a bit as a number is 1 where it holds
+pub bit-is : (b : Bool) → eqb (bit b) 1 ≡ b
+bit-is true = refl
+bit-is false = refl

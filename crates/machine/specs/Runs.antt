@@ -16,9 +16,13 @@ use Rattle.machine.specs.declared.End.the-variants.{Code, Stuck, Open}
 abbrev pub mostSteps : ℕ
 mostSteps = 64
 
+-- schedule bytes from here on flush
+abbrev pub flushByte : ℕ
+flushByte = 128
+
 -- Schedule byte: t executes thread t, 128 + t flushes it; any other byte is a choice not permitted.
 unfoldable pub choiceOf : ℕ → Choice
-choiceOf k = cond (ltb k 128) (Execute k) (Flush (k - 128))
+choiceOf k = cond (ltb k flushByte) (Execute k) (Flush (k - flushByte))
 
 -- the choices of a schedule, byte by byte
 unfoldable pub choices : List ℕ → List Choice

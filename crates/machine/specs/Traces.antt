@@ -1,5 +1,5 @@
 -- Trace steps and the trace of a run (document 01, "Records"). A reader of the calls believes this. Assumes nothing.
-use Prim.Native.Nat.{ℕ}
+use Prim.Native.Nat.{ℕ, _*_}
 use mathlib.Core.Bool.{Bool, cond}
 use mathlib.Core.List.{List, [], _∷_, _++_}
 use lib.Dec.{eqb}
@@ -9,6 +9,7 @@ use Rattle.records.specs.Instructions.{instructions}
 use Rattle.records.specs.Sets.{Set}
 use Rattle.records.specs.declared.Statement.{Statement}
 use Rattle.machine.specs.Machine.{State, current, actor, step, written}
+use Rattle.machine.specs.Runs.{mostSteps}
 use Rattle.machine.specs.declared.Choice.{Choice}
 use Rattle.machine.specs.declared.Choice.the-variants.{Execute, Flush}
 use Rattle.machine.specs.declared.Thread.{Thread}
@@ -30,6 +31,10 @@ shown S s (Flush t) = flushRecord
 -- the bytes of a trace step
 abbrev pub stepLength : ℕ
 stepLength = 24
+
+-- the bytes of the longest trace
+abbrev pub longestTrace : ℕ
+longestTrace = stepLength * mostSteps
 
 -- Trace step, 24 bytes, the state before the step: thread; instruction number, 20 for a flush; pc (2); argument (2); mode; full;
 -- accu, mem, adr, val (2 each); byte 16 is 1 if the previous step wrote, then 0, and the address and value written; two bytes 0.

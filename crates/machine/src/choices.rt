@@ -4,7 +4,7 @@ ghost use mathlib.Core.Bool.{not, _&&_};
 ghost use Prim.Native.Nat.{ℕ};
 ghost use lib.Dec.{leb};
 ghost use lib.ListN.{getD};
-ghost use Rattle.records.specs.Sets.{setBy};
+ghost use Rattle.records.specs.Sets.{setBy, mostThreads};
 ghost use Rattle.machine.specs.Held.{stateOf, permittedBy};
 ghost use Rattle.machine.specs.Machine.{unmarked, needsEmpty, opened, actor as actorOf, permitted};
 use crate::Choice;
@@ -66,7 +66,7 @@ pub fn actor(choice: Choice) -> u8
 
 // Whether a choice is permitted, whether or not the machine has ended; none is of more than four threads.
 pub fn permits(set: &[u8], layout: Layout, m: Machine, choice: Choice) -> bool
-    ensures { λ r. ⌜ ((memory : ℕ → ℕ) → r ≡ (leb (layout .threads) 4 && permitted (setBy (now (set .entry)) layout) (stateOf m memory) choice)) ⌝ }
+    ensures { λ r. ⌜ ((memory : ℕ → ℕ) → r ≡ (leb (layout .threads) mostThreads && permitted (setBy (now (set .entry)) layout) (stateOf m memory) choice)) ⌝ }
 {
     let t = actor(choice);
     if Machine::THREADS < layout.threads {

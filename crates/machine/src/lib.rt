@@ -76,9 +76,14 @@ pub enum RunAnswer {
     Refused { number: u8, place: u32 },
 }
 
+impl Choice {
+    // Schedule bytes from here on flush: this one and a thread's number.
+    pub const FLUSH: u8 = 128;
+}
+
 impl Machine {
     // Threads that it holds.
-    pub const THREADS: u8 = 4;
+    pub const THREADS: u8 = Layout::THREADS as u8;
 
     // Steps that a schedule or a trace may have.
     pub const STEPS: usize = 64;
@@ -87,13 +92,13 @@ impl Machine {
     pub const MAP_CELLS: usize = 256;
 
     // Cells that a run keeps: those of the map, and one written in each step.
-    pub const CELLS: usize = 320;
+    pub const CELLS: usize = Machine::MAP_CELLS + Machine::STEPS;
 
     // Bytes of a trace step.
     pub const STEP: usize = 24;
 
     // Bytes of the longest trace.
-    pub const TRACE: usize = 1536;
+    pub const TRACE: usize = Machine::STEP * Machine::STEPS;
 }
 
 impl Thread {

@@ -13,7 +13,7 @@ ghost use Rattle.machine.specs.Held.{memoryIn, knownIn};
 const GROUP: usize = 16;
 
 // A word that a statement takes: whether it is known, its value (0 where it is not), and whether it was read from its cell.
-pub struct Cell {
+pub struct Word {
     pub known: bool,
     pub value: u16,
     pub read: bool,
@@ -65,26 +65,26 @@ pub fn cell_at(addresses: &[u16], a: u16) -> usize
 }
 
 // What is known of the cell at address a.
-pub fn look(addresses: &[u16], values: &[u16], a: u16) -> Cell
+pub fn look(addresses: &[u16], values: &[u16], a: u16) -> Word
     ensures { λ r. ⌜ (r .known ≡ knownIn (now (addresses .entry)) a)
         × (r .value ≡ memoryIn (now (addresses .entry)) (now (values .entry)) a) × (r .read ≡ true) ⌝ }
 {
     let i = cell_at(addresses, a);
     if addresses.len() <= i {
-        return Cell {
+        return Word {
             known: false,
             value: 0,
             read: true,
         };
     }
     if i < values.len() {
-        return Cell {
+        return Word {
             known: true,
             value: values[i],
             read: true,
         };
     }
-    Cell {
+    Word {
         known: true,
         value: 0,
         read: true,

@@ -8,7 +8,7 @@ ghost use Rattle.machine.specs.Maps.{knowsAll};
 use crate::Read;
 use crate::Thread;
 use crate::memory;
-use crate::memory::Cell;
+use crate::memory::Word;
 use records::Statement;
 use records::instructions::CAS;
 use records::instructions::STORE;
@@ -22,13 +22,13 @@ pub struct Operand {
 }
 
 // A load of address a, forwarding included.
-fn load(x: Thread, addresses: &[u16], values: &[u16], a: u16) -> Cell
+fn load(x: Thread, addresses: &[u16], values: &[u16], a: u16) -> Word
     ensures { λ r. ⌜ (r .known ≡ (forwards x a || knownIn (now (addresses .entry)) a))
         × (r .value ≡ loadOf x (memoryIn (now (addresses .entry)) (now (values .entry))) a) × (r .read ≡ not (forwards x a)) ⌝ }
 {
     if x.full {
         if x.adr == a {
-            return Cell {
+            return Word {
                 known: true,
                 value: x.val,
                 read: false,
@@ -39,7 +39,7 @@ fn load(x: Thread, addresses: &[u16], values: &[u16], a: u16) -> Cell
 }
 
 // The address of a memory word: of an indirect one the load of its argument.
-fn address(i: Statement, x: Thread, addresses: &[u16], values: &[u16]) -> Cell
+fn address(i: Statement, x: Thread, addresses: &[u16], values: &[u16]) -> Word
     requires { ⌜ isMemory (i .number) ≡ true ⌝ }
     ensures { λ r. ⌜ (r .known ≡ (not (readsArgument i x) || knownIn (now (addresses .entry)) (i .argument)))
         × (r .value ≡ addressOf i x (memoryIn (now (addresses .entry)) (now (values .entry)))) × (r .read ≡ readsArgument i x) ⌝ }
@@ -47,7 +47,7 @@ fn address(i: Statement, x: Thread, addresses: &[u16], values: &[u16]) -> Cell
     if i.mode == 1 {
         return load(x, addresses, values, i.argument);
     }
-    Cell {
+    Word {
         known: true,
         value: i.argument,
         read: false,
@@ -55,7 +55,7 @@ fn address(i: Statement, x: Thread, addresses: &[u16], values: &[u16]) -> Cell
 }
 
 // The word at the address a of a statement that takes one: of CAS the cell.
-fn word(i: Statement, x: Thread, addresses: &[u16], values: &[u16], a: u16) -> Cell
+fn word(i: Statement, x: Thread, addresses: &[u16], values: &[u16], a: u16) -> Word
     requires { ⌜ (takesWord (i .number) ≡ true)
         × (a ≡ addressOf i x (memoryIn (now addresses) (now values))) ⌝ }
     ensures { λ r. ⌜ (r .known ≡ (not (readsAddress i x a) || knownIn (now (addresses .entry)) a))

@@ -6,4 +6,5 @@ pub mod Maps
 pub mod Places
 mod Samples
 pub mod Sets
+pub mod StatementRecords
 mod Words

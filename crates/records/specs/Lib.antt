@@ -2,3 +2,4 @@
 pub mod Instructions
 pub mod Maps
 pub mod Sets
+pub mod StatementRecords

@@ -7,15 +7,19 @@ use lib.ListN.{length}
 use Rattle.base.specs.Below.{every, least}
 use Rattle.base.specs.Bytes.{wordAt}
 
+-- the bytes of a map cell
+abbrev pub cellLength : ℕ
+cellLength = 4
+
 -- Map cell, 4 bytes: address, value.
 abbrev pub cells : List ℕ → ℕ
-cells bytes = length bytes / 4
+cells bytes = length bytes / cellLength
 
 abbrev pub addressAt : List ℕ → ℕ → ℕ
-addressAt bytes k = wordAt bytes (4 * k)
+addressAt bytes k = wordAt bytes (cellLength * k)
 
 abbrev pub valueAt : List ℕ → ℕ → ℕ
-valueAt bytes k = wordAt bytes (4 * k + 2)
+valueAt bytes k = wordAt bytes (cellLength * k + 2)
 
 -- Addresses strictly ascend.
 unfoldable pub ascendsAt : List ℕ → ℕ → Bool
@@ -31,7 +35,7 @@ runCells = 256
 -- A map is accepted unless 9 refuses it: whole records, at most `limit` of them (128 for a set's map, 256 in simulation and replay).
 unfoldable pub mapAccepted : ℕ → List ℕ → Bool
 mapAccepted limit bytes =
-    eqb (length bytes % 4) 0 && leb (cells bytes) limit && every (cells bytes) (ascendsAt bytes)
+    eqb (length bytes % cellLength) 0 && leb (cells bytes) limit && every (cells bytes) (ascendsAt bytes)
 
 -- ---- cells by address
 

@@ -12,29 +12,49 @@ use Rattle.records.specs.Instructions.{FENCE, HALT, CHECK, instructions,
 use Rattle.records.specs.declared.Statement.{Statement}
 use Rattle.records.specs.declared.Layout.{Layout}
 
+-- ---- limits
+
+-- At most 4 threads of at most 32 statements, and at most 8 different checkpoints.
+abbrev pub mostThreads : ℕ
+mostThreads = 4
+
+abbrev pub mostStatements : ℕ
+mostStatements = 32
+
+abbrev pub mostCheckpoints : ℕ
+mostCheckpoints = 8
+
+-- the most statements of a set
+abbrev pub mostRecords : ℕ
+mostRecords = mostThreads * mostStatements
+
 -- ---- fields
+
+-- the bytes of a statement record
+abbrev pub recordLength : ℕ
+recordLength = 8
 
 -- Statement, 8 bytes: thread, instruction number, mode (1 indirect), 0, argument (2), pc (2).
 abbrev pub records : List ℕ → ℕ
-records bytes = length bytes / 8
+records bytes = length bytes / recordLength
 
 abbrev pub threadAt : List ℕ → ℕ → ℕ
-threadAt bytes k = getD bytes (8 * k) 0
+threadAt bytes k = getD bytes (recordLength * k) 0
 
 abbrev pub numberAt : List ℕ → ℕ → ℕ
-numberAt bytes k = getD bytes (8 * k + 1) 0
+numberAt bytes k = getD bytes (recordLength * k + 1) 0
 
 abbrev pub modeAt : List ℕ → ℕ → ℕ
-modeAt bytes k = getD bytes (8 * k + 2) 0
+modeAt bytes k = getD bytes (recordLength * k + 2) 0
 
 abbrev pub spareAt : List ℕ → ℕ → ℕ
-spareAt bytes k = getD bytes (8 * k + 3) 0
+spareAt bytes k = getD bytes (recordLength * k + 3) 0
 
 abbrev pub argumentAt : List ℕ → ℕ → ℕ
-argumentAt bytes k = wordAt bytes (8 * k + 4)
+argumentAt bytes k = wordAt bytes (recordLength * k + 4)
 
 abbrev pub pcAt : List ℕ → ℕ → ℕ
-pcAt bytes k = wordAt bytes (8 * k + 6)
+pcAt bytes k = wordAt bytes (recordLength * k + 6)
 
 abbrev pub statementAt : List ℕ → ℕ → Statement
 statementAt bytes k = record { number = numberAt bytes k; mode = modeAt bytes k; argument = argumentAt bytes k }
@@ -92,8 +112,8 @@ argumentFits bytes k =
 -- At most 4 threads of at most 32 statements; only memory words have mode 1.
 unfoldable pub recordFits : List ℕ → ℕ → Bool
 recordFits bytes k =
-    ltb (threadAt bytes k) 4
-    && ltb (pcAt bytes k) 32
+    ltb (threadAt bytes k) mostThreads
+    && ltb (pcAt bytes k) mostStatements
     && ltb (numberAt bytes k) instructions
     && leb (modeAt bytes k) (cond (isMemory (numberAt bytes k)) 1 0)
     && eqb (spareAt bytes k) 0
@@ -110,19 +130,19 @@ opensAt bytes k = eqb (numberAt bytes k) CHECK && not (some k (checksAt bytes (a
 -- A set is accepted unless 9 refuses it: whole records, 1 to 4 threads of 1 to 32 statements, at most 8 different checkpoints.
 unfoldable pub setAccepted : List ℕ → Bool
 setAccepted bytes =
-    eqb (length bytes % 8) 0
+    eqb (length bytes % recordLength) 0
     && ltb 0 (records bytes)
     && every (records bytes) (λ k. follows bytes k && recordFits bytes k)
     && isLast (numberAt bytes (records bytes - 1))
-    && leb (number (records bytes) (opensAt bytes)) 8
+    && leb (number (records bytes) (opensAt bytes)) mostCheckpoints
 
 -- what acceptance says of the set itself: 1 to 4 threads of 1 to 32 statements, each one of the twenty, no jump beyond its thread,
 -- and EXIT, JMP or HALT at each thread's end
 pub record WellFormedSet (S : Set) : Type 0 where
   pub someThread : 1 ≤ S .threads
-  pub fourThreads : S .threads ≤ 4
+  pub fourThreads : S .threads ≤ mostThreads
   pub someStatement : (t : ℕ) → t < S .threads → 1 ≤ S .count t
-  pub fewStatements : (t : ℕ) → t < S .threads → S .count t ≤ 32
+  pub fewStatements : (t : ℕ) → t < S .threads → S .count t ≤ mostStatements
   pub noThread : (t : ℕ) → S .threads ≤ t → S .count t ≡ 0
   pub numbers : (t p : ℕ) → p < S .count t → S .statement t p .number < instructions
   pub modes : (t p : ℕ) → p < S .count t → S .statement t p .mode ≤ cond (isMemory (S .statement t p .number)) 1 0

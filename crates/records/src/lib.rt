@@ -21,8 +21,8 @@ pub struct Statement {
 // The threads of an accepted set, with the place and the number of each one's statements.
 pub struct Layout {
     pub threads: u8,
-    pub starts: [u16; 4],
-    pub counts: [u16; 4],
+    pub starts: [u16; Layout::THREADS],
+    pub counts: [u16; Layout::THREADS],
 }
 
 impl Statement {
@@ -38,7 +38,7 @@ impl Layout {
     // The most statements of a thread.
     pub const STATEMENTS: u16 = 32;
     // The most statements of a set.
-    pub const RECORDS: usize = 128;
+    pub const RECORDS: usize = Layout::THREADS * (Layout::STATEMENTS as usize);
     // Bytes of the longest set.
     pub const SET: usize = Statement::SIZE * Layout::RECORDS;
     // The most cells of a set's map.

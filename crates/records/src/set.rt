@@ -4,7 +4,7 @@ ghost use mathlib.Core.Bool.{_&&_};
 ghost use Prim.Native.Nat.{_≤_, _<_};
 ghost use lib.Dec.{leb};
 ghost use Rattle.base.specs.Below.{every, some, number};
-ghost use Rattle.records.specs.Sets.{records, argumentAt, threadAt, countOf, follows, argumentFits, recordFits, checksAt, opensAt, setAccepted, countsOf, layoutOf};
+ghost use Rattle.records.specs.Sets.{records, argumentAt, threadAt, countOf, follows, argumentFits, recordFits, checksAt, opensAt, setAccepted, countsOf, layoutOf, mostCheckpoints, mostRecords};
 use crate::Layout;
 use crate::Statement;
 use crate::instructions::CHECK;
@@ -55,7 +55,7 @@ fn argument_fits(set: &[u8], k: usize, count: u16) -> bool
 }
 
 // Whether record k's fields are in their ranges, given how many statements each thread has.
-fn record_fits(set: &[u8], k: usize, counts: [u16; 4]) -> bool
+fn record_fits(set: &[u8], k: usize, counts: [u16; Layout::THREADS]) -> bool
     requires { ⌜ (k < records (now set)) × (counts ≡ countsOf (now set)) ⌝ }
     ensures { λ r. ⌜ r ≡ recordFits (now (set .entry)) k ⌝ }
 {
@@ -76,7 +76,7 @@ fn record_fits(set: &[u8], k: usize, counts: [u16; 4]) -> bool
 }
 
 // Whether every record follows the one before it and fits.
-fn records_fit(set: &[u8], counts: [u16; 4]) -> bool
+fn records_fit(set: &[u8], counts: [u16; Layout::THREADS]) -> bool
     requires { ⌜ counts ≡ countsOf (now set) ⌝ }
     ensures { λ r. ⌜ r ≡ every (records (now (set .entry))) (λ k. follows (now (set .entry)) k && recordFits (now (set .entry)) k) ⌝ }
 {
@@ -129,7 +129,7 @@ fn opens(set: &[u8], k: usize) -> bool
 
 // Whether there are at most 8 different checkpoints; it stops at a ninth.
 pub fn few_checkpoints(set: &[u8]) -> bool
-    ensures { λ r. ⌜ r ≡ leb (number (records (now (set .entry))) (opensAt (now (set .entry)))) 8 ⌝ }
+    ensures { λ r. ⌜ r ≡ leb (number (records (now (set .entry))) (opensAt (now (set .entry)))) mostCheckpoints ⌝ }
 {
     let n = set.len() / Statement::SIZE;
     let mut found: u8 = 0;
@@ -147,8 +147,8 @@ pub fn few_checkpoints(set: &[u8]) -> bool
 }
 
 // How many statements each thread has. Four counters keep the loop free of stores.
-fn counts_of(set: &[u8]) -> [u16; 4]
-    requires { ⌜ records (now set) ≤ 128 ⌝ }
+fn counts_of(set: &[u8]) -> [u16; Layout::THREADS]
+    requires { ⌜ records (now set) ≤ mostRecords ⌝ }
     ensures { λ r. ⌜ r ≡ countsOf (now (set .entry)) ⌝ }
 {
     let n = set.len() / Statement::SIZE;
@@ -169,7 +169,7 @@ fn counts_of(set: &[u8]) -> [u16; 4]
 }
 
 // Whether a set is accepted, given how many statements each thread has.
-fn accepted(set: &[u8], counts: [u16; 4]) -> bool
+fn accepted(set: &[u8], counts: [u16; Layout::THREADS]) -> bool
     requires { ⌜ counts ≡ countsOf (now set) ⌝ }
     ensures { λ r. ⌜ r ≡ setAccepted (now (set .entry)) ⌝ }
 {
@@ -210,7 +210,7 @@ pub fn layout(set: &[u8]) -> Layout
     }
     Layout {
         threads: 0,
-        starts: [0; 4],
-        counts: [0; 4],
+        starts: [0; Layout::THREADS],
+        counts: [0; Layout::THREADS],
     }
 }

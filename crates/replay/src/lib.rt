@@ -1,8 +1,8 @@
 // Replay of a trace: its answer.
 ghost use mathlib.Core.Path.{_≡_};
 ghost use Prim.Native.Nat.{_≤_};
-ghost use Rattle.records.specs.Maps.{cells};
-ghost use Rattle.records.specs.Sets.{setBy};
+ghost use Rattle.records.specs.Maps.{cells, runCells};
+ghost use Rattle.records.specs.Sets.{setBy, mostThreads};
 ghost use Rattle.replay.specs.Replay.{limitedTrace, replayed};
 use machine::Machine;
 use machine::RunAnswer;
@@ -18,7 +18,7 @@ fn refused(number: u8) -> RunAnswer
 
 // The call once set and map are accepted.
 fn accepted(set: &[u8], layout: Layout, map: &[u8], trace: &[u8]) -> RunAnswer
-    requires { ⌜ (layout .threads ≤ 4) × (cells (now map) ≤ 256) ⌝ }
+    requires { ⌜ (layout .threads ≤ mostThreads) × (cells (now map) ≤ runCells) ⌝ }
     ensures { λ r. ⌜ r ≡ limitedTrace (setBy (now (set .entry)) layout) (now (map .entry)) (now (trace .entry)) ⌝ }
 {
     let whole = trace.len() % Machine::STEP;

@@ -8,7 +8,7 @@ use native.Mathlib.Decide.{decLt, ℕ-discrete}
 use lib.ListN.{length, getD, set, replicate, length-set, length-replicate, getD-replicate, List·getD-append, List·getD-eq-default}
 use lib.Seq.{getD-set-same, getD-set-other}
 use Rattle.records.specs.Sets.{Set}
-use Rattle.set_index.specs.Members.{inClass, members, membersOf, rowIndex, Row, Members, Filled}
+use Rattle.set_index.specs.Members.{inClass, members, membersOf, rowIndex, Row, Members, Filled, membersLength, classCount}
 use Rattle.set_index.proofs.Listed.{added-length, added-last, members-few, members-more, members-none}
 
 -- ---- rows
@@ -71,7 +71,7 @@ module _ (bytes : List ℕ) (d u n v : ℕ) (thread : u < 4) (room : n < 32) whe
 
 -- ---- the table
 
-module _ (S : Set) (t i m : ℕ) (bytes : List ℕ) (class : m < 11) (thread : t < 4) (column : i < 32) (f : Filled S t i m bytes) where
+module _ (S : Set) (t i m : ℕ) (bytes : List ℕ) (class : m < classCount) (thread : t < 4) (column : i < 32) (f : Filled S t i m bytes) where
   -- a class more, by a table in which the row of the class has what it should and the other rows stay
   filled-by : (after : List ℕ) → length after ≡ length bytes →
       ((c u : ℕ) (ms : List ℕ) → u < 4 → length ms ≤ 32 → (c ≡ m → u ≡ t → ⊥) → Row bytes c u ms → Row after c u ms) →
@@ -79,20 +79,20 @@ module _ (S : Set) (t i m : ℕ) (bytes : List ℕ) (class : m < 11) (thread : t
   filled-by after same stays new = record {
     whole = same ∙ f .whole;
     few = f .few;
-    before = λ (c u : ℕ) (p : c < 11) (q : u < 4) (h : u < t).
+    before = λ (c u : ℕ) (p : c < classCount) (q : u < 4) (h : u < t).
         let l = members-few S c u (S .count u) in
         let k = f .few u q in
         stays c u (membersOf S c u) q (omega arith) (λ a (b : u ≡ t). omega arith) (f .before c u p q h);
-    done = λ (c : ℕ) (p : c < 11) (q : t < 4) (h : c < m + 1). elim (ℕ-discrete c m) [
+    done = λ (c : ℕ) (p : c < classCount) (q : t < 4) (h : c < m + 1). elim (ℕ-discrete c m) [
       | yes e ↦ subst (λ (x : ℕ). Row after x t (members S x t (i + 1))) (sym e) new
       | no e ↦
           let l = members-few S c t (i + 1) in
           stays c t (members S c t (i + 1)) q (omega arith) (λ a b. e a) (f .done c p q (omega arith))
     ];
-    due = λ (c : ℕ) (p : c < 11) (q : t < 4) (h : m + 1 ≤ c).
+    due = λ (c : ℕ) (p : c < classCount) (q : t < 4) (h : m + 1 ≤ c).
         let l = members-few S c t i in
         stays c t (members S c t i) q (omega arith) (λ (a : c ≡ m) b. omega arith) (f .due c p q (omega arith));
-    after = λ (c u : ℕ) (p : c < 11) (q : u < 4) (h : t < u). stays c u [] q (omega arith) (λ a (b : u ≡ t). omega arith) (f .after c u p q h);
+    after = λ (c u : ℕ) (p : c < classCount) (q : u < 4) (h : t < u). stays c u [] q (omega arith) (λ a (b : u ≡ t). omega arith) (f .after c u p q h);
   }
 
   -- the statement does not belong to the class
@@ -126,7 +126,7 @@ module _ (S : Set) where
     few = f .few;
     before = f .before;
     done = λ (c : ℕ) p q (h : c < 0). absurd (omega arith);
-    due = λ (c : ℕ) (p : c < 11) q h. f .done c p q p;
+    due = λ (c : ℕ) (p : c < classCount) q h. f .done c p q p;
     after = f .after;
   }
 
@@ -135,27 +135,27 @@ module _ (S : Set) where
   filled-thread t i bytes e f = record {
     whole = f .whole;
     few = f .few;
-    before = λ (c u : ℕ) (p : c < 11) (q : u < 4) (h : u < t + 1). elim (ℕ-discrete u t) [
+    before = λ (c u : ℕ) (p : c < classCount) (q : u < 4) (h : u < t + 1). elim (ℕ-discrete u t) [
       | yes same ↦
           let k : t < 4 = omega arith in
           subst (λ (x : ℕ). Row bytes c x (membersOf S c x)) (sym same) (subst (λ (x : ℕ). Row bytes c t (members S c t x)) e (f .due c p k (omega arith)))
       | no other ↦ f .before c u p q (omega arith)
     ];
     done = λ (c : ℕ) p q (h : c < 0). absurd (omega arith);
-    due = λ (c : ℕ) (p : c < 11) (q : t + 1 < 4) h. subst (Row bytes c (t + 1)) (sym (members-none S c (t + 1))) (f .after c (t + 1) p q (omega arith));
-    after = λ (c u : ℕ) (p : c < 11) (q : u < 4) (h : t + 1 < u). f .after c u p q (omega arith);
+    due = λ (c : ℕ) (p : c < classCount) (q : t + 1 < 4) h. subst (Row bytes c (t + 1)) (sym (members-none S c (t + 1))) (f .after c (t + 1) p q (omega arith));
+    after = λ (c u : ℕ) (p : c < classCount) (q : u < 4) (h : t + 1 < u). f .after c u p q (omega arith);
   }
 
   module _ (few : (t : ℕ) → t < 4 → S .count t ≤ 32) where
-    pub filled-none : Filled S 0 0 0 (replicate 1452 0)
+    pub filled-none : Filled S 0 0 0 (replicate membersLength 0)
     filled-none = record {
-      whole = length-replicate {A = ℕ} 1452 0;
+      whole = length-replicate {A = ℕ} membersLength 0;
       few = few;
       before = λ (c u : ℕ) p q (h : u < 0). absurd (omega arith);
       done = λ (c : ℕ) p q (h : c < 0). absurd (omega arith);
-      due = λ (c : ℕ) p q h. subst (Row (replicate 1452 0) c 0) (sym (members-none S c 0)) (row-none 1452 c 0);
-      after = λ (c u : ℕ) p q h. row-none 1452 c u;
+      due = λ (c : ℕ) p q h. subst (Row (replicate membersLength 0) c 0) (sym (members-none S c 0)) (row-none membersLength c 0);
+      after = λ (c u : ℕ) p q h. row-none membersLength c u;
     }
 
   pub filled-all : (bytes : List ℕ) → Filled S 4 0 0 bytes → Members S bytes
-  filled-all bytes f = record { whole = f .whole; few = f .few; row = λ (c t : ℕ) (p : c < 11) (q : t < 4). f .before c t p q q }
+  filled-all bytes f = record { whole = f .whole; few = f .few; row = λ (c t : ℕ) (p : c < classCount) (q : t < 4). f .before c t p q q }

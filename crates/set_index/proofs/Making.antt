@@ -13,7 +13,7 @@ use Rattle.records.specs.Sets.{Set}
 use Rattle.machine.specs.Machine.{isCheck, contains}
 use Rattle.set_index.specs.Members.{inClass, membersOf}
 use Rattle.set_index.proofs.Listed.{members-below, members-belong}
-use Rattle.set_index.specs.ListTables.{ListTable, Distinct, ListsAt, ChecksOf, JumpsOf, Listing, Made, allOf, inList, many, name, onward, put}
+use Rattle.set_index.specs.ListTables.{ListTable, Distinct, ListsAt, ChecksOf, JumpsOf, Listing, Made, allOf, inList, many, name, onward, put, listsLength, noStatement}
 use Rattle.set_index.proofs.Contains.{contains-at, contains-none}
 use Rattle.set_index.proofs.Growing.{lists-as, put-head, put-next, put-others, From, from-none, from-all, from-same, from-more}
 
@@ -109,17 +109,17 @@ kept S cs c t few heads nexts before table first next old =
 
 module _ (S : Set) (cs : List ℕ) (most : length cs ≤ 8) (few : (t : ℕ) → t < 4 → S .count t ≤ 32) where
   -- no list is made
-  pub made-none : (table : List ℕ) → table ≡ replicate 416 32 → Made S cs 0 table
+  pub made-none : (table : List ℕ) → table ≡ replicate listsLength noStatement → Made S cs 0 table
   made-none table e = record {
-    whole = ap length e ∙ length-replicate {A = ℕ} 416 32;
+    whole = ap length e ∙ length-replicate {A = ℕ} listsLength noStatement;
     checks = λ (u : ℕ) (l : u < 0) h. absurd (omega arith);
     jumps = λ (u : ℕ) (l : u < 0) h. absurd (omega arith);
     noChecks = λ (u p : ℕ) l (h : u < 4) (k : p < 8). empty (8 * u + p) (omega arith);
     noJumps = λ (u j : ℕ) l (h : u < 4) (k : j < 32). empty (160 + 32 * u + j) (omega arith);
   }
     where
-      empty : (k : ℕ) → k < 416 → getD table k 0 ≡ 32
-      empty k h = ap (λ (xs : List ℕ). getD xs k 0) e ∙ getD-replicate 416 k 32 0 h
+      empty : (k : ℕ) → k < listsLength → getD table k 0 ≡ noStatement
+      empty k h = ap (λ (xs : List ℕ). getD xs k 0) e ∙ getD-replicate listsLength k noStatement 0 h
 
   -- all are
   pub made-all : (t : ℕ) → t ≡ S .threads → t ≤ 4 → (table : List ℕ) → Made S cs t table → ListTable S cs table

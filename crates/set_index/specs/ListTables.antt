@@ -7,7 +7,7 @@ use mathlib.Core.Bool.{Bool, cond, _&&_}
 use mathlib.Core.List.{List, []}
 use lib.Dec.{eqb, ltb}
 use lib.ListN.{length, set, getD}
-use Rattle.records.specs.Sets.{Set}
+use Rattle.records.specs.Sets.{Set, mostThreads, mostStatements, mostCheckpoints}
 use Rattle.set_index.specs.Members.{inClass, checkClass, jumpClass}
 use Rattle.set_index.specs.Lists.{Lists}
 
@@ -62,9 +62,9 @@ JumpsOf S t count = ListsAt S [] jumpClass t (λ x. x < count) (firstJumps t) (n
 -- the bytes are the table of a set of at most four threads of 32 statements, with at most eight checkpoints
 pub record ListTable (S : Set) (cs : List ℕ) (table : List ℕ) : Type 0 where
   pub whole : length table ≡ listsLength
-  pub fourThreads : S .threads ≤ 4
-  pub eightPoints : length cs ≤ 8
-  pub fewStatements : (t : ℕ) → t < S .threads → S .count t ≤ 32
+  pub fourThreads : S .threads ≤ mostThreads
+  pub eightPoints : length cs ≤ mostCheckpoints
+  pub fewStatements : (t : ℕ) → t < S .threads → S .count t ≤ mostStatements
   pub checks : (t : ℕ) → t < S .threads → ChecksOf S cs t table
   pub jumps : (t : ℕ) → t < S .threads → JumpsOf S t (S .count t) table
 
@@ -90,7 +90,7 @@ pub record Listing (S : Set) (cs : List ℕ) (c t : ℕ) (In : ℕ → Type 0) (
 -- the lists of the threads before t are there, those of the others are empty
 pub record Made (S : Set) (cs : List ℕ) (t : ℕ) (table : List ℕ) : Type 0 where
   pub whole : length table ≡ listsLength
-  pub checks : (u : ℕ) → u < t → u < 4 → ChecksOf S cs u table
-  pub jumps : (u : ℕ) → u < t → u < 4 → JumpsOf S u (S .count u) table
-  pub noChecks : (u p : ℕ) → t ≤ u → u < 4 → p < 8 → getD table (firstChecks u + p) 0 ≡ noStatement
-  pub noJumps : (u j : ℕ) → t ≤ u → u < 4 → j < 32 → getD table (firstJumps u + j) 0 ≡ noStatement
+  pub checks : (u : ℕ) → u < t → u < mostThreads → ChecksOf S cs u table
+  pub jumps : (u : ℕ) → u < t → u < mostThreads → JumpsOf S u (S .count u) table
+  pub noChecks : (u p : ℕ) → t ≤ u → u < mostThreads → p < mostCheckpoints → getD table (firstChecks u + p) 0 ≡ noStatement
+  pub noJumps : (u j : ℕ) → t ≤ u → u < mostThreads → j < mostStatements → getD table (firstJumps u + j) 0 ≡ noStatement

@@ -6,7 +6,7 @@ use mathlib.Core.List.{List, [], _∷_, _++_}
 use lib.Dec.{eqb}
 use lib.ListN.{length, getD}
 use Rattle.records.specs.Instructions.{STORE, MEM, CAS, HALT, EXIT, CHECK, isJump}
-use Rattle.records.specs.Sets.{Set}
+use Rattle.records.specs.Sets.{Set, mostThreads, mostStatements}
 use Rattle.records.specs.declared.Statement.{Statement}
 use Rattle.machine.specs.Machine.{needsEmpty}
 use Rattle.encoding.specs.Steps.{Link, skip, setsAccu, loads, isConditional}
@@ -105,17 +105,17 @@ pub record Row (bytes : List ℕ) (c t : ℕ) (ms : List ℕ) : Type 0 where
 -- the bytes are the table of a set whose threads have at most 32 statements each
 pub record Members (S : Set) (bytes : List ℕ) : Type 0 where
   pub whole : length bytes ≡ membersLength
-  pub few : (t : ℕ) → t < 4 → S .count t ≤ 32
-  pub row : (c t : ℕ) → c < classCount → t < 4 → Row bytes c t (membersOf S c t)
+  pub few : (t : ℕ) → t < mostThreads → S .count t ≤ mostStatements
+  pub row : (c t : ℕ) → c < classCount → t < mostThreads → Row bytes c t (membersOf S c t)
 
 -- the table while it is made, of the threads before t, of the first i statements of thread t, and for the first m classes of statement i too
 pub record Filled (S : Set) (t i m : ℕ) (bytes : List ℕ) : Type 0 where
   pub whole : length bytes ≡ membersLength
-  pub few : (u : ℕ) → u < 4 → S .count u ≤ 32
-  pub before : (c u : ℕ) → c < classCount → u < 4 → u < t → Row bytes c u (membersOf S c u)
-  pub done : (c : ℕ) → c < classCount → t < 4 → c < m → Row bytes c t (members S c t (i + 1))
-  pub due : (c : ℕ) → c < classCount → t < 4 → m ≤ c → Row bytes c t (members S c t i)
-  pub after : (c u : ℕ) → c < classCount → u < 4 → t < u → Row bytes c u []
+  pub few : (u : ℕ) → u < mostThreads → S .count u ≤ mostStatements
+  pub before : (c u : ℕ) → c < classCount → u < mostThreads → u < t → Row bytes c u (membersOf S c u)
+  pub done : (c : ℕ) → c < classCount → t < mostThreads → c < m → Row bytes c t (members S c t (i + 1))
+  pub due : (c : ℕ) → c < classCount → t < mostThreads → m ≤ c → Row bytes c t (members S c t i)
+  pub after : (c u : ℕ) → c < classCount → u < mostThreads → t < u → Row bytes c u []
 
 -- ---- jumps
 

@@ -2,7 +2,7 @@
 ghost use mathlib.Core.Path.{_≡_};
 ghost use Prim.Native.Nat.{ℕ, _+_, _≤_, _<_};
 ghost use lib.ListN.{length, getD, replicate};
-ghost use Rattle.records.specs.Sets.{Set, setBy};
+ghost use Rattle.records.specs.Sets.{Set, setBy, mostThreads, mostStatements};
 ghost use Rattle.set_index.specs.Members.{inClass, membersOf, Members, Filled, classCount, membersLength};
 use crate::classes::is_conditional;
 use crate::classes::loads;
@@ -44,13 +44,13 @@ pub const IS_CONDITIONAL: u8 = 10;
 pub const CLASSES: u8 = 11;
 
 // The length of a row, which is of a class and a thread: how many members, then the members.
-const ROW: usize = 33;
+const ROW: usize = 1 + (Layout::STATEMENTS as usize);
 
 // The length of the rows of a class.
 const CLASS: usize = Layout::THREADS * ROW;
 
 // The length of the table.
-pub const LENGTH: usize = 1452;
+pub const LENGTH: usize = (CLASSES as usize) * CLASS;
 
 // The most members of a row.
 const STATEMENTS: u8 = Layout::STATEMENTS as u8;
@@ -59,7 +59,7 @@ const THREADS: u8 = Layout::THREADS as u8;
 
 // How many statements of thread t are of a class.
 pub fn count_of(members: &[u8], class: u8, t: u8) -> u16
-    ensures { λ r. ⌜ ((S : Set) → Members S (now (members .entry)) → class < classCount → t < 4 → r ≡ length (membersOf S class t)) × (r ≤ 32) ⌝ }
+    ensures { λ r. ⌜ ((S : Set) → Members S (now (members .entry)) → class < classCount → t < mostThreads → r ≡ length (membersOf S class t)) × (r ≤ mostStatements) ⌝ }
 {
     let many = base::byte_at(members, CLASS * (class as usize) + ROW * (t as usize));
     if many < STATEMENTS {
@@ -70,7 +70,7 @@ pub fn count_of(members: &[u8], class: u8, t: u8) -> u16
 
 // Which statement is the one of number j among them.
 pub fn member(members: &[u8], class: u8, t: u8, j: u16) -> u16
-    ensures { λ r. ⌜ ((S : Set) → Members S (now (members .entry)) → class < classCount → t < 4 → j < length (membersOf S class t)
+    ensures { λ r. ⌜ ((S : Set) → Members S (now (members .entry)) → class < classCount → t < mostThreads → j < length (membersOf S class t)
         → r ≡ getD (membersOf S class t) j 0) ⌝ }
 {
     let row = CLASS * (class as usize) + ROW * (t as usize);
@@ -80,7 +80,7 @@ pub fn member(members: &[u8], class: u8, t: u8, j: u16) -> u16
 // Adds statement i of thread t to the members of a class, where it belongs to them.
 fn visit(members: &mut [u8], class: u8, t: u8, i: u8, belongs: bool)
     ensures { λ _. ⌜ (length (now (members .exit)) ≡ length (now (members .entry)))
-        × ((S : Set) → class < classCount → t < 4 → i < 32 → belongs ≡ inClass class (S .statement t i .number)
+        × ((S : Set) → class < classCount → t < mostThreads → i < mostStatements → belongs ≡ inClass class (S .statement t i .number)
         → Filled S t i class (now (members .entry)) → Filled S t i (class + 1) (now (members .exit))) ⌝ }
 {
     if belongs {
@@ -99,7 +99,7 @@ fn visit(members: &mut [u8], class: u8, t: u8, i: u8, belongs: bool)
 // Visits the first five classes for statement i of thread t, of instruction n. A proof allows five calls that lend one buffer.
 fn visit_first(members: &mut [u8], t: u8, i: u8, n: u8)
     ensures { λ _. ⌜ (length (now (members .exit)) ≡ length (now (members .entry)))
-        × ((S : Set) → t < 4 → i < 32 → n ≡ S .statement t i .number → Filled S t i 0 (now (members .entry)) → Filled S t i 5 (now (members .exit))) ⌝ }
+        × ((S : Set) → t < mostThreads → i < mostStatements → n ≡ S .statement t i .number → Filled S t i 0 (now (members .entry)) → Filled S t i 5 (now (members .exit))) ⌝ }
 {
     visit(members, IS_STORE, t, i, n == STORE);
     visit(members, IS_MEM, t, i, n == MEM);
@@ -111,7 +111,7 @@ fn visit_first(members: &mut [u8], t: u8, i: u8, n: u8)
 // Visits the next four classes.
 fn visit_next(members: &mut [u8], t: u8, i: u8, n: u8)
     ensures { λ _. ⌜ (length (now (members .exit)) ≡ length (now (members .entry)))
-        × ((S : Set) → t < 4 → i < 32 → n ≡ S .statement t i .number → Filled S t i 5 (now (members .entry)) → Filled S t i 9 (now (members .exit))) ⌝ }
+        × ((S : Set) → t < mostThreads → i < mostStatements → n ≡ S .statement t i .number → Filled S t i 5 (now (members .entry)) → Filled S t i 9 (now (members .exit))) ⌝ }
 {
     visit(members, IS_EXIT, t, i, n == EXIT);
     visit(members, NEEDS_EMPTY, t, i, needs_empty(n));
@@ -122,7 +122,7 @@ fn visit_next(members: &mut [u8], t: u8, i: u8, n: u8)
 // Visits the last two classes.
 fn visit_last(members: &mut [u8], t: u8, i: u8, n: u8)
     ensures { λ _. ⌜ (length (now (members .exit)) ≡ length (now (members .entry)))
-        × ((S : Set) → t < 4 → i < 32 → n ≡ S .statement t i .number → Filled S t i 9 (now (members .entry)) → Filled S t i 11 (now (members .exit))) ⌝ }
+        × ((S : Set) → t < mostThreads → i < mostStatements → n ≡ S .statement t i .number → Filled S t i 9 (now (members .entry)) → Filled S t i 11 (now (members .exit))) ⌝ }
 {
     visit(members, LOADS, t, i, loads(n));
     visit(members, IS_CONDITIONAL, t, i, is_conditional(n));
@@ -130,7 +130,7 @@ fn visit_last(members: &mut [u8], t: u8, i: u8, n: u8)
 
 // How many of a thread's statements the table is of.
 fn listed_count(count: u16) -> u8
-    ensures { λ r. ⌜ (r ≤ 32) × (count ≤ 32 → r ≡ count) ⌝ }
+    ensures { λ r. ⌜ (r ≤ mostStatements) × (count ≤ mostStatements → r ≡ count) ⌝ }
 {
     if count < Layout::STATEMENTS {
         return count as u8;
@@ -141,7 +141,7 @@ fn listed_count(count: u16) -> u8
 // Makes the table for a thread.
 fn make_thread(set: &[u8], layout: Layout, members: &mut [u8], t: u8)
     ensures { λ _. ⌜ (length (now (members .exit)) ≡ length (now (members .entry)))
-        × (t < 4 → Filled (setBy (now (set .entry)) layout) t 0 0 (now (members .entry))
+        × (t < mostThreads → Filled (setBy (now (set .entry)) layout) t 0 0 (now (members .entry))
         → Filled (setBy (now (set .entry)) layout) (t + 1) 0 0 (now (members .exit))) ⌝ }
 {
     // With these known, the compiler drops the tests of places in the loop.
@@ -167,7 +167,7 @@ fn make_thread(set: &[u8], layout: Layout, members: &mut [u8], t: u8)
 // Makes the table.
 pub fn make(set: &[u8], layout: Layout, members: &mut [u8])
     ensures { λ _. ⌜ (length (now (members .exit)) ≡ length (now (members .entry)))
-        × (now (members .entry) ≡ replicate membersLength 0 → ((t : ℕ) → t < 4 → getD (layout .counts) t 0 ≤ 32)
+        × (now (members .entry) ≡ replicate membersLength 0 → ((t : ℕ) → t < mostThreads → getD (layout .counts) t 0 ≤ mostStatements)
         → Members (setBy (now (set .entry)) layout) (now (members .exit))) ⌝ }
 {
     make_thread(set, layout, members, 0);

@@ -2,7 +2,8 @@
 ghost use mathlib.Core.Path.{_≡_};
 ghost use Prim.Native.Nat.{_+_, _≤_, _<_};
 ghost use lib.ListN.{length, getD};
-ghost use Rattle.set_index.specs.ListTables.{onward, put};
+ghost use Rattle.set_index.specs.ListTables.{onward, put, noStatement};
+ghost use Rattle.records.specs.Sets.{mostStatements};
 use crate::lists::NONE;
 use crate::lists::STATEMENT_ROW;
 
@@ -27,9 +28,9 @@ pub fn next(table: &[u8], row: u16, i: u16) -> u16
 // Puts statement i before the others of a list. The first ones stand from `heads` on, the next ones from `nexts` on.
 pub fn add(table: &mut [u8], heads: u16, nexts: u16, list: u16, i: u16)
     ensures { λ _. ⌜ (length (now (table .exit)) ≡ length (now (table .entry)))
-        × (list < 32 → i < 32 → heads + list < length (now (table .entry)) → nexts + i < length (now (table .entry))
+        × (list < noStatement → i < mostStatements → heads + list < length (now (table .entry)) → nexts + i < length (now (table .entry))
         → now (table .exit) ≡ put (now (table .entry)) (heads + list) (nexts + i) i)
-        × (32 ≤ list → now (table .exit) ≡ now (table .entry)) ⌝ }
+        × (noStatement ≤ list → now (table .exit) ≡ now (table .entry)) ⌝ }
 {
     if NONE <= list {
         return;

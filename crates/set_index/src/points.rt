@@ -3,7 +3,7 @@ ghost use mathlib.Core.Path.{_≡_};
 ghost use mathlib.Core.List.{List};
 ghost use Prim.Native.Nat.{ℕ};
 ghost use lib.ListN.{length, getD, take};
-ghost use Rattle.records.specs.Sets.{setBy};
+ghost use Rattle.records.specs.Sets.{setBy, mostCheckpoints};
 ghost use Rattle.encoding.specs.Checkpoints.{member, noted, notedIn, checkpoints};
 ghost use Rattle.set_index.specs.Points.{listed};
 use records::Layout;
@@ -61,7 +61,7 @@ fn known(points: Points, c: u16) -> bool
 
 // The checkpoints seen once a statement is looked at.
 fn note(points: Points, statement: Statement) -> Points
-    ensures { λ r. ⌜ listed r ≡ take 8 (noted (listed points) statement) ⌝ }
+    ensures { λ r. ⌜ listed r ≡ take mostCheckpoints (noted (listed points) statement) ⌝ }
 {
     if statement.number != CHECK {
         return points;
@@ -85,7 +85,7 @@ fn note(points: Points, statement: Statement) -> Points
 // The checkpoints seen once a thread is looked at.
 fn points_of(set: &[u8], layout: Layout, t: u8, seen: Points) -> Points
     ensures { λ r. ⌜ ((before : List ℕ) → listed seen ≡ take 8 before
-        → listed r ≡ take 8 (notedIn (setBy (now (set .entry)) layout) t before (getD (layout .counts) t 0))) ⌝ }
+        → listed r ≡ take mostCheckpoints (notedIn (setBy (now (set .entry)) layout) t before (getD (layout .counts) t 0))) ⌝ }
 {
     let n = records::count(layout, t);
     let first = records::first(layout, t);
@@ -100,7 +100,7 @@ fn points_of(set: &[u8], layout: Layout, t: u8, seen: Points) -> Points
 
 // The first eight checkpoints of a set: an accepted set has no more.
 pub fn of_set(set: &[u8], layout: Layout) -> Points
-    ensures { λ r. ⌜ listed r ≡ take 8 (checkpoints (setBy (now (set .entry)) layout)) ⌝ }
+    ensures { λ r. ⌜ listed r ≡ take mostCheckpoints (checkpoints (setBy (now (set .entry)) layout)) ⌝ }
 {
     let threads = layout.threads;
     let mut points = Points {

@@ -2,8 +2,8 @@
 ghost use mathlib.Core.Path.{_≡_};
 ghost use Prim.Native.Nat.{_≤_};
 ghost use lib.ListN.{length};
-ghost use Rattle.records.specs.Maps.{cells, mapValue};
-ghost use Rattle.records.specs.Sets.{setBy};
+ghost use Rattle.records.specs.Maps.{cells, mapValue, runCells};
+ghost use Rattle.records.specs.Sets.{setBy, mostThreads};
 ghost use Rattle.machine.specs.Machine.{start, noWrite};
 ghost use Rattle.machine.specs.Runs.{choices};
 ghost use Rattle.machine.specs.Traces.{trace as traceOf};
@@ -28,7 +28,7 @@ fn bytes_out(answer: RunAnswer, bytes: usize) -> usize
 
 // The call once set and map are accepted.
 fn accepted(set: &[u8], layout: Layout, map: &[u8], schedule: &[u8], trace: &mut [u8]) -> RunAnswer
-    requires { ⌜ (layout .threads ≤ 4) × (cells (now map) ≤ 256) ⌝ }
+    requires { ⌜ (layout .threads ≤ mostThreads) × (cells (now map) ≤ runCells) ⌝ }
     ensures { λ r. ⌜ (r ≡ limited (setBy (now (set .entry)) layout) (now (map .entry)) (now (schedule .entry)) (length (now (trace .entry))))
         × (now (trace .exit) ≡ outputOver r (traceOf (setBy (now (set .entry)) layout) (start (mapValue (now (map .entry)))) noWrite (choices (now (schedule .entry)))) (now (trace .entry))) ⌝ }
 {

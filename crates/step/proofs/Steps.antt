@@ -19,7 +19,7 @@ use Rattle.records.specs.Sets.{Set}
 use Rattle.records.specs.declared.Layout.{Layout}
 use Rattle.records.specs.declared.Statement.{Statement}
 use Rattle.machine.proofs.Four.{stored}
-use Rattle.machine.proofs.Runs.{length-traceStep, takes-actor, taken-takes}
+use Rattle.machine.proofs.Runs.{length-traceStep, takes-actor, taken-takes, lacking-takes}
 use Rattle.step.proofs.Settled.{outcome-by, written-by, shown-by, stateBy, stepped, quiet-state}
 use Rattle.machine.specs.Held.{stateOf, memoryOf, knownOf, heldOf}
 use Rattle.step.specs.Acting.{canStep, waits, statementBy, threadBy, writtenBy, outcomeBy, quiet, marksSettled, threadsSettled, Advances}
@@ -73,25 +73,6 @@ pub begins-traced : (replaying : Bool) (n : ℕ) (bytes trace : List ℕ) → (r
     take (length (take n (cond replaying [] trace))) bytes ≡ take n (cond replaying [] trace)
 begins-traced true n bytes trace f = begins-none n bytes
 begins-traced false n bytes trace f = f refl
-
--- a step that lacks a cell can be taken, and reads one that is not known
-module _ (S : Set) (h : Held) (c : Choice) where
-  pub lacking-takes : outcome S h c ≡ Lacking → takes S (h .state) c ≡ true
-  unfolding outcome
-  lacking-takes = go (takes S (h .state) c) (knowsAll (h .known) (reads S (h .state) c))
-    where
-      go : (a b : Bool) → cond a (cond b Taken Lacking) NotPermitted ≡ Lacking → a ≡ true
-      go true b e = refl
-      go false b e = cc
-
-  pub lacking-knows : outcome S h c ≡ Lacking → knowsAll (h .known) (reads S (h .state) c) ≡ false
-  unfolding outcome
-  lacking-knows = go (takes S (h .state) c) (knowsAll (h .known) (reads S (h .state) c))
-    where
-      go : (a b : Bool) → cond a (cond b Taken Lacking) NotPermitted ≡ Lacking → b ≡ false
-      go a false e = refl
-      go true true e = cc
-      go false true e = cc
 
 -- a step refused for a first cell could be taken
 pub lacks : (o : Outcome) (agreed : Bool) → stepRefusal o agreed ≡ 14 → o ≡ Lacking

@@ -2,7 +2,7 @@
 -- nothing.
 use mathlib.Core.Bool.{cond, _&&_}
 use lib.Dec.{leb}
-use Rattle.records.specs.Sets.{Set}
+use Rattle.records.specs.Sets.{Set, mostThreads}
 use Rattle.records.specs.declared.Layout.{Layout}
 use Rattle.machine.specs.Machine.{State}
 use Rattle.machine.specs.Runs.{somePermitted}
@@ -11,4 +11,4 @@ use Rattle.machine.specs.declared.End.the-variants.{Code, Stuck, Open}
 
 -- `endOf` where there are at most four threads
 abbrev pub endFor : Layout → Set → State → End
-endFor layout S s = cond (s .ended) (Code (s .code)) (cond (leb (layout .threads) 4 && somePermitted S s) Open Stuck)
+endFor layout S s = cond (s .ended) (Code (s .code)) (cond (leb (layout .threads) mostThreads && somePermitted S s) Open Stuck)

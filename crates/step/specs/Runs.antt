@@ -7,7 +7,7 @@ use mathlib.Core.List.{List, []}
 use lib.Dec.{eqb, leb}
 use lib.ListN.{length, take}
 use Rattle.records.specs.Maps.{cells, runCells}
-use Rattle.records.specs.Sets.{Set}
+use Rattle.records.specs.Sets.{Set, mostThreads}
 use Rattle.machine.specs.Machine.{noWrite}
 use Rattle.machine.specs.Maps.{begin, follow, retrace}
 use Rattle.machine.specs.Runs.{choices, mostSteps}
@@ -17,7 +17,7 @@ use Rattle.machine.specs.declared.RunAnswer.the-variants.{Ran, Refused}
 
 -- the limits of a run: 4 threads, 256 map cells and 64 steps
 abbrev pub limits : Set → (map : List ℕ) (steps : ℕ) → Bool
-limits S map steps = leb (S .threads) 4 && leb (cells map) runCells && leb steps mostSteps
+limits S map steps = leb (S .threads) mostThreads && leb (cells map) runCells && leb steps mostSteps
 
 -- a schedule's run, where there is room for its trace; 17 past the limits
 unfoldable pub followed : Set → (map schedule : List ℕ) (room : ℕ) → RunAnswer

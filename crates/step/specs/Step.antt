@@ -4,7 +4,7 @@ use Prim.Native.Nat.{ℕ, _+_, _≤_}
 use mathlib.Core.Path.{_≡_}
 use mathlib.Core.Bool.{Bool, cond, _&&_}
 use lib.Dec.{leb, ltb}
-use Rattle.records.specs.Sets.{Set}
+use Rattle.records.specs.Sets.{Set, mostThreads}
 use Rattle.machine.specs.Maps.{Held, outcome, advanced}
 use Rattle.machine.specs.declared.Choice.{Choice}
 use Rattle.machine.specs.declared.Outcome.{Outcome}
@@ -13,7 +13,7 @@ use Rattle.step.specs.declared.Step.{Step}
 
 -- at most four threads, and arrays of these lengths with room for one cell more
 abbrev pub hasRoom : (threads addresses values filled : ℕ) → Bool
-hasRoom threads addresses values filled = leb threads 4 && ltb filled addresses && ltb filled values
+hasRoom threads addresses values filled = leb threads mostThreads && ltb filled addresses && ltb filled values
 
 -- x where the step was taken, else y
 abbrev pub onTaken : {A : Type 0} → Outcome → A → A → A

@@ -7,7 +7,7 @@ ghost use lib.Dec.{eqb, ltb};
 ghost use lib.ListN.{length, getD};
 ghost use Rattle.base.specs.Below.{every};
 ghost use Rattle.records.specs.Instructions.{CAS as cas, EXIT as exit};
-ghost use Rattle.records.specs.Sets.{Set, setBy};
+ghost use Rattle.records.specs.Sets.{Set, setBy, mostThreads};
 ghost use Rattle.machine.specs.Held.{noRead, memoryOf, memoryIn, knownOf, knownIn, cellsOf};
 ghost use Rattle.step.specs.Acting.{marksSettled, quiet as quietOf, canStep, waits, threadBy, threadFrom, PcFits, Operands, statementBy, writtenBy, readsBy, notTaken, Advances};
 ghost use Rattle.machine.specs.Machine.{State, actor, acted as actedOf, fresh, unmarked, row as rowOf, nextPc, withPc, memoryAfter, wrote as wroteOf, address, cellsRead, executed as executedOf, casMatches, noWrite, flushed};
@@ -128,7 +128,7 @@ fn marks_settled(
     t: u8,
     i: Statement,
 ) -> [Mark; Layout::THREADS]
-    requires { ⌜ t < 4 ⌝ }
+    requires { ⌜ t < mostThreads ⌝ }
     ensures { λ r. ⌜ (λ u. getD r u unmarked) ≡ marksSettled (setBy (now (set .entry)) layout) (λ v. getD marks v unmarked) t i ⌝ }
 {
     let mut after = checkpoints::clear(set, layout, marks);
@@ -153,7 +153,7 @@ pub fn marks_after(
     t: u8,
     i: Statement,
 ) -> [Mark; Layout::THREADS]
-    ensures { λ r. ⌜ (λ u. getD r u unmarked) ≡ cond (ltb t 4) (marksSettled (setBy (now (set .entry)) layout) (λ v. getD marks v unmarked) t i) (λ v. getD marks v unmarked) ⌝ }
+    ensures { λ r. ⌜ (λ u. getD r u unmarked) ≡ cond (ltb t mostThreads) (marksSettled (setBy (now (set .entry)) layout) (λ v. getD marks v unmarked) t i) (λ v. getD marks v unmarked) ⌝ }
 {
     if t < Machine::THREADS {
         return marks_settled(set, layout, marks, t, i);

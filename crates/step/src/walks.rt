@@ -5,10 +5,10 @@ ghost use Prim.Native.Nat.{ℕ, _+_, _*_, _≤_};
 ghost use lib.Dec.{leb};
 ghost use lib.ListN.{length};
 ghost use Rattle.records.specs.Maps.{cells, addressAt, valueAt, holds, content, mapValue};
-ghost use Rattle.records.specs.Sets.{setBy};
+ghost use Rattle.records.specs.Sets.{setBy, mostThreads};
 ghost use Rattle.machine.specs.Held.{stateOf, heldOf, memoryOf, knownOf};
 ghost use Rattle.machine.specs.Machine.{start, noWrite};
-ghost use Rattle.machine.specs.Runs.{choiceOf, canAct};
+ghost use Rattle.machine.specs.Runs.{choiceOf, canAct, mostSteps};
 ghost use Rattle.machine.specs.Traces.{bit, stepBytes, stepLength};
 ghost use Rattle.step.specs.Ends.{endFor};
 ghost use Rattle.step.specs.Runs.{Begins};
@@ -43,17 +43,14 @@ fn fresh_machine() -> Machine
     }
 }
 
-// Schedule bytes from here on flush.
-const FLUSH: u8 = 128;
-
 // The choice that a schedule's byte names.
 fn choice_of(k: u8) -> Choice
     ensures { λ r. ⌜ r ≡ choiceOf k ⌝ }
 {
-    if k < FLUSH {
+    if k < Choice::FLUSH {
         return Choice::Execute(k);
     }
-    Choice::Flush(k - FLUSH)
+    Choice::Flush(k - Choice::FLUSH)
 }
 
 // Puts a map's cells into the sparse memory, if there is room, and gives the filled count.
@@ -62,7 +59,7 @@ fn begin(map: &[u8], addresses: &mut [u16], values: &mut [u16]) -> usize
         × (memoryOf (now (addresses .exit)) (now (values .exit)) r ≡ content (addressAt (now (map .entry))) (valueAt (now (map .entry))) r)
         × (knownOf (now (addresses .exit)) r ≡ holds (addressAt (now (map .entry))) r) ⌝ }
 {
-    let n = map.len() / 4;
+    let n = map.len() / Layout::CELL;
     if addresses.len() < n {
         return 0;
     }
@@ -71,8 +68,8 @@ fn begin(map: &[u8], addresses: &mut [u16], values: &mut [u16]) -> usize
     }
     let mut k: usize = 0;
     while k < n {
-        addresses[k] = base::word_at(map, 4 * k);
-        values[k] = base::word_at(map, 4 * k + 2);
+        addresses[k] = base::word_at(map, Layout::CELL * k);
+        values[k] = base::word_at(map, Layout::CELL * k + 2);
         k += 1;
     }
     n
@@ -80,7 +77,7 @@ fn begin(map: &[u8], addresses: &mut [u16], values: &mut [u16]) -> usize
 
 // Whether thread t may execute or flush.
 fn acts(set: &[u8], layout: Layout, m: Machine, t: u8) -> bool
-    ensures { λ r. ⌜ ((memory : ℕ → ℕ) → r ≡ (leb (layout .threads) 4 && canAct (setBy (now (set .entry)) layout) (stateOf m memory) t)) ⌝ }
+    ensures { λ r. ⌜ ((memory : ℕ → ℕ) → r ≡ (leb (layout .threads) mostThreads && canAct (setBy (now (set .entry)) layout) (stateOf m memory) t)) ⌝ }
 {
     if machine::choices::permits(set, layout, m, Choice::Execute(t)) {
         return true;
@@ -158,7 +155,7 @@ fn count_of(replaying: bool, length: usize) -> usize
 
 // The choice of step i.
 fn made(replaying: bool, input: &[u8], i: usize) -> Choice
-    requires { ⌜ i ≤ 64 ⌝ }
+    requires { ⌜ i ≤ mostSteps ⌝ }
     ensures { λ r. ⌜ r ≡ madeOf replaying (now (input .entry)) i ⌝ }
 {
     if replaying {
@@ -174,7 +171,7 @@ fn made(replaying: bool, input: &[u8], i: usize) -> Choice
 
 // Whether step i of a trace has these bytes; a schedule says nothing of them.
 fn agrees(replaying: bool, input: &[u8], i: usize, bytes: [u8; Machine::STEP]) -> bool
-    requires { ⌜ (i ≤ 64) × (replaying ≡ true → stepLength * i + stepLength ≤ length (now input)) ⌝ }
+    requires { ⌜ (i ≤ mostSteps) × (replaying ≡ true → stepLength * i + stepLength ≤ length (now input)) ⌝ }
     ensures { λ r. ⌜ r ≡ agreesOf replaying (now (input .entry)) i bytes ⌝ }
 {
     if replaying {
@@ -208,7 +205,7 @@ fn refusal_of(outcome: Outcome, agreed: bool) -> u8
 
 // A refusal at a step.
 fn refused(number: u8, step: usize) -> RunAnswer
-    requires { ⌜ step ≤ 64 ⌝ }
+    requires { ⌜ step ≤ mostSteps ⌝ }
     ensures { λ r. ⌜ r ≡ RunAnswer.Refused number step ⌝ }
 {
     RunAnswer::Refused {
@@ -231,7 +228,7 @@ fn run(
     cells: usize,
     trace: &mut [u8],
 ) -> RunAnswer
-    requires { ⌜ (layout .threads ≤ 4) × (count ≤ 64) × (count ≡ stepsOf replaying (length (now input)))
+    requires { ⌜ (layout .threads ≤ mostThreads) × (count ≤ mostSteps) × (count ≡ stepsOf replaying (length (now input)))
         × ((cells + count ≤ length (now addresses)) × (cells + count ≤ length (now values))) × (replaying ≡ false → stepLength * count ≤ length (now trace)) ⌝ }
     ensures { λ r. ⌜ (r ≡ walked (setBy (now (set .entry)) layout) replaying (now (input .entry)) (heldOf first (now (addresses .entry)) (now (values .entry)) cells) noWrite 0 count)
         × Begins r (traced (setBy (now (set .entry)) layout) replaying (stateOf first (memoryOf (now (addresses .entry)) (now (values .entry)) cells)) (now (input .entry))) (now (trace .exit)) ⌝ }
@@ -308,7 +305,7 @@ pub fn walk(
     let count = count_of(replaying, input.len());
     let room = replaying | (count <= trace.len() / Machine::STEP);
     let within = (layout.threads <= Machine::THREADS)
-        & (map.len() / 4 <= Machine::MAP_CELLS)
+        & (map.len() / Layout::CELL <= Machine::MAP_CELLS)
         & (count <= Machine::STEPS)
         & room;
     if within {

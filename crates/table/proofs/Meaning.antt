@@ -144,7 +144,7 @@ module _ (g : Assignment) where
 
   -- ---- front to back: what stands below n stays
 
-  stays : (table : List Formula) (n : ℕ) (values : ℕ → Value) (i : ℕ) → i < n → valuesFrom g n values table i ≡ values i
+  pub stays : (table : List Formula) (n : ℕ) (values : ℕ → Value) (i : ℕ) → i < n → valuesFrom g n values table i ≡ values i
   unfolding valuesFrom
   stays [] n values i h = refl
   stays (f ∷ table) n values i h = stays table (suc n) _ i (omega arith) ∙ passed _ _ (ne-eqb i n (omega arith))

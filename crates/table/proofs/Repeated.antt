@@ -8,6 +8,7 @@ use native.Mathlib.Decide.{decLt}
 use lib.Dec.{leb, ltb}
 use lib.ListN.{length, getD}
 use borrow.Author.Tests.{leb-true, le-leb}
+use Rattle.base.proofs.Bytes.{word-bytes}
 use Rattle.base.proofs.Choice.{chosen, passed, and-true, and-left, and-right}
 use Rattle.table.specs.Repeats.{movedBy, repeated, repeatable, repeatedAt, lastIndex}
 use Rattle.table.specs.declared.Formula.{Formula}
@@ -146,10 +147,6 @@ pub all-in-range : (xs : List Formula) → AllBounded 4294967296 xs → LeavesIn
 all-in-range [] b l = tt
 all-in-range (x ∷ xs) b l = (elim (decLt 3 (x .operation)) [ yes h ↦ bounded-in-range x (b .0 h) | no h ↦ l .0 (omega arith) ], all-in-range xs (b .1) (l .1))
 
--- a constant read from its two bytes
-read-word : (x : ℕ) → x < 65536 → x % 256 + 256 * (x / 256 % 256) ≡ x
-read-word x h = omega arith
-
 module _ (none : Formula) (out : List ℕ) (n : ℕ) (table : List Formula) (fits : 16 * (n + length table) ≤ length out) (j : ℕ) (inside : j < length table) where
   abbrev bytes : List ℕ
   bytes = writtenAt out n table
@@ -177,7 +174,7 @@ module _ (none : Formula) (out : List ℕ) (n : ℕ) (table : List Formula) (fit
       let sort : getD bytes (at + 1) 0 ≡ x .sort = byte (at + 1) 1 refl (omega arith) in
       let low : getD bytes (at + 2) 0 ≡ x .constant % 256 = byte (at + 2) 2 refl (omega arith) in
       let high : getD bytes (at + 2 + 1) 0 ≡ x .constant / 256 % 256 = byte (at + 2 + 1) 3 (omega arith) (omega arith) in
-      let constant = (λ z. low z + 256 * high z) ∙ read-word (x .constant) (r .constantFits) in
+      let constant = (λ z. low z + 256 * high z) ∙ word-bytes (x .constant) (r .constantFits) in
       let a : longAt bytes (at + 4) ≡ x .a = operand (at + 4) (x .a) (byte (at + 4) 4 refl (omega arith)) (byte (at + 4 + 1) 5 (omega arith) (omega arith)) (byte (at + 4 + 2) 6 (omega arith) (omega arith)) (byte (at + 4 + 3) 7 (omega arith) (omega arith)) (r .fitsA) in
       let b : longAt bytes (at + 8) ≡ x .b = operand (at + 8) (x .b) (byte (at + 8) 8 refl (omega arith)) (byte (at + 8 + 1) 9 (omega arith) (omega arith)) (byte (at + 8 + 2) 10 (omega arith) (omega arith)) (byte (at + 8 + 3) 11 (omega arith) (omega arith)) (r .fitsB) in
       let c : longAt bytes (at + 12) ≡ x .c = operand (at + 12) (x .c) (byte (at + 12) 12 refl (omega arith)) (byte (at + 12 + 1) 13 (omega arith) (omega arith)) (byte (at + 12 + 2) 14 (omega arith) (omega arith)) (byte (at + 12 + 3) 15 (omega arith) (omega arith)) (r .fitsC) in

@@ -12,6 +12,15 @@ use Rattle.table.specs.Programs.{Tree, ref, leaf, unary, binary, ternary
 -- ---- one number after the other
 
 module _ {A : Type 0} where
+  pub upto-none : (f : ℕ → List A) → upto f 0 ≡ []
+  unfolding upto
+  upto-none f = refl
+
+  -- the last apart
+  pub upto-last : (f : ℕ → List A) (n : ℕ) → upto f (suc n) ≡ upto f n ++ f n
+  unfolding upto
+  upto-last f n = refl
+
   -- the first apart
   pub upto-first : (f : ℕ → List A) (n : ℕ) → upto f (suc n) ≡ f 0 ++ upto (λ i. f (suc i)) n
   unfolding upto

@@ -71,6 +71,10 @@ GOAL = 16
 
 -- ---- bytes
 
+-- the bytes of a formula record
+abbrev pub formulaLength : ℕ
+formulaLength = 16
+
 -- the four bytes of an index, low byte first, before the rest
 abbrev pub long : ℕ → List ℕ → List ℕ
 long n rest = n % 256 ∷ n / 256 % 256 ∷ n / 65536 % 256 ∷ n / 16777216 % 256 ∷ rest
@@ -88,7 +92,7 @@ tableBytes (f ∷ table) = formulaBytes f ++ tableBytes table
 -- bytes with a table's records written from record n on, each where it fits
 unfoldable pub writtenAt : List ℕ → ℕ → List Formula → List ℕ
 writtenAt out n [] = out
-writtenAt out n (f ∷ table) = writtenAt (placed out (16 * n) (formulaBytes f)) (suc n) table
+writtenAt out n (f ∷ table) = writtenAt (placed out (formulaLength * n) (formulaBytes f)) (suc n) table
 
 -- ---- records in bytes
 
@@ -99,10 +103,10 @@ longAt bytes i = getD bytes i 0 + 256 * getD bytes (i + 1) 0 + 65536 * getD byte
 -- record i of a table's bytes
 unfoldable pub formulaAt : List ℕ → ℕ → Formula
 formulaAt bytes i = record {
-  operation = getD bytes (16 * i) 0;
-  sort = getD bytes (16 * i + 1) 0;
-  constant = wordAt bytes (16 * i + 2);
-  a = longAt bytes (16 * i + 4);
-  b = longAt bytes (16 * i + 8);
-  c = longAt bytes (16 * i + 12);
+  operation = getD bytes (formulaLength * i) 0;
+  sort = getD bytes (formulaLength * i + 1) 0;
+  constant = wordAt bytes (formulaLength * i + 2);
+  a = longAt bytes (formulaLength * i + 4);
+  b = longAt bytes (formulaLength * i + 8);
+  c = longAt bytes (formulaLength * i + 12);
 }

@@ -6,7 +6,7 @@ use mathlib.Core.List.{List, [], _∷_}
 use lib.Dec.{leb, ltb}
 use lib.ListN.{length}
 use Rattle.table.specs.declared.Formula.{Formula}
-use Rattle.table.specs.Formulas.{formulaAt, writtenAt}
+use Rattle.table.specs.Formulas.{formulaAt, writtenAt, formulaLength}
 use Rattle.table.specs.Programs.{upto}
 
 -- what lies before record `first` stays, the others lie `stride` records further
@@ -31,7 +31,7 @@ lastIndex = 2000000000
 
 -- whether so many records from record `at` on can repeat those `stride` before them: these are all written earlier, and there is room
 abbrev pub repeatable : (size at count stride : ℕ) → Bool
-repeatable size at count stride = leb count stride && leb stride at && leb (at + count) lastIndex && leb (16 * (at + count)) size
+repeatable size at count stride = leb count stride && leb stride at && leb (at + count) lastIndex && leb (formulaLength * (at + count)) size
 
 -- bytes with `count` records from record `at` on, each repeating the one `stride` before it; the bytes as they are where that cannot be
 unfoldable pub repeatedAt : (out : List ℕ) (at count first stride : ℕ) → List ℕ

@@ -3,7 +3,7 @@ ghost use mathlib.Core.Path.{_≡_};
 ghost use mathlib.Core.List.{[]};
 ghost use Prim.Native.Nat.{_*_};
 ghost use Rattle.base.specs.Bytes.{placed};
-ghost use Rattle.table.specs.Formulas.{long as longBytes, formulaBytes};
+ghost use Rattle.table.specs.Formulas.{long as longBytes, formulaBytes, formulaLength};
 
 pub mod operations;
 pub mod repeats;
@@ -28,7 +28,7 @@ impl Formula {
 
 // Writes record n as four numbers, if it fits there: operation, sort and constant as one, and the operands.
 fn put_longs(out: &mut [u8], n: u32, head: u32, a: u64, b: u64, c: u64)
-    ensures { λ _. ⌜ now (out .exit) ≡ placed (now (out .entry)) (16 * n) (longBytes head (longBytes a (longBytes b (longBytes c [])))) ⌝ }
+    ensures { λ _. ⌜ now (out .exit) ≡ placed (now (out .entry)) (formulaLength * n) (longBytes head (longBytes a (longBytes b (longBytes c [])))) ⌝ }
 {
     let bytes: [u8; Formula::BYTES] = [
         (head % 256) as u8,
@@ -56,7 +56,7 @@ fn put_longs(out: &mut [u8], n: u32, head: u32, a: u64, b: u64, c: u64)
 
 // Writes record n of a table, if it fits there.
 pub fn put(out: &mut [u8], n: u32, formula: Formula)
-    ensures { λ _. ⌜ now (out .exit) ≡ placed (now (out .entry)) (16 * n) (formulaBytes formula) ⌝ }
+    ensures { λ _. ⌜ now (out .exit) ≡ placed (now (out .entry)) (formulaLength * n) (formulaBytes formula) ⌝ }
 {
     let head = (formula.operation as u32)
         + 256 * (formula.sort as u32)

@@ -6,7 +6,7 @@ ghost use Prim.Native.Nat.{ℕ, _+_, _*_, _≤_, _<_};
 ghost use lib.Dec.{ltb};
 ghost use lib.ListN.{length, getD};
 ghost use Rattle.base.specs.Bytes.{placed};
-ghost use Rattle.table.specs.Formulas.{long as longBytes, longAt, formulaAt, formulaBytes};
+ghost use Rattle.table.specs.Formulas.{long as longBytes, longAt, formulaAt, formulaBytes, formulaLength};
 ghost use Rattle.table.specs.Repeats.{movedBy, repeated, repeatable, repeatedAt};
 use crate::Formula;
 use crate::operations::CONSTANT;
@@ -54,8 +54,8 @@ fn distance(operation: u8, stride: u32) -> u32
 
 // Writes record n, which repeats record `from` with its operands moved: by 0 where it has none, so that no branch has to be guessed.
 fn repeat_record(out: &mut [u8], from: u32, n: u32, first: u32, stride: u32)
-    requires { ⌜ 16 * from + 16 ≤ length (now out) ⌝ }
-    ensures { λ _. ⌜ now (out .exit) ≡ placed (now (out .entry)) (16 * n) (formulaBytes (repeated first stride (formulaAt (now (out .entry)) from))) ⌝ }
+    requires { ⌜ formulaLength * from + 16 ≤ length (now out) ⌝ }
+    ensures { λ _. ⌜ now (out .exit) ≡ placed (now (out .entry)) (formulaLength * n) (formulaBytes (repeated first stride (formulaAt (now (out .entry)) from))) ⌝ }
 {
     let i = Formula::BYTES * (from as usize);
     let head = long_at(out, i);

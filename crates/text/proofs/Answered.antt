@@ -9,7 +9,7 @@ use borrow.Author.Tests.{leb-true}
 use Rattle.base.proofs.Choice.{and-left, and-right, cond-both}
 use Rattle.text_lines.specs.Lines.{lines}
 use Rattle.text_lines.specs.declared.Cell.{Cell}
-use Rattle.text.specs.Answers.{threadsFit, statementsFit, labelsFit, checkpointsFit, mapFits, roomFits, refused, refusalIn, inLines, whole, answer}
+use Rattle.text.specs.Answers.{threadsFit, statementsFit, labelsFit, checkpointsFit, mapFits, roomFits, refused, refusalIn, inLines, whole, answer, longestText}
 use Rattle.text.specs.Records.{setBytes, statements}
 use Rattle.text.specs.Sections.{Threads, threads, cells}
 use Rattle.text.specs.declared.ReadAnswer.{ReadAnswer}
@@ -49,6 +49,6 @@ pub read-counts : (text : List ℕ) (setRoom mapRoom n m : ℕ) → answer text 
 unfolding answer
 read-counts text setRoom mapRoom n m e =
     subst (Counts (threads (lines text)) (cells (lines text)) setRoom mapRoom) e
-    (cond-both (Counts (threads (lines text)) (cells (lines text)) setRoom mapRoom) (ltb 16384 (length text)) tt
+    (cond-both (Counts (threads (lines text)) (cells (lines text)) setRoom mapRoom) (ltb longestText (length text)) tt
     (counts-lines (threads (lines text)) (cells (lines text)) setRoom mapRoom 1 (lines text) (whole (threads (lines text)) (cells (lines text)) setRoom mapRoom)
     (counts-whole (threads (lines text)) (cells (lines text)) setRoom mapRoom)))

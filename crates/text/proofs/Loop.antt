@@ -16,7 +16,7 @@ use Rattle.base.proofs.Choice.{chosen, passed, and-true, and-false, and-left, a
 use Rattle.text_lines.specs.Lines.{lines, isDot, statementLine, mapLine}
 use Rattle.text_lines.specs.declared.Cell.{Cell}
 use Rattle.text.specs.Answers.{lineRefusal, refusalIn, inLines, threadsFit, statementsFit}
-use Rattle.text_drafts.specs.Blocks.{blockAt}
+use Rattle.text_drafts.specs.Blocks.{blockAt, draftLength}
 use Rattle.text.specs.Drafts.{drafted, threadsIn, cellsOf}
 use Rattle.text.specs.Readings.{threadsKept, cellsKept, Sound, Takes, ReadsLines, threadsAfter, cellsAfter, misfits}
 use Rattle.text.specs.Sections.{Threads, noThreads, halt, dots, isGood, lineAdded, closed, threadsFrom, threads, inserted, cellAdded, cellsFrom, cells}
@@ -276,7 +276,7 @@ nothing-kept draft = λ i. record {
 }
 
 pub begins : (text draft keys : List ℕ) (r : Reading) → r .fits ≡ (ltb 0 (dots (lines text)) && leb (dots (lines text)) 4) → r .ended ≡ 0 → r .counts ≡ none → r .cells ≡ 0 → r .line ≡ 0 →
-    length draft ≡ 4608 → length keys ≡ 128 → At text r draft keys (lines text)
+    length draft ≡ draftLength → length keys ≡ 128 → At text r draft keys (lines text)
 unfolding cellsOf
 begins text draft keys r fits unended counts cells-none first d k = record {
   passed = λ next. ap (λ (n : ℕ). inLines n (lines text) next) (let e : 1 ≡ r .line + 1 = omega (arith, first) in e);

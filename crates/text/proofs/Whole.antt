@@ -9,7 +9,7 @@ use borrow.Author.Tests.{le-ltb, lt-ltb}
 use Rattle.base.proofs.Choice.{chosen, passed, cond-ap}
 use Rattle.text_lines.specs.Lines.{lines}
 use Rattle.text_lines.specs.declared.Cell.{Cell}
-use Rattle.text.specs.Answers.{refused, threadsFit, statementsFit, labelsFit, checkpointsFit, mapFits, whole, inLines, answer, outputBy, setOutput, mapOutput}
+use Rattle.text.specs.Answers.{refused, threadsFit, statementsFit, labelsFit, checkpointsFit, mapFits, whole, inLines, answer, outputBy, setOutput, mapOutput, longestText}
 use Rattle.text.specs.Readings.{ReadsLines, ThreadsStand, CellsStand, checked, RecordsWritten, Few, roomed, setPart, mapPart}
 use Rattle.text.specs.Records.{setBytes, statements, mapBytes}
 use Rattle.text.specs.Sections.{Threads, threads, cells}
@@ -46,21 +46,21 @@ whole-roomed T cs a b = sym
     last false = refl
 
 -- a text that is not too long, whose lines are not refused
-pub answer-is : (text : List ℕ) (a b : ℕ) (checks : ReadAnswer) → length text ≤ 16384 → ((next : ReadAnswer) → inLines 1 (lines text) next ≡ next) → checks ≡ checked (threads (lines text)) (cells (lines text)) →
+pub answer-is : (text : List ℕ) (a b : ℕ) (checks : ReadAnswer) → length text ≤ longestText → ((next : ReadAnswer) → inLines 1 (lines text) next ≡ next) → checks ≡ checked (threads (lines text)) (cells (lines text)) →
     roomed a b checks ≡ answer text a b
 unfolding answer
 answer-is text a b checks short lined e =
     ap (roomed a b) e ∙ sym (whole-roomed (threads (lines text)) (cells (lines text)) a b)
-    ∙ sym (passed _ _ (le-ltb 16384 (length text) short) ∙ lined (whole (threads (lines text)) (cells (lines text)) a b))
+    ∙ sym (passed _ _ (le-ltb longestText (length text) short) ∙ lined (whole (threads (lines text)) (cells (lines text)) a b))
 
 -- a text that is refused by 1, or in a line
-pub answer-long : (text : List ℕ) (a b : ℕ) → 16384 < length text → Refused 1 0 ≡ answer text a b
+pub answer-long : (text : List ℕ) (a b : ℕ) → longestText < length text → Refused 1 0 ≡ answer text a b
 unfolding answer
-answer-long text a b long = sym (chosen _ _ (lt-ltb 16384 (length text) long))
+answer-long text a b long = sym (chosen _ _ (lt-ltb longestText (length text) long))
 
-pub answer-line : (text : List ℕ) (a b number line : ℕ) → length text ≤ 16384 → ((next : ReadAnswer) → inLines 1 (lines text) next ≡ Refused number line) → Refused number line ≡ answer text a b
+pub answer-line : (text : List ℕ) (a b number line : ℕ) → length text ≤ longestText → ((next : ReadAnswer) → inLines 1 (lines text) next ≡ Refused number line) → Refused number line ≡ answer text a b
 unfolding answer
-answer-line text a b number line short lined = sym (passed _ _ (le-ltb 16384 (length text) short) ∙ lined (whole (threads (lines text)) (cells (lines text)) a b))
+answer-line text a b number line short lined = sym (passed _ _ (le-ltb longestText (length text) short) ∙ lined (whole (threads (lines text)) (cells (lines text)) a b))
 
 -- the outputs
 pub set-output : (checks r : ReadAnswer) (text set map out : List ℕ) (a b : ℕ) → r ≡ roomed a b checks → RecordsWritten checks (threads (lines text)) (cells (lines text)) set map →

@@ -8,7 +8,7 @@ use lib.ListN.{length}
 use Rattle.base.specs.Below.{every, some, number}
 use Rattle.base.specs.Bytes.{same, over}
 use Rattle.records.specs.Instructions.{isJump}
-use Rattle.records.specs.Sets.{opensAt, records}
+use Rattle.records.specs.Sets.{opensAt, records, mostThreads, mostStatements, mostCheckpoints, recordLength}
 use Rattle.text_lines.specs.Lines.{lines, isDot, statementLine, mapLine}
 use Rattle.text_lines.specs.declared.Form.{Form}
 use Rattle.text_lines.specs.declared.Form.the-variants.{Empty, Malformed, Large, Good}
@@ -18,6 +18,7 @@ use Rattle.text.specs.Sections.{Threads, dots, threads, cells}
 use Rattle.text.specs.Records.{isNamed, argumentOf, setBytes, statements, mapCell, mapBytes}
 use Rattle.text.specs.declared.ReadAnswer.{ReadAnswer}
 use Rattle.text.specs.declared.ReadAnswer.the-variants.{Read, Refused}
+use Rattle.records.specs.Maps.{cellLength, setCells}
 
 -- ---- lines in order, 2 before 3 in a line
 
@@ -45,11 +46,11 @@ inLines line (l ∷ ls) next =
 
 -- 4: threads not 1 to 4
 abbrev pub threadsFit : Threads → Bool
-threadsFit T = ltb 0 (T .ended) && leb (T .ended) 4
+threadsFit T = ltb 0 (T .ended) && leb (T .ended) mostThreads
 
 -- 5: a thread's statements not 1 to 32
 unfoldable pub statementsFit : Threads → Bool
-statementsFit T = every (T .ended) (λ t. ltb 0 (T .count t) && leb (T .count t) 32)
+statementsFit T = every (T .ended) (λ t. ltb 0 (T .count t) && leb (T .count t) mostStatements)
 
 -- a label doubled in its thread, whose statements x gives by pc
 unfoldable pub doubledAt : (ℕ → Stated) → ℕ → Bool
@@ -68,7 +69,7 @@ labelsFit T = every (T .ended) (λ t. threadFits (T .count t) (T .statement t))
 
 -- 7: more than 8 different checkpoints
 unfoldable pub checkpointsFit : List ℕ → Bool
-checkpointsFit set = leb (number (records set) (opensAt set)) 8
+checkpointsFit set = leb (number (records set) (opensAt set)) mostCheckpoints
 
 -- a map address doubled
 unfoldable pub addressDoubled : List Cell → Bool
@@ -76,11 +77,11 @@ addressDoubled cs = some (length cs) (λ i. some i (λ j. eqb (mapCell cs j .add
 
 -- 8: map address doubled, or above 128 cells in a text
 unfoldable pub mapFits : List Cell → Bool
-mapFits cs = leb (length cs) 128 && not (addressDoubled cs)
+mapFits cs = leb (length cs) setCells && not (addressDoubled cs)
 
 -- 11: lent output too short
 abbrev pub roomFits : Threads → List Cell → ℕ → ℕ → Bool
-roomFits T cs setRoom mapRoom = leb (8 * statements T) setRoom && leb (4 * length cs) mapRoom
+roomFits T cs setRoom mapRoom = leb (recordLength * statements T) setRoom && leb (cellLength * length cs) mapRoom
 
 abbrev pub refused : ℕ → ReadAnswer
 refused number = Refused number 0

@@ -10,10 +10,11 @@ use Rattle.text_lines.specs.declared.Stated.{Stated}
 use Rattle.text_lines.specs.declared.Cell.{Cell}
 use Rattle.text_drafts.specs.Blocks.{blockAt}
 use Rattle.text.specs.Sections.{Threads, halt, inserted}
+use Rattle.records.specs.Sets.{mostStatements}
 
 -- the statements of thread t, which has n; its blocks start at 32 * t
 unfoldable pub drafted : List ℕ → ℕ → ℕ → ℕ → Stated
-drafted draft t n p = cond (ltb p n) (blockAt draft (32 * t + p)) halt
+drafted draft t n p = cond (ltb p n) (blockAt draft (mostStatements * t + p)) halt
 
 -- the threads read so far
 abbrev pub threadsIn : List ℕ → ℕ → List ℕ → Threads
@@ -25,7 +26,7 @@ threadsIn draft ended counts = record {
 
 -- no thread has more than 32 statements
 abbrev pub fourFit : List ℕ → Bool
-fourFit counts = leb (getD counts 0 0) 32 && leb (getD counts 1 0) 32 && leb (getD counts 2 0) 32 && leb (getD counts 3 0) 32
+fourFit counts = leb (getD counts 0 0) mostStatements && leb (getD counts 1 0) mostStatements && leb (getD counts 2 0) mostStatements && leb (getD counts 3 0) mostStatements
 
 -- a cell as one number, the address above the value
 abbrev pub cellOfKey : ℕ → Cell

@@ -13,12 +13,13 @@ use Rattle.text.specs.Sections.{Threads, isGood, added, closed, lineAdde
 use Rattle.text.specs.Answers.{lineRefusal, inLines, threadsFit, statementsFit, labelsFit, checkpointsFit, mapFits}
 use Rattle.text.specs.Answers.{refused as refusedBy}
 use Rattle.text.specs.Records.{setBytes, statements, mapBytes}
-use Rattle.records.specs.Maps.{mapAccepted, setCells}
+use Rattle.records.specs.Maps.{mapAccepted, setCells, cellLength}
 use Rattle.text_drafts.specs.Blocks.{blockAt, draftLength}
 use Rattle.text.specs.Drafts.{threadsIn, cellsOf}
 use Rattle.text.specs.declared.ReadAnswer.{ReadAnswer}
 use Rattle.text.specs.declared.ReadAnswer.the-variants.{Read, Refused}
 use Rattle.text.specs.declared.Reading.{Reading}
+use Rattle.records.specs.Sets.{mostThreads, mostStatements, recordLength, mostRecords}
 
 -- the threads, and the cells, that are kept
 abbrev pub threadsKept : Reading → List ℕ → Threads
@@ -33,7 +34,7 @@ openCount r = getD (r .counts) (r .ended) 0
 
 -- no thread has more statements than there is room for, and the draft has room for four threads
 abbrev pub Sound : Reading → List ℕ → Type 0
-Sound r draft = ((t : ℕ) → getD (r .counts) t 0 ≤ 32) × (length draft ≡ draftLength)
+Sound r draft = ((t : ℕ) → getD (r .counts) t 0 ≤ mostStatements) × (length draft ≡ draftLength)
 
 -- T, the threads so far, may be kept: r says that they fit, and keeps them
 abbrev pub Keeps : Reading → List ℕ → Threads → Type 0
@@ -41,7 +42,7 @@ Keeps r draft T = r .fits ≡ true → threadsKept r draft ≡ T
 
 -- a statement more in the open section; where there is no room for it the threads do not fit
 pub record Adds (x : Stated) (r : Reading) (draft : List ℕ) (r′ : Reading) (draft′ : List ℕ) : Type 0 where
-  pub fits : r′ .fits ≡ (r .fits && ltb (r .ended) 4 && ltb (openCount r) 32)
+  pub fits : r′ .fits ≡ (r .fits && ltb (r .ended) mostThreads && ltb (openCount r) mostStatements)
   pub ended : r′ .ended ≡ r .ended
   pub cells : r′ .cells ≡ r .cells
   pub line : r′ .line ≡ r .line
@@ -50,8 +51,8 @@ pub record Adds (x : Stated) (r : Reading) (draft : List ℕ) (r′ : Reading) (
 
 -- the open section's end; a thread without statements, or without room for the HALT it gains, does not fit
 pub record Closes (r : Reading) (draft : List ℕ) (r′ : Reading) (draft′ : List ℕ) : Type 0 where
-  pub fits : r′ .fits ≡ (r .fits && ltb (r .ended) 4 && ltb 0 (openCount r)
-      && (isLast (blockAt draft (32 * r .ended + (openCount r - 1)) .number) || ltb (openCount r) 32))
+  pub fits : r′ .fits ≡ (r .fits && ltb (r .ended) mostThreads && ltb 0 (openCount r)
+      && (isLast (blockAt draft (mostStatements * r .ended + (openCount r - 1)) .number) || ltb (openCount r) mostStatements))
   pub ended : r′ .ended ≡ r .ended + 1
   pub cells : r′ .cells ≡ r .cells
   pub line : r′ .line ≡ r .line
@@ -61,7 +62,7 @@ pub record Closes (r : Reading) (draft : List ℕ) (r′ : Reading) (draft′ : 
 -- a thread's line that holds x
 pub record States (x : Stated) (r : Reading) (draft : List ℕ) (r′ : Reading) (draft′ : List ℕ) : Type 0 where
   pub refusal : r′ .refusal ≡ lineRefusal (x .form)
-  pub fits : r′ .fits ≡ cond (isGood (x .form)) (r .fits && ltb (r .ended) 4 && ltb (openCount r) 32) (r .fits)
+  pub fits : r′ .fits ≡ cond (isGood (x .form)) (r .fits && ltb (r .ended) mostThreads && ltb (openCount r) mostStatements) (r .fits)
   pub ended : r′ .ended ≡ r .ended
   pub cells : r′ .cells ≡ r .cells
   pub line : r′ .line ≡ r .line
@@ -75,9 +76,9 @@ pub record Maps (c : Cell) (r : Reading) (keys : List ℕ) (r′ : Reading) (key
   pub ended : r′ .ended ≡ r .ended
   pub counts : r′ .counts ≡ r .counts
   pub line : r′ .line ≡ r .line
-  pub number : r .cells ≤ 129 → length keys ≡ 128 → r′ .cells ≡ cond (isGood (c .form)) (min (r .cells + 1) 129) (r .cells)
+  pub number : r .cells ≤ setCells + 1 → length keys ≡ setCells → r′ .cells ≡ cond (isGood (c .form)) (min (r .cells + 1) (setCells + 1)) (r .cells)
   pub room : length keys′ ≡ length keys
-  pub cells : length keys ≡ 128 → r′ .cells ≤ 128 → cellsKept r′ keys′ ≡ cond (isGood (c .form)) (inserted c (cellsKept r keys)) (cellsKept r keys)
+  pub cells : length keys ≡ setCells → r′ .cells ≤ setCells → cellsKept r′ keys′ ≡ cond (isGood (c .form)) (inserted c (cellsKept r keys)) (cellsKept r keys)
 
 -- the threads after line l, and the cells; `left` counts the dots from l on
 abbrev pub threadsAfter : List ℕ → ℕ → Threads → Threads
@@ -88,7 +89,7 @@ cellsAfter l left ds = cond (isDot l) ds (cond (eqb left 0) (cellAdded l ds) ds)
 
 -- n statements in a section are too many, or, where it has ended, too few
 abbrev pub misfits : Bool → ℕ → Bool
-misfits ended n = ltb 32 n || ended && eqb n 0
+misfits ended n = ltb mostStatements n || ended && eqb n 0
 
 -- a line taken: its refusal, and what is kept after it; threads that cease to fit have a section with too many statements or too few
 pub record Takes (l : List ℕ) (left : ℕ) (r : Reading) (draft keys : List ℕ) (r′ : Reading) (draft′ keys′ : List ℕ) : Type 0 where
@@ -99,10 +100,10 @@ pub record Takes (l : List ℕ) (left : ℕ) (r : Reading) (draft keys : List �
   pub threads : Sound r draft → r′ .fits ≡ true → (r .fits ≡ true) × (threadsKept r′ draft′ ≡ threadsAfter l left (threadsKept r draft))
   pub same : isDot l ≡ false → eqb left 0 ≡ true → r′ .fits ≡ r .fits
   pub some : r′ .fits ≡ true → isDot l ≡ true → 0 < openCount r
-  pub lost : Sound r draft → r .fits ≡ true → r .ended < 4 → r′ .fits ≡ false → misfits (isDot l) (threadsAfter l left (threadsKept r draft) .count (r .ended)) ≡ true
+  pub lost : Sound r draft → r .fits ≡ true → r .ended < mostThreads → r′ .fits ≡ false → misfits (isDot l) (threadsAfter l left (threadsKept r draft) .count (r .ended)) ≡ true
   pub room : length keys′ ≡ length keys
-  pub number : r .cells ≤ 129 → length keys ≡ 128 → r′ .cells ≡ cond (not (isDot l) && eqb left 0 && isGood (mapLine l .form)) (min (r .cells + 1) 129) (r .cells)
-  pub cells : length keys ≡ 128 → r′ .cells ≤ 128 → cellsKept r′ keys′ ≡ cellsAfter l left (cellsKept r keys)
+  pub number : r .cells ≤ setCells + 1 → length keys ≡ setCells → r′ .cells ≡ cond (not (isDot l) && eqb left 0 && isGood (mapLine l .form)) (min (r .cells + 1) (setCells + 1)) (r .cells)
+  pub cells : length keys ≡ setCells → r′ .cells ≤ setCells → cellsKept r′ keys′ ≡ cellsAfter l left (cellsKept r keys)
 
 -- the lines of a text taken: the first that is refused, or what is kept of all
 pub record ReadsLines (text : List ℕ) (r : Reading) (draft keys : List ℕ) : Type 0 where
@@ -113,8 +114,8 @@ pub record ReadsLines (text : List ℕ) (r : Reading) (draft keys : List ℕ) : 
   pub kept : r .refusal ≡ 0 → r .fits ≡ true → threads (lines text) ≡ threadsKept r draft
   pub fit : r .refusal ≡ 0 → r .fits ≡ true → statementsFit (threads (lines text)) ≡ true
   pub lost : r .refusal ≡ 0 → r .fits ≡ false → threadsFit (threads (lines text)) ≡ true → statementsFit (threads (lines text)) ≡ false
-  pub few : r .refusal ≡ 0 → r .cells ≤ 128 → (cells (lines text) ≡ cellsKept r keys) × (length (cells (lines text)) ≡ r .cells)
-  pub many : r .refusal ≡ 0 → 128 < r .cells → 128 < length (cells (lines text))
+  pub few : r .refusal ≡ 0 → r .cells ≤ setCells → (cells (lines text) ≡ cellsKept r keys) × (length (cells (lines text)) ≡ r .cells)
+  pub many : r .refusal ≡ 0 → setCells < r .cells → setCells < length (cells (lines text))
 
 -- what is kept stands for threads T
 pub record ThreadsStand (r : Reading) (draft : List ℕ) (T : Threads) : Type 0 where
@@ -125,8 +126,8 @@ pub record ThreadsStand (r : Reading) (draft : List ℕ) (T : Threads) : Type 0 
 
 -- and for cells cs
 pub record CellsStand (r : Reading) (keys : List ℕ) (cs : List Cell) : Type 0 where
-  pub few : r .cells ≤ 128 → (cs ≡ cellsKept r keys) × (length cs ≡ r .cells)
-  pub many : 128 < r .cells → 128 < length cs
+  pub few : r .cells ≤ setCells → (cs ≡ cellsKept r keys) × (length cs ≡ r .cells)
+  pub many : setCells < r .cells → setCells < length cs
   pub accepted : mapFits cs ≡ mapAccepted setCells (mapBytes cs)
 
 -- 4, 5 or 6, and 0 where none of them refuses
@@ -145,7 +146,7 @@ checked T cs =
 
 -- the records stand at the start of work memory, where the answer is not a refusal
 abbrev pub RecordsWritten : ReadAnswer → Threads → List Cell → List ℕ → List ℕ → Type 0
-RecordsWritten (Read n m) T cs set map = (take (8 * n) set ≡ setBytes T) × (take (4 * m) map ≡ mapBytes cs) × (n ≤ 128) × (m ≤ 128)
+RecordsWritten (Read n m) T cs set map = (take (recordLength * n) set ≡ setBytes T) × (take (cellLength * m) map ≡ mapBytes cs) × (n ≤ mostRecords) × (m ≤ setCells)
 RecordsWritten (Refused number place) T cs set map = Unit {0}
 
 pub record Judges (r : Reading) (draft keys : List ℕ) (a : ReadAnswer) (set map : List ℕ) : Type 0 where
@@ -154,19 +155,19 @@ pub record Judges (r : Reading) (draft keys : List ℕ) (a : ReadAnswer) (set ma
 
 -- 11 after the other checks
 abbrev pub roomed : ℕ → ℕ → ReadAnswer → ReadAnswer
-roomed setRoom mapRoom (Read n m) = cond (leb (8 * n) setRoom && leb (4 * m) mapRoom) (Read n m) (refusedBy 11)
+roomed setRoom mapRoom (Read n m) = cond (leb (recordLength * n) setRoom && leb (cellLength * m) mapRoom) (Read n m) (refusedBy 11)
 roomed setRoom mapRoom (Refused number place) = Refused number place
 
 -- the records that an answer counts, at the start of work memory
 abbrev pub setPart : ReadAnswer → List ℕ → List ℕ
-setPart (Read n m) bytes = take (8 * n) bytes
+setPart (Read n m) bytes = take (recordLength * n) bytes
 setPart (Refused number place) bytes = []
 
 abbrev pub mapPart : ReadAnswer → List ℕ → List ℕ
-mapPart (Read n m) bytes = take (4 * m) bytes
+mapPart (Read n m) bytes = take (cellLength * m) bytes
 mapPart (Refused number place) bytes = []
 
 -- at most 128 statements and 128 cells
 abbrev pub Few : ReadAnswer → Type 0
-Few (Read n m) = (n ≤ 128) × (m ≤ 128)
+Few (Read n m) = (n ≤ mostRecords) × (m ≤ setCells)
 Few (Refused number place) = Unit {0}

@@ -13,6 +13,8 @@ ghost use Rattle.text.specs.Answers.{mapFits, outputBy, answer as answer
 ghost use Rattle.text.specs.Readings.{Sound, ThreadsStand, CellsStand, threadsRefusal, Judges, Few, roomed, setPart, mapPart};
 ghost use Rattle.text.specs.Records.{mapBytes};
 ghost use Rattle.text.specs.Sections.{Threads};
+ghost use Rattle.records.specs.Sets.{mostThreads, recordLength, mostRecords};
+ghost use Rattle.records.specs.Maps.{cellLength, setCells};
 use records::Layout;
 use records::Statement;
 use records::refusals;
@@ -29,7 +31,7 @@ pub enum ReadAnswer {
 pub struct Reading {
     pub fits: bool,
     pub ended: u16,
-    pub counts: [u16; 4],
+    pub counts: [u16; Layout::THREADS],
     pub cells: u16,
     pub refusal: u8,
     pub line: u32,
@@ -57,7 +59,7 @@ fn refused(number: u8) -> ReadAnswer
 
 // Which of 4, 5 and 6 refuses the threads, 0 where none does.
 fn threads_refusal(draft: &[u8], r: Reading) -> u8
-    ensures { λ n. ⌜ ((T : Threads) → ThreadsStand r (now (draft .entry)) T → n ≡ threadsRefusal T) × (n ≡ 0 → (r .fits ≡ true) × (r .ended ≤ 4)) ⌝ }
+    ensures { λ n. ⌜ ((T : Threads) → ThreadsStand r (now (draft .entry)) T → n ≡ threadsRefusal T) × (n ≡ 0 → (r .fits ≡ true) × (r .ended ≤ mostThreads)) ⌝ }
 {
     let counts = r.counts;
     let some = (0 < r.ended) & (r.ended <= Reading::THREADS);
@@ -75,8 +77,8 @@ fn threads_refusal(draft: &[u8], r: Reading) -> u8
 
 // Whether 8 refuses the map, 0 where it does not; then its records are in work memory.
 fn map_refusal(keys: &[u32], r: Reading, map: &mut [u8]) -> u8
-    requires { ⌜ (length (now keys) ≡ 128) × (length (now map) ≡ 512) ⌝ }
-    ensures { λ n. ⌜ ((cs : List Cell) → CellsStand r (now (keys .entry)) cs → (n ≡ cond (mapFits cs) 0 8) × (n ≡ 0 → (take (4 * r .cells) (now (map .exit)) ≡ mapBytes cs) × (r .cells ≤ 128) × (length cs ≡ r .cells)))
+    requires { ⌜ (length (now keys) ≡ setCells) × (length (now map) ≡ cellLength * setCells) ⌝ }
+    ensures { λ n. ⌜ ((cs : List Cell) → CellsStand r (now (keys .entry)) cs → (n ≡ cond (mapFits cs) 0 8) × (n ≡ 0 → (take (cellLength * r .cells) (now (map .exit)) ≡ mapBytes cs) × (r .cells ≤ setCells) × (length cs ≡ r .cells)))
         × (length (now (map .exit)) ≡ length (now (map .entry))) ⌝ }
 {
     let n = r.cells as usize;
@@ -92,7 +94,7 @@ fn map_refusal(keys: &[u32], r: Reading, map: &mut [u8]) -> u8
 
 // The checks of the whole text but that of room, with the records written into work memory.
 fn judge(draft: &[u8], keys: &[u32], r: Reading, set: &mut [u8], map: &mut [u8]) -> ReadAnswer
-    requires { ⌜ Sound r (now draft) × (length (now keys) ≡ 128) × (length (now set) ≡ 1024) × (length (now map) ≡ 512) ⌝ }
+    requires { ⌜ Sound r (now draft) × (length (now keys) ≡ setCells) × (length (now set) ≡ recordLength * mostRecords) × (length (now map) ≡ cellLength * setCells) ⌝ }
     ensures { λ a. ⌜ Judges r (now (draft .entry)) (now (keys .entry)) a (now (set .exit)) (now (map .exit)) ⌝ }
 {
     let first = threads_refusal(draft, r);
@@ -122,7 +124,7 @@ fn finish(
     set: &mut [u8],
     map: &mut [u8],
 ) -> ReadAnswer
-    requires { ⌜ Few answer × (length (now records) ≡ 1024) × (length (now cells) ≡ 512) ⌝ }
+    requires { ⌜ Few answer × (length (now records) ≡ recordLength * mostRecords) × (length (now cells) ≡ cellLength * setCells) ⌝ }
     ensures { λ r. ⌜ (r ≡ roomed (length (now (set .entry))) (length (now (map .entry))) answer)
         × (now (set .exit) ≡ outputBy r (setPart answer (now (records .entry))) (now (set .entry)))
         × (now (map .exit) ≡ outputBy r (mapPart answer (now (cells .entry))) (now (map .entry))) ⌝ }

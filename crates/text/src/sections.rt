@@ -8,6 +8,8 @@ ghost use Rattle.text_lines.specs.Lines.{lines};
 ghost use Rattle.text_lines.specs.declared.Form.{Form};
 ghost use Rattle.text.specs.Readings.{Adds, Closes, States, Takes, ReadsLines};
 ghost use Rattle.text.specs.Sections.{halt as haltOf, dots};
+ghost use Rattle.records.specs.Sets.{mostThreads};
+ghost use Rattle.records.specs.Maps.{setCells};
 use crate::Reading;
 use crate::map;
 use records::Layout;
@@ -19,9 +21,9 @@ use text_lines::Form;
 use text_lines::Stated;
 
 // The counts with n for thread t.
-fn with_count(counts: [u16; 4], t: u16, n: u16) -> [u16; 4]
-    requires { ⌜ t < 4 ⌝ }
-    ensures { λ r. ⌜ (r ≡ set counts t n) × (length counts ≡ 4) ⌝ }
+fn with_count(counts: [u16; Layout::THREADS], t: u16, n: u16) -> [u16; Layout::THREADS]
+    requires { ⌜ t < mostThreads ⌝ }
+    ensures { λ r. ⌜ (r ≡ set counts t n) × (length counts ≡ mostThreads) ⌝ }
 {
     let mut after = counts;
     after[t as usize] = n;
@@ -146,14 +148,14 @@ fn count_dots(text: &[u8]) -> u16
 
 // Takes the lines one by one, up to the first that is refused; threads are kept where there are 1 to 4.
 fn read_lines(text: &[u8], draft: &mut [u8], keys: &mut [u32]) -> Reading
-    requires { ⌜ (length (now text) ≤ longestText) × (length (now draft) ≡ draftLength) × (length (now keys) ≡ 128) ⌝ }
+    requires { ⌜ (length (now text) ≤ longestText) × (length (now draft) ≡ draftLength) × (length (now keys) ≡ setCells) ⌝ }
     ensures { λ r. ⌜ ReadsLines (now (text .entry)) r (now (draft .exit)) (now (keys .exit)) ⌝ }
 {
     let total = count_dots(text);
     let mut r = Reading {
         fits: (0 < total) & (total <= Reading::THREADS),
         ended: 0,
-        counts: [0; 4],
+        counts: [0; Layout::THREADS],
         cells: 0,
         refusal: 0,
         line: 0,
@@ -175,7 +177,7 @@ fn read_lines(text: &[u8], draft: &mut [u8], keys: &mut [u32]) -> Reading
 // Keeps what the lines of a text hold; 1 refuses a text above 16,384 bytes.
 pub fn read(text: &[u8], draft: &mut [u8], keys: &mut [u32]) -> Reading
     ensures { λ r. ⌜ (longestText < length (now (text .entry)) → (r .refusal ≡ 1) × (r .line ≡ 0))
-        × (length (now (text .entry)) ≤ longestText → length (now (draft .entry)) ≡ draftLength → length (now (keys .entry)) ≡ 128 → ReadsLines (now (text .entry)) r (now (draft .exit)) (now (keys .exit))) ⌝ }
+        × (length (now (text .entry)) ≤ longestText → length (now (draft .entry)) ≡ draftLength → length (now (keys .entry)) ≡ setCells → ReadsLines (now (text .entry)) r (now (draft .exit)) (now (keys .exit))) ⌝ }
 {
     let fit = (text.len() <= Reading::TEXT)
         & (draft.len() == DRAFT)
@@ -186,7 +188,7 @@ pub fn read(text: &[u8], draft: &mut [u8], keys: &mut [u32]) -> Reading
     Reading {
         fits: false,
         ended: 0,
-        counts: [0; 4],
+        counts: [0; Layout::THREADS],
         cells: 0,
         refusal: refusals::TEXT_LENGTH,
         line: 0,

@@ -9,8 +9,10 @@ ghost use Rattle.text.specs.Answers.{doubledAt, targetFits, threadFits, 
 ghost use Rattle.text_drafts.specs.Blocks.{blockAt};
 ghost use Rattle.text.specs.Drafts.{drafted, threadsIn, fourFit};
 ghost use Rattle.text.specs.Records.{joined, isNamed, argumentOf, statementBytes, setBytes, statements};
+ghost use Rattle.records.specs.Sets.{mostThreads, mostStatements, recordLength, mostRecords};
 use crate::Reading;
 use records::Layout;
+use records::Statement;
 use records::instructions::is_jump;
 use text_lines::Stated;
 
@@ -24,7 +26,7 @@ fn is_named(label: &[u8]) -> bool
 
 // The first of thread t's first n statements that has a label, n where none has.
 fn find(draft: &[u8], t: u16, n: u16, label: &[u8]) -> u16
-    ensures { λ r. ⌜ r ≡ least n (λ p. same (blockAt (now (draft .entry)) (32 * t + p) .label) (now (label .entry))) ⌝ }
+    ensures { λ r. ⌜ r ≡ least n (λ p. same (blockAt (now (draft .entry)) (mostStatements * t + p) .label) (now (label .entry))) ⌝ }
 {
     let mut p: u16 = 0;
     while p < n {
@@ -92,7 +94,7 @@ fn fits(draft: &[u8], t: u16, n: u16) -> bool
 }
 
 // Whether every thread that has ended keeps the rules of labels.
-pub fn labels_fit(draft: &[u8], ended: u16, counts: [u16; 4]) -> bool
+pub fn labels_fit(draft: &[u8], ended: u16, counts: [u16; Layout::THREADS]) -> bool
     ensures { λ r. ⌜ r ≡ labelsFit (threadsIn (now (draft .entry)) ended counts) ⌝ }
 {
     let mut t: u16 = 0;
@@ -106,7 +108,7 @@ pub fn labels_fit(draft: &[u8], ended: u16, counts: [u16; 4]) -> bool
 }
 
 // The record of thread t's statement p.
-fn bytes_of(draft: &[u8], t: u16, n: u16, p: u16) -> [u8; 8]
+fn bytes_of(draft: &[u8], t: u16, n: u16, p: u16) -> [u8; Statement::SIZE]
     requires { ⌜ (p < n) × (t < 256) ⌝ }
     ensures { λ r. ⌜ r ≡ statementBytes t n (drafted (now (draft .entry)) t n) p ⌝ }
 {
@@ -126,8 +128,8 @@ fn bytes_of(draft: &[u8], t: u16, n: u16, p: u16) -> [u8; 8]
 
 // Writes thread t's records after the first k of a set.
 fn write(draft: &[u8], t: u16, n: u16, set: &mut [u8], k: u16)
-    requires { ⌜ (t < 4) × (8 * k + 8 * n ≤ length (now set)) ⌝ }
-    ensures { λ _. ⌜ (take (8 * k + 8 * n) (now (set .exit)) ≡ take (8 * k) (now (set .entry)) ++ joined n (statementBytes t n (drafted (now (draft .entry)) t n)))
+    requires { ⌜ (t < mostThreads) × (recordLength * k + recordLength * n ≤ length (now set)) ⌝ }
+    ensures { λ _. ⌜ (take (recordLength * k + recordLength * n) (now (set .exit)) ≡ take (recordLength * k) (now (set .entry)) ++ joined n (statementBytes t n (drafted (now (draft .entry)) t n)))
         × (length (now (set .exit)) ≡ length (now (set .entry))) ⌝ }
 {
     let start = 8 * (k as usize);
@@ -140,9 +142,9 @@ fn write(draft: &[u8], t: u16, n: u16, set: &mut [u8], k: u16)
 }
 
 // Writes the records of the threads that have ended, and gives their number.
-fn write_threads(draft: &[u8], ended: u16, counts: [u16; 4], set: &mut [u8]) -> u16
-    requires { ⌜ (ended ≤ 4) × ((t : ℕ) → getD counts t 0 ≤ 32) × (1024 ≤ length (now set)) ⌝ }
-    ensures { λ r. ⌜ (r ≡ statements (threadsIn (now (draft .entry)) ended counts)) × (r ≤ 128) × (take (8 * r) (now (set .exit)) ≡ setBytes (threadsIn (now (draft .entry)) ended counts)) ⌝ }
+fn write_threads(draft: &[u8], ended: u16, counts: [u16; Layout::THREADS], set: &mut [u8]) -> u16
+    requires { ⌜ (ended ≤ mostThreads) × ((t : ℕ) → getD counts t 0 ≤ mostStatements) × (recordLength * mostRecords ≤ length (now set)) ⌝ }
+    ensures { λ r. ⌜ (r ≡ statements (threadsIn (now (draft .entry)) ended counts)) × (r ≤ mostRecords) × (take (recordLength * r) (now (set .exit)) ≡ setBytes (threadsIn (now (draft .entry)) ended counts)) ⌝ }
 {
     let mut k: u16 = 0;
     let mut t: u16 = 0;
@@ -156,16 +158,16 @@ fn write_threads(draft: &[u8], ended: u16, counts: [u16; 4], set: &mut [u8]) -> 
 }
 
 // Whether no thread has more than 32 statements.
-fn counts_fit(counts: [u16; 4]) -> bool
-    ensures { λ r. ⌜ (r ≡ fourFit counts) × (length counts ≡ 4) ⌝ }
+fn counts_fit(counts: [u16; Layout::THREADS]) -> bool
+    ensures { λ r. ⌜ (r ≡ fourFit counts) × (length counts ≡ mostThreads) ⌝ }
 {
     (counts[0] <= 32) & (counts[1] <= 32) & (counts[2] <= 32) & (counts[3] <= 32)
 }
 
 // Writes the records of the threads that have ended, where they fit, and gives their number.
-pub fn assemble(draft: &[u8], ended: u16, counts: [u16; 4], set: &mut [u8]) -> u16
-    ensures { λ r. ⌜ (ended ≤ 4 → ((t : ℕ) → getD counts t 0 ≤ 32) → 1024 ≤ length (now (set .entry)) →
-        (r ≡ statements (threadsIn (now (draft .entry)) ended counts)) × (r ≤ 128) × (take (8 * r) (now (set .exit)) ≡ setBytes (threadsIn (now (draft .entry)) ended counts)))
+pub fn assemble(draft: &[u8], ended: u16, counts: [u16; Layout::THREADS], set: &mut [u8]) -> u16
+    ensures { λ r. ⌜ (ended ≤ mostThreads → ((t : ℕ) → getD counts t 0 ≤ mostStatements) → recordLength * mostRecords ≤ length (now (set .entry)) →
+        (r ≡ statements (threadsIn (now (draft .entry)) ended counts)) × (r ≤ mostRecords) × (take (recordLength * r) (now (set .exit)) ≡ setBytes (threadsIn (now (draft .entry)) ended counts)))
         × (length (now (set .exit)) ≡ length (now (set .entry))) ⌝ }
 {
     let fit = (ended <= Reading::THREADS) & counts_fit(counts) & (Layout::SET <= set.len());
@@ -177,7 +179,7 @@ pub fn assemble(draft: &[u8], ended: u16, counts: [u16; 4], set: &mut [u8]) -> u
 
 // Whether the first n records of a set have at most 8 different checkpoints.
 pub fn checkpoints_fit(set: &[u8], n: u16) -> bool
-    ensures { λ r. ⌜ (8 * n ≤ length (now (set .entry)) → r ≡ checkpointsFit (take (8 * n) (now (set .entry)))) ⌝ }
+    ensures { λ r. ⌜ (recordLength * n ≤ length (now (set .entry)) → r ≡ checkpointsFit (take (recordLength * n) (now (set .entry)))) ⌝ }
 {
     let size = 8 * (n as usize);
     if size <= set.len() {

@@ -5,6 +5,7 @@ use lib.ListN.{getD, take, drop}
 use Rattle.base.specs.Bytes.{wordAt, placed}
 use Rattle.text_lines.specs.declared.Form.the-variants.{Good}
 use Rattle.text_lines.specs.declared.Stated.{Stated}
+use Rattle.text_lines.specs.Lines.{longestLabel}
 
 -- the bytes of a block, and of a draft, which has one for each of 128 statements
 abbrev pub blockLength : ℕ
@@ -17,11 +18,11 @@ draftLength = 4608
 abbrev pub blockAt : List ℕ → ℕ → Stated
 blockAt draft k = record {
   form = Good;
-  label = take 16 (drop (blockLength * k + 4) draft);
+  label = take longestLabel (drop (blockLength * k + 4) draft);
   number = getD draft (blockLength * k) 0;
   mode = getD draft (blockLength * k + 1) 0;
   argument = wordAt draft (blockLength * k + 2);
-  target = take 16 (drop (blockLength * k + 20) draft);
+  target = take longestLabel (drop (blockLength * k + 20) draft);
 }
 
 -- the draft with a statement in block k; a part past the draft's end is left out

@@ -6,6 +6,8 @@ ghost use Prim.Native.Nat.{_+_, _*_};
 ghost use lib.ListN.{length, drop, take, getD};
 ghost use Rattle.base.specs.Bytes.{same, wordAt};
 ghost use Rattle.text_drafts.specs.Blocks.{blockLength, stored};
+ghost use Rattle.records.specs.Sets.{mostStatements};
+ghost use Rattle.text_lines.specs.Lines.{longestLabel};
 use records::Layout;
 use text_lines::Stated;
 
@@ -38,7 +40,7 @@ fn part(s: &[u8], i: usize, n: usize) -> &[u8]
 }
 
 // How many statements thread t has.
-pub fn count(counts: [u16; 4], t: u16) -> u16
+pub fn count(counts: [u16; Layout::THREADS], t: u16) -> u16
     ensures { λ r. ⌜ r ≡ getD counts t 0 ⌝ }
 {
     let thread = t as usize;
@@ -50,21 +52,21 @@ pub fn count(counts: [u16; 4], t: u16) -> u16
 
 // The block of thread t's statement p.
 pub fn block(t: u16, p: u16) -> u32
-    ensures { λ r. ⌜ r ≡ 32 * t + p ⌝ }
+    ensures { λ r. ⌜ r ≡ mostStatements * t + p ⌝ }
 {
     (Layout::STATEMENTS as u32) * (t as u32) + (p as u32)
 }
 
 // The label of block k.
 pub fn label(draft: &[u8], k: u32) -> &[u8]
-    ensures { λ r. ⌜ now r ≡ take 16 (drop (blockLength * k + 4) (now (draft .entry))) ⌝ }
+    ensures { λ r. ⌜ now r ≡ take longestLabel (drop (blockLength * k + 4) (now (draft .entry))) ⌝ }
 {
     part(draft, BLOCK * (k as usize) + LABEL, Stated::LABEL)
 }
 
 // The target of block k.
 pub fn target(draft: &[u8], k: u32) -> &[u8]
-    ensures { λ r. ⌜ now r ≡ take 16 (drop (blockLength * k + 20) (now (draft .entry))) ⌝ }
+    ensures { λ r. ⌜ now r ≡ take longestLabel (drop (blockLength * k + 20) (now (draft .entry))) ⌝ }
 {
     part(draft, BLOCK * (k as usize) + TARGET, Stated::LABEL)
 }
@@ -92,7 +94,7 @@ pub fn argument(draft: &[u8], k: u32) -> u16
 
 // Puts a statement into block k, if there is room.
 pub fn put(draft: &mut [u8], k: u32, x: Stated)
-    ensures { λ _. ⌜ (now (draft .exit) ≡ stored (now (draft .entry)) k x) × (length (x .label) ≡ 16) × (length (x .target) ≡ 16) ⌝ }
+    ensures { λ _. ⌜ (now (draft .exit) ≡ stored (now (draft .entry)) k x) × (length (x .label) ≡ longestLabel) × (length (x .target) ≡ longestLabel) ⌝ }
 {
     let at = BLOCK * (k as usize);
     let label = x.label;
@@ -110,7 +112,7 @@ pub fn put(draft: &mut [u8], k: u32, x: Stated)
 
 // Whether two labels of sixteen bytes are the same. Sixteen tests without a branch are one comparison of the machine.
 fn sixteen(a: &[u8], b: &[u8]) -> bool
-    requires { ⌜ (length (now a) ≡ 16) × (length (now b) ≡ 16) ⌝ }
+    requires { ⌜ (length (now a) ≡ longestLabel) × (length (now b) ≡ longestLabel) ⌝ }
     ensures { λ r. ⌜ r ≡ same (now (a .entry)) (now (b .entry)) ⌝ }
 {
     (a[0] == b[0])

@@ -51,9 +51,13 @@ unlabelled = 0 ∷ 0 ∷ 0 ∷ 0 ∷ 0 ∷ 0 ∷ 0 ∷ 0 ∷ 0 ∷ 0 ∷ 0 ∷ 0
 unfoldable pub padded : List ℕ → List ℕ
 padded label = over label unlabelled
 
+-- the most bytes of a label
+abbrev pub longestLabel : ℕ
+longestLabel = 16
+
 -- Labels have 1 to 16 letters, digits or underscores, no digit first; w is a name.
 unfoldable pub isLabel : List ℕ → Bool
-isLabel w = ltb 0 (length w) && leb (length w) 16 && not (isDigit (first w))
+isLabel w = ltb 0 (length w) && leb (length w) longestLabel && not (isDigit (first w))
 
 -- a line that holds no statement
 abbrev pub noStatement : Form → Stated

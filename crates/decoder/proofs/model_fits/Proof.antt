@@ -1,6 +1,6 @@
 -- `decoder::model_fits` meets its contract. Assumes nothing.
 use Rattle.decoding.specs.Models.{modelFits, bits}
-use Rattle.records.specs.Maps.{mapAccepted}
+use Rattle.records.specs.Maps.{mapAccepted, runCells}
 use Rattle.base.proofs.Factors.{product-below}
 use Rattle.base.proofs.Choice.{and-true, and-false, and-right-false}
 use denote.Ref.{now}
@@ -45,8 +45,8 @@ returns-2 : tie.Need-returns-2
 unfolding modelFits
 returns-2 c = let t = c .before .before in let a = t .before .before .before .before .args in let s = now (a .model) in let n = bits (a .threads) (a .bound) in
     c .map-accepted .ensures
-    ∙ (ap (mapAccepted 256) (take-all (length s - n) (drop n s) (let e = length-drop n s in omega arith))
-    ∙ sym (ap (λ (b : Bool). b && mapAccepted 256 (drop n s)) (and-true (le-leb _ _ (t .before .before .if1 .left)) (sym (t .before .are-bits .ensures) ∙ t .if2 .taken))))
+    ∙ (ap (mapAccepted runCells) (take-all (length s - n) (drop n s) (let e = length-drop n s in omega arith))
+    ∙ sym (ap (λ (b : Bool). b && mapAccepted runCells (drop n s)) (and-true (le-leb _ _ (t .before .before .if1 .left)) (sym (t .before .are-bits .ensures) ∙ t .if2 .taken))))
 
 returns-3 : tie.Need-returns-3
 unfolding modelFits

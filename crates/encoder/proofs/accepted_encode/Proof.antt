@@ -16,6 +16,7 @@ use Rattle.encoder.specs.declared.TableAnswer.the-variants.{Encoded}
 use Rattle.encoder.proofs.Accepted.{bound-zero, bound-large, bound-fits, limits, points-differ, table-is}
 use Rattle.encoder.proofs.accepted_encode.Statement.{statement}
 use Rattle.encoder.proofs.accepted_encode.Tie as tie
+use Rattle.records.specs.Maps.{setCells}
 
 returns : tie.Need-returns
 unfolding encodeAnswer
@@ -46,7 +47,7 @@ mul-if3 c =
     let p = c .before .before .before .before .before .before .before .pre in
     let points = c .before .of-set in
     let l = limits (now (a .set)) (a .layout) (points .result) (p .0) (p .2) (points .ensures) in
-    let few = c .table-records .ensures .1 l (few-cells 128 (now (a .map)) (p .1)) (omega arith) in
+    let few = c .table-records .ensures .1 l (few-cells setCells (now (a .map)) (p .1)) (omega arith) in
     omega arith
 
 returns-3 : tie.Need-returns-3
@@ -67,7 +68,7 @@ write-requires c κs =
     let p = c .before .before .before .before .before .before .before .before .before .pre in
     let points = c .before .before .before .of-set in
     let t = c .before .before .table-records .ensures .0 in
-    (limits (now (a .set)) (a .layout) (points .result) (p .0) (p .2) (points .ensures), few-cells 128 (now (a .map)) (p .1), omega arith, omega arith, points-differ (now (a .set)) (a .layout) (points .result) (p .0) (p .2) (points .ensures))
+    (limits (now (a .set)) (a .layout) (points .result) (p .0) (p .2) (points .ensures), few-cells setCells (now (a .map)) (p .1), omega arith, omega arith, points-differ (now (a .set)) (a .layout) (points .result) (p .0) (p .2) (points .ensures))
 
 cast-t16 : tie.Need-cast-t16
 cast-t16 c =
@@ -75,7 +76,7 @@ cast-t16 c =
     let p = c .before .before .before .before .before .before .before .before .before .before .before .before .pre in
     let points = c .before .before .before .before .before .before .of-set in
     let l = limits (now (a .set)) (a .layout) (points .result) (p .0) (p .2) (points .ensures) in
-    let few = c .before .before .before .before .before .table-records .ensures .1 l (few-cells 128 (now (a .map)) (p .1)) (omega arith) in
+    let few = c .before .before .before .before .before .table-records .ensures .1 l (few-cells setCells (now (a .map)) (p .1)) (omega arith) in
     omega arith
 
 same-length : tie.Need-same-length

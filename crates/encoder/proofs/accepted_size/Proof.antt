@@ -10,6 +10,7 @@ use Rattle.encoder.specs.declared.TableAnswer.the-variants.{Encoded}
 use Rattle.encoder.proofs.Accepted.{bound-zero, bound-large, bound-fits, limits, table-is}
 use Rattle.encoder.proofs.accepted_size.Statement.{statement}
 use Rattle.encoder.proofs.accepted_size.Tie as tie
+use Rattle.records.specs.Maps.{setCells}
 
 returns : tie.Need-returns
 unfolding sizeAnswer
@@ -40,7 +41,7 @@ cast-t9 c =
     let p = c .before .before .before .before .before .before .pre in
     let points = c .before .of-set in
     let l = limits (now (a .set)) (a .layout) (points .result) (p .0) (p .2) (points .ensures) in
-    let few = c .table-records .ensures .1 l (few-cells 128 (now (a .map)) (p .1)) (omega arith) in
+    let few = c .table-records .ensures .1 l (few-cells setCells (now (a .map)) (p .1)) (omega arith) in
     omega arith
 
 returns-3 : tie.Need-returns-3

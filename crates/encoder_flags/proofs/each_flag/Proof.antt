@@ -1,5 +1,5 @@
 -- `encoder_flags::each_flag` meets its contract. Assumes nothing.
-use Rattle.set_index.specs.StatementRecords.{Stands}
+use Rattle.records.specs.StatementRecords.{Stands}
 use Rattle.set_index.specs.ListTables.{JumpsOf}
 use Rattle.encoder_slots.proofs.Entries.{row-others}
 use Rattle.encoder_slots.proofs.Pieces.{writes-row, writes-more, below-after}

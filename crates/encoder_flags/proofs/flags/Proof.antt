@@ -7,7 +7,7 @@ use native.Mathlib.Omega.{arith}
 use denote.Ref.{now}
 use lib.ListN.{getD}
 use borrow.Author.Needs.{needs}
-use Rattle.set_index.proofs.StatementRecords.{stands-by}
+use Rattle.records.proofs.StatementRecords.{stands-by}
 use Rattle.encoder_flags.proofs.flags.Statement.{statement}
 use Rattle.encoder_flags.proofs.flags.Tie as tie
 use Rattle.table.specs.Repeats.{lastIndex}

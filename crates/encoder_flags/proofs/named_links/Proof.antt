@@ -1,5 +1,5 @@
 -- `encoder_flags::named_links` meets its contract. Assumes nothing.
-use Rattle.set_index.specs.StatementRecords.{StandsFrom}
+use Rattle.records.specs.StatementRecords.{StandsFrom}
 use Rattle.set_index.specs.Members.{namesTarget}
 use Rattle.encoder_slots.specs.Pieces.{WritesTree}
 use Rattle.encoder_slots.specs.Places.{placeOf}

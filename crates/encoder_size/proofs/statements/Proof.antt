@@ -7,27 +7,19 @@ use Rattle.machine.specs.Machine.{isCheck, contains}
 use Rattle.machine.proofs.Groups.{some-same}
 use Rattle.base.specs.Below.{some}
 use Rattle.set_index.specs.Points.{listed}
-use Rattle.base.proofs.Choice.{chosen}
-use Rattle.records.specs.declared.Layout.{Layout}
+use Rattle.records.proofs.StatementRecords.{stands-by}
 use Rattle.records.specs.declared.Statement.{Statement}
-use Rattle.records.specs.Sets.{setBy, statementAt, nothing}
+use Rattle.records.specs.Sets.{setBy, statementAt}
 use Prim.Native.Nat.{ℕ, _+_, _-_, _*_, _≤_, _<_}
 use mathlib.Core.List.{List}
 use mathlib.Core.Bool.{Bool}
 use mathlib.Core.Path.{_≡_, refl, ap, sym, _∙_}
-use borrow.Author.Tests.{lt-ltb}
 use lib.ListN.{length, getD}
 use native.Mathlib.Omega.{arith}
 use denote.Ref.{now}
 use borrow.Author.Needs.{needs}
 use Rattle.encoder_size.proofs.statements.Statement.{statement}
 use Rattle.encoder_size.proofs.statements.Tie as tie
-
--- record first + j is thread t's statement j
-held : (set : List ℕ) (layout : Layout) (t first j : ℕ) → first ≡ getD (layout .starts) t 0 → j < getD (layout .counts) t 0 →
-    statementAt set (first + j) ≡ setBy set layout .statement t j
-held set layout t first j e l =
-    ap (λ (k : ℕ). statementAt set (k + j)) e ∙ sym (chosen (statementAt set (getD (layout .starts) t 0 + j)) nothing (lt-ltb _ _ l))
 
 -- a statement is a CHECK of checkpoint p
 abbrev checksIn : List ℕ → Statement → ℕ → Bool
@@ -107,12 +99,12 @@ returns c =
     let all : a .count ≡ getD (a .layout .counts) (a .t) 0 = c .before .before .before .before .before .pre .0 in (
       l .inv .2 ∙ ap (total (λ j. statementRecords cs (a .count) j (statementAt (now (a .set)) (read .result + j)))) i-is
           ∙ total-ext _ (λ j. statementRecords cs (a .count) j (S .statement (a .t) j)) (a .count)
-          (λ j h. ap (λ (s : Statement). statementRecords cs (a .count) j s) (held (now (a .set)) (a .layout) (a .t) (read .result) j (read .ensures .0) (omega arith))),
+          (λ j h. ap (λ (s : Statement). statementRecords cs (a .count) j s) (sym (stands-by (now (a .set)) (a .layout) (a .t) (read .result) (read .ensures .0) .statementIs j (omega arith)))),
       omega arith,
       l .inv .4,
       notes-ext (length cs) (λ p. some (l .i) (λ j. checksIn cs (statementAt (now (a .set)) (read .result + j)) p)) (λ p. contains S (a .t) (getD cs p 0)) (now (a .seen)) (l .seen)
           (λ p. some-same (λ j. checksIn cs (statementAt (now (a .set)) (read .result + j)) p) (isCheck S (a .t) (getD cs p 0)) (l .i)
-          (λ j h. ap (λ (s : Statement). checksIn cs s p) (held (now (a .set)) (a .layout) (a .t) (read .result) j (read .ensures .0) (omega arith)))
+          (λ j h. ap (λ (s : Statement). checksIn cs s p) (sym (stands-by (now (a .set)) (a .layout) (a .t) (read .result) (read .ensures .0) .statementIs j (omega arith))))
           ∙ ap (λ (k : ℕ). some k (isCheck S (a .t) (getD cs p 0))) (i-is ∙ all)) (l .inv .6),
     )
 

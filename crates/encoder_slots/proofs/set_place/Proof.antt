@@ -3,12 +3,13 @@ use Prim.Native.Nat.{_+_, _*_, _%_, _<_}
 use mathlib.Core.Path.{_≡_, refl, _∙_}
 use native.Mathlib.Omega.{arith}
 use lib.ListN.{length, set, length-set}
-use Rattle.encoder_slots.specs.Places.{width, placeOf}
+use Rattle.encoder_slots.specs.Places.{width, placeOf, size}
 use Rattle.encoder_slots.proofs.Rows.{Counted, counted-index}
 use Rattle.encoder_slots.proofs.Stores.{place-put}
 use borrow.Author.Needs.{needs}
 use Rattle.encoder_slots.proofs.set_place.Statement.{statement}
 use Rattle.encoder_slots.proofs.set_place.Tie as tie
+use Rattle.encoding.specs.Slots.{kindCount}
 
 width-requires : tie.Need-width-requires
 width-requires c κs = search needs
@@ -55,7 +56,7 @@ returns : tie.Need-returns
 returns c = let d = counted (c .before .before) in
     let a = c .before .before .before .before .before .before .before .args in (
       length-set (a .slots .now) _ _,
-      λ (n : length (a .slots .now) ≡ 2304) (k : a .kind < 41) (p : a .a < 4) (q : a .b < width (a .kind)) (small : a .index < 4294967295).
+      λ (n : length (a .slots .now) ≡ size) (k : a .kind < kindCount) (p : a .a < 4) (q : a .b < width (a .kind)) (small : a .index < 4294967295).
           let whole : (a .index % 4294967296 + 1) % 4294967296 ≡ a .index + 1 = omega arith in
           let i = d .within k in
           let e = d .isIndex in
@@ -65,11 +66,11 @@ returns c = let d = counted (c .before .before) in
 
 returns-2 : tie.Need-returns-2
 returns-2 c = let a = c .before .before .before .before .before .before .before .args in
-    (refl, λ n (k : a .kind < 41) p q small. absurd (omega arith))
+    (refl, λ n (k : a .kind < kindCount) p q small. absurd (omega arith))
 
 returns-3 : tie.Need-returns-3
 returns-3 c = let a = c .before .before .before .before .before .before .args in
-    (refl, λ (n : length (a .slots .now) ≡ 2304) k p q small. absurd (omega arith))
+    (refl, λ (n : length (a .slots .now) ≡ size) k p q small. absurd (omega arith))
 
 returns-4 : tie.Need-returns-4
 returns-4 c = let a = c .before .before .before .before .args in

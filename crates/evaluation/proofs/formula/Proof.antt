@@ -23,11 +23,11 @@ add-t7 c = search needs
 shared-slice-read-t11 : tie.Need-shared-slice-read-t11
 shared-slice-read-t11 c = search needs
 
-add-word : tie.Need-add-word
-add-word c = search needs
+add-word-at : tie.Need-add-word-at
+add-word-at c = search needs
 
-word-requires : tie.Need-word-requires
-word-requires c κs = search needs
+word-at-requires : tie.Need-word-at-requires
+word-at-requires c κs = search needs
 
 add-operand : tie.Need-add-operand
 add-operand c = search needs
@@ -50,7 +50,7 @@ operand-requires-3 c κs = search needs
 returns : tie.Need-returns
 unfolding formulaAt
 returns c = let b = c .before .before .before .before .before .before in let s = now (b .before .before .args .work) in let i = b .before .before .args .i in
-    (λ z. record { operation = getD s (16 * i) 0; sort = getD s (16 * i + 1) 0; constant = c .before .before .before .word .ensures z; a = c .before .before .operand .ensures z; b = c .before .operand2 .ensures z; c = c .operand3 .ensures z })
+    (λ z. record { operation = getD s (16 * i) 0; sort = getD s (16 * i + 1) 0; constant = c .before .before .before .word-at .ensures z; a = c .before .before .operand .ensures z; b = c .before .operand2 .ensures z; c = c .operand3 .ensures z })
     ∙ sym (chosen (formulaAt s i) noFormula (lt-ltb _ _ (b .if1 .taken)))
 
 returns-2 : tie.Need-returns-2
@@ -64,8 +64,8 @@ formula-spec =
     shared-slice-read-t9
     add-t7
     shared-slice-read-t11
-    add-word
-    word-requires
+    add-word-at
+    word-at-requires
     add-operand
     operand-requires
     add-operand-2

@@ -26,24 +26,24 @@ sub-middle c = search needs
 add-middle : tie.Need-add-middle Inv-loop μ-loop
 add-middle c = search needs
 
-mul-word : tie.Need-mul-word Inv-loop μ-loop
-mul-word c = search needs
+mul-word-at : tie.Need-mul-word-at Inv-loop μ-loop
+mul-word-at c = search needs
 
-word-requires : tie.Need-word-requires Inv-loop μ-loop
-word-requires c κs = search needs
+word-at-requires : tie.Need-word-at-requires Inv-loop μ-loop
+word-at-requires c κs = search needs
 
-mul-word-2 : tie.Need-mul-word-2 Inv-loop μ-loop
-mul-word-2 c = search needs
+mul-word-at-2 : tie.Need-mul-word-at-2 Inv-loop μ-loop
+mul-word-at-2 c = search needs
 
-add-word : tie.Need-add-word Inv-loop μ-loop
-add-word c = search needs
+add-word-at : tie.Need-add-word-at Inv-loop μ-loop
+add-word-at c = search needs
 
-word-requires-2 : tie.Need-word-requires-2 Inv-loop μ-loop
-word-requires-2 c κs = search needs
+word-at-requires-2 : tie.Need-word-at-requires-2 Inv-loop μ-loop
+word-at-requires-2 c κs = search needs
 
 returns : tie.Need-returns Inv-loop μ-loop
 returns c = let l = c .before .before .before .before in let s = l .before .before in let a = s .args in
-    c .word2 .ensures ∙ sym (found (now (a .cells)) (a .x) (s .pre) (l .loop .low + (l .loop .high - l .loop .low) / 2) (omega arith) (sym (c .before .before .word .ensures) ∙ c .before .if1 .taken))
+    c .word-at2 .ensures ∙ sym (found (now (a .cells)) (a .x) (s .pre) (l .loop .low + (l .loop .high - l .loop .low) / 2) (omega arith) (sym (c .before .before .word-at .ensures) ∙ c .before .if1 .taken))
 
 add-low : tie.Need-add-low Inv-loop μ-loop
 add-low c = search needs
@@ -54,7 +54,7 @@ loop-less c = search needs
 loop-again : tie.Need-loop-again Inv-loop μ-loop
 loop-again c = let l = c .before .before .before .before in let s = l .before .before in let a = s .args in let v = l .loop .inv in
     let middle = l .loop .low + (l .loop .high - l .loop .low) / 2 in
-    let e : addressAt (now (a .cells)) middle < a .x = omega (arith, c .before .before .word .ensures, c .if2 .taken) in
+    let e : addressAt (now (a .cells)) middle < a .x = omega (arith, c .before .before .word-at .ensures, c .if2 .taken) in
     (search needs, (v .1 .0, (lower (now (a .cells)) (a .x) (s .pre) middle (omega arith) e, v .1 .1 .1)))
 
 loop-less-2 : tie.Need-loop-less-2 Inv-loop μ-loop
@@ -63,7 +63,7 @@ loop-less-2 c = search needs
 loop-again-2 : tie.Need-loop-again-2 Inv-loop μ-loop
 loop-again-2 c = let l = c .before .before .before .before in let s = l .before .before in let a = s .args in let v = l .loop .inv in
     let middle = l .loop .low + (l .loop .high - l .loop .low) / 2 in
-    let e : a .x < addressAt (now (a .cells)) middle = omega (arith, c .before .before .word .ensures, c .before .if1 .left, c .if2 .left) in
+    let e : a .x < addressAt (now (a .cells)) middle = omega (arith, c .before .before .word-at .ensures, c .before .if1 .left, c .if2 .left) in
     (search needs, (search needs, (v .1 .1 .0, higher (now (a .cells)) (a .x) (s .pre) middle (omega arith) e)))
 
 returns-2 : tie.Need-returns-2 Inv-loop μ-loop
@@ -83,11 +83,11 @@ search-spec =
     loop-holds
     sub-middle
     add-middle
-    mul-word
-    word-requires
-    mul-word-2
-    add-word
-    word-requires-2
+    mul-word-at
+    word-at-requires
+    mul-word-at-2
+    add-word-at
+    word-at-requires-2
     returns
     add-low
     loop-less

@@ -15,6 +15,7 @@ use Rattle.listing_output.specs.Schedules.{candidate, denies, allows, ne
 use Rattle.listing_output.proofs.Runs.{stored}
 use Rattle.listing_output.proofs.next.Statement.{statement}
 use Rattle.listing_output.proofs.next.Tie as tie
+use Rattle.machine.specs.Traces.{longestTrace}
 
 abbrev Inv-loop : tie.InvT-loop
 Inv-loop set map k tried₀ j₀ tried j = (k < 64) × (length tried ≡ 64) × (take k tried ≡ take k tried₀) × (j ≤ 7) × (least j (allows set map (take k tried₀)) ≡ j)
@@ -29,7 +30,7 @@ allowed : (x : tie.After-denied Inv-loop μ-loop) →
 allowed x =
     let a = x .before .before .before .before .before .before .before .args in
     let l = x .before .before .before .before .loop in
-    ap (λ (run : List ℕ). not (denies (simulated (now (a .set)) (now (a .map)) run 1536)))
+    ap (λ (run : List ℕ). not (denies (simulated (now (a .set)) (now (a .map)) run longestTrace)))
     (sym (stored (take (a .k) (a .schedule)) (l .tried) (a .k) (candidate (l .j)) (l .inv .2) (omega (arith, l .inv .0, l .inv .1)))
     ∙ ap (λ (b : ℕ). take (a .k + 1) (set (l .tried) (a .k) b)) (sym (x .before .before .candidate .ensures)))
     ∙ sym (ap not (x .denied .ensures))

@@ -26,10 +26,11 @@ use Rattle.listing_output.proofs.Runs.{linesOf, stored}
 use Rattle.listing_output.proofs.Texts.{stands-as, stands-none}
 use Rattle.listing_output.proofs.run.Statement.{statement}
 use Rattle.listing_output.proofs.run.Tie as tie
+use Rattle.machine.specs.Traces.{longestTrace}
 
 abbrev Inv-loop : tie.InvT-loop
 Inv-loop set map out₀ schedule₀ trace₀ at₀ k₀ out schedule trace at k =
-    (accepts set map ≡ true) × (k ≤ 64) × (length schedule ≡ 64) × (length trace ≡ 1536) × (length out ≡ length out₀)
+    (accepts set map ≡ true) × (k ≤ 64) × (length schedule ≡ 64) × (length trace ≡ longestTrace) × (length out ≡ length out₀)
     × Follows (setOf set) (begin map) (listingFrom (setOf set) (begin map) noWrite 64) (choices (take k schedule)) (64 - k)
     × Stands (linesOf (setOf set) (begin map) noWrite (choices (take k schedule))) out₀ at out
 
@@ -63,7 +64,7 @@ grown x =
     stored (bytes-of x) (l .schedule) (l .k) (x .before .before .before .next .result) refl (omega (arith, l .inv .2, x .before .before .before .before .loop-test .taken))
     ∙ ap (λ (b : ℕ). bytes-of x ++ (b ∷ [])) (x .before .before .before .next .ensures)
 
-answered : (x : tie.After-simulate Inv-loop μ-loop) → x .simulate .result ≡ simulated (set-of x) (map-of x) (more-of x) 1536
+answered : (x : tie.After-simulate Inv-loop μ-loop) → x .simulate .result ≡ simulated (set-of x) (map-of x) (more-of x) longestTrace
 answered x = x .simulate .ensures .0 ∙ ap₂ (λ (run : List ℕ) (room : ℕ). simulated (set-of x) (map-of x) run room) (grown x) (x .before .before .before .before .before .loop .inv .3)
 
 -- the bytes of the step that was taken
@@ -187,7 +188,7 @@ returns c =
     let l = c .before .before .before .before .before .before .before .before .before .before .before .before .before .before .loop in
     let number = c .before .before .before .before .before .before .answer2 .given .0 .0 in
     stands-as (c .before .before .stop .ensures _ _ (l .inv .6))
-    (ap (λ (run : List ℕ). linesOf (setOf (set-of x)) (begin (map-of x)) noWrite (choices (bytes-of x)) ++ cond (eqb number 14) (refusedLine 14) (lastOf (simulated (set-of x) (map-of x) run 1536)))
+    (ap (λ (run : List ℕ). linesOf (setOf (set-of x)) (begin (map-of x)) noWrite (choices (bytes-of x)) ++ cond (eqb number 14) (refusedLine 14) (lastOf (simulated (set-of x) (map-of x) run longestTrace)))
     (take-set-le (l .k) (l .schedule) (l .k) (c .before .before .before .before .before .before .before .before .before .before .before .before .next .result) (omega arith))
     ∙ stops (set-of x) (map-of x) (l .inv .0) _ (bytes-of x) (64 - (l .k + 1)) number _ (bytes-below x) (follows-of x) (sym (answered x) ∙ c .before .before .before .before .before .before .answer2 .given .1))
 

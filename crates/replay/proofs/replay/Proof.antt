@@ -6,7 +6,7 @@ use mathlib.Core.Bool.{true}
 use Rattle.records.proofs.Layouts.{no-threads, some-threads, few-threads, set-read}
 use Rattle.records.proofs.Maps.{few-cells}
 use Rattle.records.specs.Sets.{Set, setAccepted}
-use Rattle.records.specs.Maps.{mapAccepted}
+use Rattle.records.specs.Maps.{mapAccepted, runCells}
 use Rattle.base.proofs.Choice.{chosen, passed, and-true, and-false, and-right-false}
 use borrow.Author.Needs.{needs}
 use Rattle.replay.proofs.replay.Statement.{statement}
@@ -33,7 +33,7 @@ unfolding replayed
 returns c =
     let l = c .before .before .before in
     let a = l .before .before .before .before .args in
-    c .refused .ensures ∙ sym (passed _ _ (and-false (mapAccepted 256 (now (a .map))) (no-threads (now (a .set)) (l .layout .result) (l .layout .ensures) (c .before .if1 .taken))))
+    c .refused .ensures ∙ sym (passed _ _ (and-false (mapAccepted runCells (now (a .map))) (no-threads (now (a .set)) (l .layout .result) (l .layout .ensures) (c .before .if1 .taken))))
 
 map-accepted-requires : tie.Need-map-accepted-requires
 map-accepted-requires c κs = search needs
@@ -42,7 +42,7 @@ accepted-requires : tie.Need-accepted-requires
 accepted-requires c κs =
     let m = c .before in
     let a = m .before .before .before .before .before .before .before .args in
-    (few-threads (now (a .set)) _ (m .before .before .before .layout .ensures) (good m), few-cells 256 (now (a .map)) (sym (m .map-accepted .ensures) ∙ c .if2 .taken))
+    (few-threads (now (a .set)) _ (m .before .before .before .layout .ensures) (good m), few-cells runCells (now (a .map)) (sym (m .map-accepted .ensures) ∙ c .if2 .taken))
 
 returns-2 : tie.Need-returns-2
 unfolding replayed

@@ -10,7 +10,7 @@ use borrow.Author.Needs.{needs}
 use borrow.Author.Tests.{lt-ltb, le-ltb}
 use Rattle.simulation.proofs.Written.{out-most, put-out}
 use Rattle.simulation.specs.Simulation.{limited}
-use Rattle.machine.specs.Traces.{trace}
+use Rattle.machine.specs.Traces.{trace, longestTrace}
 use Rattle.machine.specs.Runs.{choices}
 use Rattle.machine.specs.Machine.{start, noWrite}
 use Rattle.machine.proofs.Runs.{length-trace, length-choices}
@@ -56,7 +56,7 @@ unfolding limited
 decided r =
     passed _ _ (le-ltb _ _ (short r)) ∙ passed _ _ (le-ltb _ _ (r .before .before .if2 .left))
     ∙ sym (r .follow .ensures .0
-    ∙ followed-within (set-of r) (map-of r) (start-of r .pre .0) (start-of r .pre .1) (schedule-of r) 1536 (short r) (short r))
+    ∙ followed-within (set-of r) (map-of r) (start-of r .pre .0) (start-of r .pre .1) (schedule-of r) longestTrace (short r) (short r))
 
 abbrev output-of : tie.After-follow → List ℕ
 output-of r = trace (set-of r) (start (mapValue (map-of r))) noWrite (choices (schedule-of r))

@@ -1,6 +1,6 @@
 -- `simulation::simulate` meets its contract. Assumes nothing.
 use lib.ListN.{length}
-use Rattle.records.specs.Maps.{mapValue, mapAccepted}
+use Rattle.records.specs.Maps.{mapValue, mapAccepted, runCells}
 use Rattle.machine.specs.Traces.{trace}
 use Rattle.machine.specs.Runs.{choices}
 use Rattle.machine.specs.Machine.{start, noWrite}
@@ -32,7 +32,7 @@ returns : tie.Need-returns
 unfolding simulated
 returns c =
     let a = c .before .before .before .before .before .before .before .args in
-    (sym (passed _ _ (and-false (mapAccepted 256 (now (a .map))) (no-threads (now (a .set)) (c .before .before .layout .result) (c .before .before .layout .ensures) (c .if1 .taken)))), refl)
+    (sym (passed _ _ (and-false (mapAccepted runCells (now (a .map))) (no-threads (now (a .set)) (c .before .before .layout .result) (c .before .before .layout .ensures) (c .if1 .taken)))), refl)
 
 map-accepted-requires : tie.Need-map-accepted-requires
 map-accepted-requires c κs = search needs
@@ -41,7 +41,7 @@ accepted-requires : tie.Need-accepted-requires
 accepted-requires c κs =
     let m = c .before .before in
     let a = m .before .before .before .before .before .before .before .before .args in
-    (few-threads (now (a .set)) _ (m .before .before .before .layout .ensures) (good m), few-cells 256 (now (a .map)) (sym (m .map-accepted .ensures) ∙ c .before .if2 .taken))
+    (few-threads (now (a .set)) _ (m .before .before .before .layout .ensures) (good m), few-cells runCells (now (a .map)) (sym (m .map-accepted .ensures) ∙ c .before .if2 .taken))
 
 same-length : tie.Need-same-length
 same-length c = search needs

@@ -1,7 +1,7 @@
 -- `text::map_refusal` meets its contract. Assumes nothing.
 use Rattle.text.specs.Records.{mapBytes}
 use Rattle.text.specs.Answers.{mapFits}
-use Rattle.records.specs.Maps.{mapAccepted}
+use Rattle.records.specs.Maps.{mapAccepted, setCells}
 use Rattle.base.proofs.Choice.{chosen, passed, and-false}
 use lib.ListN.{length}
 use borrow.Author.Tests.{lt-leb}
@@ -37,7 +37,7 @@ returns-2 c = let s = c .before .before .before .before .before .before .before 
     let few : s .args .r .cells ≤ 128 = c .before .before .before .before .before .before .before .if1 .left in
     let bytes = w .0 (omega (arith, few, s .pre .0)) (omega (arith, s .pre .0, s .pre .1)) in (
       (λ cs st. let m = bytes ∙ ap mapBytes (sym (st .few few .0)) in
-          (sym (chosen {A = ℕ} 0 8 (st .accepted ∙ ap (mapAccepted 128) (sym m) ∙ sym (c .before .fits2 .ensures (omega (arith, few, w .1, s .pre .1))) ∙ c .if2 .taken)), λ e. (m, few, st .few few .1))),
+          (sym (chosen {A = ℕ} 0 8 (st .accepted ∙ ap (mapAccepted setCells) (sym m) ∙ sym (c .before .fits2 .ensures (omega (arith, few, w .1, s .pre .1))) ∙ c .if2 .taken)), λ e. (m, few, st .few few .1))),
       w .1,
     )
 
@@ -49,7 +49,7 @@ returns-3 c = let s = c .before .before .before .before .before .before .before 
     let few : s .args .r .cells ≤ 128 = c .before .before .before .before .before .before .before .if1 .left in
     let bytes = w .0 (omega (arith, few, s .pre .0)) (omega (arith, s .pre .0, s .pre .1)) in (
       (λ cs st. let m = bytes ∙ ap mapBytes (sym (st .few few .0)) in
-          (sym (passed {A = ℕ} 0 8 (st .accepted ∙ ap (mapAccepted 128) (sym m) ∙ sym (c .before .fits2 .ensures (omega (arith, few, w .1, s .pre .1))) ∙ c .if2 .left)), λ e. absurd (omega (arith, e)))),
+          (sym (passed {A = ℕ} 0 8 (st .accepted ∙ ap (mapAccepted setCells) (sym m) ∙ sym (c .before .fits2 .ensures (omega (arith, few, w .1, s .pre .1))) ∙ c .if2 .left)), λ e. absurd (omega (arith, e)))),
       w .1,
     )
 

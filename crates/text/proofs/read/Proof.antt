@@ -1,7 +1,7 @@
 -- `text::read` meets its contract. Assumes nothing.
 use Rattle.text.specs.declared.ReadAnswer.the-variants.{Refused}
 use Rattle.text.specs.Sections.{threads, cells}
-use Rattle.text.specs.Answers.{setOutput, mapOutput}
+use Rattle.text.specs.Answers.{setOutput, mapOutput, longestText}
 use Rattle.text.proofs.Whole.{threads-stand, cells-stand, written-few, answer-is, answer-long, answer-line, set-output, map-output}
 use Rattle.text_lines.specs.Lines.{lines}
 use lib.ListN.{length}
@@ -31,7 +31,7 @@ read-requires c κs = search needs
 returns : tie.Need-returns
 unfolding setOutput mapOutput
 returns c = let s = c .before .before .before .before .before .before .before .before .before .before in let r = c .before .before .before .before .read in let text = s .args .text .now in (
-  elim (decLt 16384 (length text)) [
+  elim (decLt longestText (length text)) [
     | yes h ↦ ap₂ Refused (r .ensures .0 h .0) (r .ensures .0 h .1) ∙ answer-long text (length (s .args .set .now)) (length (s .args .map .now)) h
     | no h ↦ answer-line text (length (s .args .set .now)) (length (s .args .map .now)) _ _ (omega arith) (r .ensures .1 (omega arith) (search needs) (search needs) .refused (c .if1 .taken))
   ],
@@ -53,7 +53,7 @@ slice-aggregate-judge-4 c = search needs
 
 judge-requires : tie.Need-judge-requires
 judge-requires c κs = let s = c .before .before .before .before .before .before .before .before .before .before .before .before .before .before in let r = c .before .before .before .before .before .before .before .before .read .ensures in
-    let short : length (s .args .text .now) ≤ 16384 = elim (decLt 16384 (length (s .args .text .now))) [ yes h ↦ absurd (let z = r .0 h .0 in omega (arith, z, c .before .before .before .before .if1 .left)) | no h ↦ omega arith ] in
+    let short : length (s .args .text .now) ≤ longestText = elim (decLt longestText (length (s .args .text .now))) [ yes h ↦ absurd (let z = r .0 h .0 in omega (arith, z, c .before .before .before .before .if1 .left)) | no h ↦ omega arith ] in
     (r .1 short (search needs) (search needs) .sound, search needs, refl, refl)
 
 slice-aggregate-finish : tie.Need-slice-aggregate-finish
@@ -65,7 +65,7 @@ slice-aggregate-finish-2 c = search needs
 finish-requires : tie.Need-finish-requires
 finish-requires c κs = let s = c .before .before .before .before .before .before .before .before .before .before .before .before .before .before .before .before .before .before .before .before .before in let r = c .before .before .before .before .before .before .before .before .before .before .before .before .before .before .before .read .ensures in let zero = c .before .before .before .before .before .before .before .before .before .before .before .if1 .left in
     let text = s .args .text .now in
-    let short : length text ≤ 16384 = elim (decLt 16384 (length text)) [ yes h ↦ absurd (let z = r .0 h .0 in omega (arith, z, zero)) | no h ↦ omega arith ] in
+    let short : length text ≤ longestText = elim (decLt longestText (length text)) [ yes h ↦ absurd (let z = r .0 h .0 in omega (arith, z, zero)) | no h ↦ omega arith ] in
     let kept = r .1 short (search needs) (search needs) in
     let ts = threads-stand text _ _ _ kept zero in
     let st = cells-stand text _ _ _ kept zero in
@@ -82,7 +82,7 @@ same-length-2 c = search needs
 returns-2 : tie.Need-returns-2
 returns-2 c = let s = c .before .before .before .before .before .before .before .before .before .before .before .before .before .before .before .before .before .before .before .before .before .before .before .before .before .before in let r = c .before .before .before .before .before .before .before .before .before .before .before .before .before .before .before .before .before .before .before .before .read .ensures in let zero = c .before .before .before .before .before .before .before .before .before .before .before .before .before .before .before .before .if1 .left in
     let text = s .args .text .now in
-    let short : length text ≤ 16384 = elim (decLt 16384 (length text)) [ yes h ↦ absurd (let z = r .0 h .0 in omega (arith, z, zero)) | no h ↦ omega arith ] in
+    let short : length text ≤ longestText = elim (decLt longestText (length text)) [ yes h ↦ absurd (let z = r .0 h .0 in omega (arith, z, zero)) | no h ↦ omega arith ] in
     let kept = r .1 short (search needs) (search needs) in
     let ts = threads-stand text _ _ _ kept zero in
     let st = cells-stand text _ _ _ kept zero in

@@ -1,14 +1,13 @@
 -- `machine::checkpoints::contains` meets its contract. Assumes nothing.
 use Rattle.machine.proofs.Groups.{some-same}
 use Rattle.base.specs.Below.{some}
-use Rattle.base.proofs.Choice.{chosen}
 use Rattle.base.proofs.Below.{some-more, some-at}
-use Rattle.records.specs.Sets.{setBy, statementAt, nothing}
+use Rattle.records.specs.Sets.{setBy, statementAt}
 use Rattle.records.specs.Instructions.{CHECK}
 use Rattle.records.specs.declared.Statement.{Statement}
 use Rattle.records.specs.declared.Layout.{Layout}
+use Rattle.records.proofs.StatementRecords.{stands-by}
 use Rattle.machine.specs.Machine.{isCheck, contains}
-use borrow.Author.Tests.{lt-ltb}
 use mathlib.Core.List.{List}
 use mathlib.Core.Path.{_≡_, sym, ap, _∙_, refl}
 use mathlib.Core.Bool.{Bool, false, _&&_}
@@ -35,8 +34,7 @@ checked set first c q = eqb (statementAt set (first + q) .number) CHECK && eqb (
 checked-is : (set : List ℕ) (layout : Layout) (t c first q : ℕ) → first ≡ getD (layout .starts) t 0 → q < getD (layout .counts) t 0 →
     checked set first c q ≡ isCheck (setBy set layout) t c q
 checked-is set layout t c first q e l =
-    ap (λ (i : Statement). eqb (i .number) CHECK && eqb (i .argument) c)
-    (ap (λ (k : ℕ). statementAt set (k + q)) e ∙ sym (chosen (statementAt set (getD (layout .starts) t 0 + q)) nothing (lt-ltb _ _ l)))
+    ap (λ (i : Statement). eqb (i .number) CHECK && eqb (i .argument) c) (sym (stands-by set layout t first e .statementIs q l))
 
 abbrev Inv-loop : tie.InvT-loop
 Inv-loop set t c n first p₀ p = (p ≤ n) × (n < 65536) × (first < 65536) × (some p (λ q. checked set first c q) ≡ false)

@@ -8,9 +8,10 @@ use denote.Ref.{now}
 use Rattle.records.specs.Sets.{Set, setBy}
 use Rattle.records.specs.declared.Statement.{Statement}
 use Rattle.set_index.specs.Points.{listed}
-use Rattle.set_index.specs.StatementRecords.{StandsFrom}
-use Rattle.set_index.specs.Members.{Members, membersOf}
-use Rattle.set_index.proofs.StatementRecords.{stands-from, member-stands}
+use Rattle.records.specs.StatementRecords.{StandsFrom}
+use Rattle.set_index.specs.Members.{Members, membersOf, classCount}
+use Rattle.records.proofs.StatementRecords.{stands-from}
+use Rattle.set_index.proofs.StatementRecords.{member-stands}
 use Rattle.set_index.proofs.Listed.{members-below}
 use Rattle.set_index.specs.ListTables.{Distinct, Listing, many, put}
 use Rattle.set_index.proofs.Making.{listing-none, listing-all, listing-more, listing-same}
@@ -22,7 +23,7 @@ use Rattle.set_index.proofs.lists.list_members.Tie as tie
 abbrev Inv-loop : tie.InvT-loop
 Inv-loop set points members table₀ class heads nexts t first j₀ table j =
     (j ≤ j₀) × (first < 65536) × (length table ≡ length table₀)
-    × ((S : Set) → class < 11 → t < 4 → Members S members → StandsFrom S set t first (S .count t) → Distinct (listed points)
+    × ((S : Set) → class < classCount → t < 4 → Members S members → StandsFrom S set t first (S .count t) → Distinct (listed points)
     → heads + many (listed points) class ≤ nexts → nexts + 32 ≤ length table₀
     → ((p : ℕ) → p < many (listed points) class → getD table₀ (heads + p) 0 ≡ 32)
     → Listing S (listed points) class t (From S class t j) heads nexts table₀ table)

@@ -7,7 +7,7 @@ use denote.Ref.{now}
 use Rattle.records.specs.Sets.{setBy}
 use Rattle.set_index.specs.Points.{listed}
 use Rattle.set_index.specs.Members.{Members}
-use Rattle.set_index.specs.ListTables.{Distinct, Made}
+use Rattle.set_index.specs.ListTables.{Distinct, Made, listsLength, noStatement}
 use Rattle.set_index.proofs.Making.{made-none, made-all}
 use Rattle.set_index.proofs.Counted.{listed-most}
 use borrow.Author.Needs.{needs}
@@ -17,7 +17,7 @@ use Rattle.set_index.proofs.lists.make.Tie as tie
 abbrev Inv-loop : tie.InvT-loop
 Inv-loop set layout points members table₀ threads t₀ table t =
     (t ≤ threads) × (threads ≤ 4) × (length (listed points) ≤ 8) × (length table ≡ length table₀)
-    × (table₀ ≡ replicate 416 32 → Members (setBy set layout) members → Distinct (listed points) → Made (setBy set layout) (listed points) t table)
+    × (table₀ ≡ replicate listsLength noStatement → Members (setBy set layout) members → Distinct (listed points) → Made (setBy set layout) (listed points) t table)
 
 abbrev μ-loop : tie.MeasureT-loop
 μ-loop set layout points members table₀ threads t₀ table t = threads - t

@@ -4,7 +4,7 @@ use native.Mathlib.Omega.{arith}
 use denote.Ref.{now}
 use mathlib.Core.Path.{_∙_}
 use Prim.Native.Nat.{_<_}
-use Rattle.set_index.specs.Members.{Members}
+use Rattle.set_index.specs.Members.{Members, classCount}
 use Rattle.set_index.proofs.Listed.{members-few}
 use borrow.Author.Needs.{needs}
 use Rattle.set_index.proofs.members.count_of.Statement.{statement}
@@ -32,7 +32,7 @@ returns-2 : tie.Need-returns-2
 returns-2 c =
     let a = c .before .before .before .args in
     let b = c .before .byte-at in (
-      (λ (S : Set) (m : Members S (now (a .members))) (p : a .class < 11) (q : a .t < 4).
+      (λ (S : Set) (m : Members S (now (a .members))) (p : a .class < classCount) (q : a .t < 4).
           let e = m .row (a .class) (a .t) p q .many in
           let g = b .ensures in
           let most = m .few (a .t) q in

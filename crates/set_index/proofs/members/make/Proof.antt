@@ -4,7 +4,7 @@ use denote.Ref.{now}
 use mathlib.Core.Path.{_≡_, sym, _∙_, subst}
 use lib.ListN.{replicate}
 use Rattle.records.specs.Sets.{setBy}
-use Rattle.set_index.specs.Members.{Filled}
+use Rattle.set_index.specs.Members.{Filled, membersLength}
 use Rattle.set_index.proofs.Filling.{filled-none, filled-all}
 use borrow.Author.Needs.{needs}
 use Rattle.set_index.proofs.members.make.Statement.{statement}
@@ -34,7 +34,7 @@ returns c =
     let a = c .before .before .before .before .before .before .before .before .before .before .before .before .before .before .before .before .before .before .args in
     let S = setBy (now (a .set)) (a .layout) in (
       fourth .0 ∙ (third .0 ∙ (second .0 ∙ first .0)),
-      λ (e : now (a .members) ≡ replicate 1452 0) few.
+      λ (e : now (a .members) ≡ replicate membersLength 0) few.
           filled-all S _ (fourth .1 (omega arith) (third .1 (omega arith) (second .1 (omega arith) (first .1 (omega arith) (subst (Filled S 0 0 0) (sym e) (filled-none S few)))))),
     )
 

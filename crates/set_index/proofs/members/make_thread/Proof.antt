@@ -7,8 +7,8 @@ use mathlib.Core.Path.{_≡_, refl, sym, ap, _∙_}
 use Prim.Native.Nat.{_-_, _≤_, _<_}
 use lib.ListN.{length}
 use Rattle.set_index.specs.Members.{Filled}
-use Rattle.set_index.specs.StatementRecords.{StandsFrom}
-use Rattle.set_index.proofs.StatementRecords.{stands-from}
+use Rattle.records.specs.StatementRecords.{StandsFrom}
+use Rattle.records.proofs.StatementRecords.{stands-from}
 use Rattle.set_index.proofs.Filling.{filled-next, filled-thread}
 use borrow.Author.Needs.{needs}
 use Rattle.set_index.proofs.members.make_thread.Statement.{statement}

@@ -5,7 +5,7 @@ use denote.Ref.{now}
 use mathlib.Core.Path.{refl, sym, _∙_}
 use Prim.Native.Nat.{_+_, _<_}
 use lib.Seq.{lt-length-set}
-use Rattle.set_index.specs.Members.{rowIndex, Filled}
+use Rattle.set_index.specs.Members.{rowIndex, Filled, classCount}
 use Rattle.set_index.proofs.Filling.{put-length, filled-add, filled-many, filled-pass}
 use borrow.Author.Needs.{needs}
 use Rattle.set_index.proofs.members.visit.Statement.{statement}
@@ -68,7 +68,7 @@ returns-3 c =
     let a = c .before .before .before .before .before .args in
     let b = c .before .byte-at in (
       refl,
-      λ (S : Set) (p : a .class < 11) (q : a .t < 4) (h : a .i < 32) e (f : Filled S (a .t) (a .i) (a .class) (now (a .members))).
+      λ (S : Set) (p : a .class < classCount) (q : a .t < 4) (h : a .i < 32) e (f : Filled S (a .t) (a .i) (a .class) (now (a .members))).
           let few = filled-many S (a .t) (a .i) (a .class) (now (a .members)) p q h f in
           let many = b .ensures in
           absurd (omega arith),

@@ -11,8 +11,8 @@ use Rattle.encoding.specs.Checkpoints.{noted, notedIn}
 use Rattle.records.specs.declared.Statement.{Statement}
 use Rattle.records.specs.Sets.{Set, setBy}
 use Rattle.set_index.proofs.Noted.{noted-start, noted-more}
-use Rattle.set_index.specs.StatementRecords.{StandsFrom}
-use Rattle.set_index.proofs.StatementRecords.{stands-from}
+use Rattle.records.specs.StatementRecords.{StandsFrom}
+use Rattle.records.proofs.StatementRecords.{stands-from}
 use Rattle.set_index.proofs.points.points_of.Statement.{statement}
 use Rattle.set_index.proofs.points.points_of.Tie as tie
 
