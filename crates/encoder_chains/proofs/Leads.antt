@@ -153,8 +153,8 @@ module _ (s : Statement) (t j i : ℕ) (names : namesTarget s j ≡ true) where
 -- ---- links as places
 
 pub tested : (places : Slot → ℕ) (t i : ℕ) {k l : Kind} → k ≡ l →
-    placedLink places (ifThen 1 (slot active t i) (slot k t i)) ≡ placedLink places (ifThen 1 (slot active t i) (slot l t i))
-tested places t i e = ap (λ (k : Kind). placedLink places (ifThen 1 (slot active t i) (slot k t i))) e
+    placedLink places (ifThen bitSort (slot active t i) (slot k t i)) ≡ placedLink places (ifThen bitSort (slot active t i) (slot l t i))
+tested places t i e = ap (λ (k : Kind). placedLink places (ifThen bitSort (slot active t i) (slot k t i))) e
 
 -- a link by the statement that is given, as the definition has it
 pub leads-by : (places : Slot → ℕ) (s : Statement) (S : Set) (t j i : ℕ) → s ≡ S .statement t i → {l : ChainLink} → leadsBy s t j i (i + 1) ≡ l →

@@ -45,7 +45,7 @@ module _ (places : Slot → ℕ) where
     abbrev ifOf : Link → Formula
     ifOf link = record { operation = link .operation; sort = link .sort; constant = 0; a = link .a; b = link .b; c = at }
 
-    test : (l : ChainLink) → placedLink places l .operation ≡ 8 →
+    test : (l : ChainLink) → placedLink places l .operation ≡ IF →
         WritesTree places (linked l t) out n (placed now (16 * m) (formulaBytes (ifOf (placedLink places l)))) (suc m) m
     unfolding records next root
     test skip e = absurd (omega arith)
@@ -61,7 +61,7 @@ module _ (places : Slot → ℕ) where
     abbrev joinedOf : Link → Formula
     joinedOf link = record { operation = link .operation; sort = link .sort; constant = 0; a = link .a; b = at; c = 0 }
 
-    joined : (l : ChainLink) → (placedLink places l .operation ≡ 0 → ⊥) → (placedLink places l .operation ≡ 8 → ⊥) →
+    joined : (l : ChainLink) → (placedLink places l .operation ≡ 0 → ⊥) → (placedLink places l .operation ≡ IF → ⊥) →
         WritesTree places (linked l t) out n (placed now (16 * m) (formulaBytes (joinedOf (placedLink places l)))) (suc m) m
     unfolding records next root
     joined skip z f = absurd (z refl)
@@ -87,14 +87,14 @@ module _ (places : Slot → ℕ) where
       pub link-none : link .operation ≡ 0 → WritesTree places (linked l t) out n now m at
       link-none z = none l (sym operations ∙ z)
 
-      pub link-if : (after : List ℕ) → after ≡ placed now (16 * m) (formulaBytes (ifOf link)) → link .operation ≡ 8 → WritesTree places (linked l t) out n after (m + 1) m
+      pub link-if : (after : List ℕ) → after ≡ placed now (16 * m) (formulaBytes (ifOf link)) → link .operation ≡ IF → WritesTree places (linked l t) out n after (m + 1) m
       link-if after put f = let r = test l (sym operations ∙ f) in record {
         treeWritten = put ∙ (ap (λ (x : Link). placed now (16 * m) (formulaBytes (ifOf x))) e ∙ r .treeWritten);
         treeNext = add-one m ∙ r .treeNext;
         treeRoot = r .treeRoot;
       }
 
-      pub link-joined : (after : List ℕ) → after ≡ placed now (16 * m) (formulaBytes (joinedOf link)) → (link .operation ≡ 0 → ⊥) → (link .operation ≡ 8 → ⊥) →
+      pub link-joined : (after : List ℕ) → after ≡ placed now (16 * m) (formulaBytes (joinedOf link)) → (link .operation ≡ 0 → ⊥) → (link .operation ≡ IF → ⊥) →
           WritesTree places (linked l t) out n after (m + 1) m
       link-joined after put z f = let r = joined l (λ p. z (operations ∙ p)) (λ p. f (operations ∙ p)) in record {
         treeWritten = put ∙ (ap (λ (x : Link). placed now (16 * m) (formulaBytes (joinedOf x))) e ∙ r .treeWritten);

@@ -2,15 +2,14 @@
 ghost use mathlib.Core.Path.{_≡_};
 ghost use mathlib.Core.Bool.{true};
 ghost use mathlib.Core.List.{List};
-ghost use Prim.Native.Nat.{ℕ, _+_, _≤_, _<_};
+ghost use Prim.Native.Nat.{ℕ, _+_, _*_, _≤_, _<_};
 ghost use lib.ListN.{length};
-ghost use Rattle.records.specs.Sets.{Set};
+ghost use Rattle.records.specs.Sets.{Set, mostThreads};
 ghost use Rattle.encoding.specs.Slots.{Term, kindAt, opening, waits, raised};
 ghost use Rattle.encoding.specs.Steps.{link as linkOf, links as linksOf, chain as chainOf};
-ghost use Rattle.encoder_slots.specs.Pieces.{WritesTree};
-ghost use Rattle.encoder_slots.specs.Places.{placeOf, size};
+ghost use Rattle.encoder_slots.specs.Pieces.{WritesTree, Ready, chainRoom};
+ghost use Rattle.encoder_slots.specs.Places.{placeOf};
 ghost use Rattle.encoder_chains.specs.Chained.{chained};
-ghost use Rattle.set_index.specs.ListTables.{ListTable};
 ghost use Rattle.encoder_chains.specs.Placed.{placedLink};
 ghost use Rattle.table.specs.Repeats.{lastIndex};
 use crate::Link;
@@ -43,11 +42,11 @@ pub fn raised_chain(
     n: u32,
     base: u64,
 ) -> Root
-    ensures { λ r. ⌜ ((S : Set) (cs : List ℕ) (tree : Term) (start : List ℕ) (m : ℕ) → t < S .threads → p < length cs → n + 32 ≤ lastIndex → length (now (slots .entry)) ≡ size
-        → ListTable S cs (now (table .entry))
+    ensures { λ r. ⌜ ((S : Set) (cs members : List ℕ) (tree : Term) (start : List ℕ) (m : ℕ) → t < S .threads → p < length cs → n + chainRoom ≤ lastIndex
+        → Ready S cs members (now (table .entry)) (now (slots .entry)) m
         → WritesTree (placeOf (now (slots .entry))) tree start m (now (out .entry)) n base
         → WritesTree (placeOf (now (slots .entry))) (chainOf (linkOf S cs 0 raised t p) (S .count t) tree) start m (now (out .exit)) (r .next) (r .at))
-        × (r .next ≤ n + 32) ⌝ }
+        × (r .next ≤ n + chainRoom) ⌝ }
 {
     let mut tree = Root { next: n, at: base };
     // With these known, the compiler drops the tests of places in the loop.
@@ -72,7 +71,7 @@ pub fn raised_chain(
 // How many links the chain of a value that there is one of has.
 fn single_links(threads: u8, kind: u8) -> u16
     ensures { λ r. ⌜ ((S : Set) (cs : List ℕ) → S .threads ≡ threads → chained kind ≡ true → r ≡ linksOf S cs 0 (kindAt kind) 0 0)
-        × (threads ≤ 4 → r ≤ 8) ⌝ }
+        × (threads ≤ mostThreads → r ≤ 2 * mostThreads) ⌝ }
 {
     let each = threads as u16;
     if kind == kinds::ONE_PERMITTED {
@@ -96,10 +95,11 @@ fn single_link(slots: &[u32], threads: u8, kind: u8, i: u16) -> Link
 
 // Writes the links of the chain of a value that there is one of: over the choices (ONE_PERMITTED) or the threads (FLUSH_TO, FLUSH_VALUE, HALTS).
 pub fn single_chain(slots: &[u32], out: &mut [u8], threads: u8, kind: u8, n: u32, base: u64) -> Root
-    ensures { λ r. ⌜ ((S : Set) (cs : List ℕ) (tree : Term) (start : List ℕ) (m : ℕ) → S .threads ≡ threads → threads ≤ 4 → chained kind ≡ true → n + 8 ≤ lastIndex → length (now (slots .entry)) ≡ size
+    ensures { λ r. ⌜ ((S : Set) (cs members lists : List ℕ) (tree : Term) (start : List ℕ) (m : ℕ) → S .threads ≡ threads → chained kind ≡ true → n + chainRoom ≤ lastIndex
+        → Ready S cs members lists (now (slots .entry)) m
         → WritesTree (placeOf (now (slots .entry))) tree start m (now (out .entry)) n base
         → WritesTree (placeOf (now (slots .entry))) (chainOf (linkOf S cs 0 (kindAt kind) 0 0) (linksOf S cs 0 (kindAt kind) 0 0) tree) start m (now (out .exit)) (r .next) (r .at))
-        × (r .next ≤ n + 8) ⌝ }
+        × (r .next ≤ n + chainRoom) ⌝ }
 {
     let mut tree = Root { next: n, at: base };
     // With these known, the compiler drops the tests of places in the loop.
@@ -129,11 +129,11 @@ pub fn opening_chain(
     n: u32,
     base: u64,
 ) -> Root
-    ensures { λ r. ⌜ ((S : Set) (cs : List ℕ) (tree : Term) (start : List ℕ) (m : ℕ) → S .threads ≡ threads → p < length cs → n + 4 ≤ lastIndex → length (now (slots .entry)) ≡ size
-        → ListTable S cs (now (table .entry))
+    ensures { λ r. ⌜ ((S : Set) (cs members : List ℕ) (tree : Term) (start : List ℕ) (m : ℕ) → S .threads ≡ threads → p < length cs → n + chainRoom ≤ lastIndex
+        → Ready S cs members (now (table .entry)) (now (slots .entry)) m
         → WritesTree (placeOf (now (slots .entry))) tree start m (now (out .entry)) n base
         → WritesTree (placeOf (now (slots .entry))) (chainOf (linkOf S cs 0 opening 0 p) (S .threads) tree) start m (now (out .exit)) (r .next) (r .at))
-        × (r .next ≤ n + 4) ⌝ }
+        × (r .next ≤ n + chainRoom) ⌝ }
 {
     let mut tree = Root { next: n, at: base };
     // With these known, the compiler drops the tests of places in the loop.
@@ -165,11 +165,11 @@ pub fn waits_chain(
     n: u32,
     base: u64,
 ) -> Root
-    ensures { λ r. ⌜ ((S : Set) (cs : List ℕ) (tree : Term) (start : List ℕ) (m : ℕ) → length cs ≡ count → t < S .threads → n + 8 ≤ lastIndex → length (now (slots .entry)) ≡ size
-        → ListTable S cs (now (table .entry))
+    ensures { λ r. ⌜ ((S : Set) (cs members : List ℕ) (tree : Term) (start : List ℕ) (m : ℕ) → length cs ≡ count → t < S .threads → n + chainRoom ≤ lastIndex
+        → Ready S cs members (now (table .entry)) (now (slots .entry)) m
         → WritesTree (placeOf (now (slots .entry))) tree start m (now (out .entry)) n base
         → WritesTree (placeOf (now (slots .entry))) (chainOf (linkOf S cs 0 waits t 0) (length cs) tree) start m (now (out .exit)) (r .next) (r .at))
-        × (r .next ≤ n + 8) ⌝ }
+        × (r .next ≤ n + chainRoom) ⌝ }
 {
     let mut tree = Root { next: n, at: base };
     // With these known, the compiler drops the tests of places in the loop.

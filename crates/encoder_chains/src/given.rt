@@ -3,14 +3,13 @@ ghost use mathlib.Core.Path.{_≡_};
 ghost use mathlib.Core.Bool.{true, false};
 ghost use mathlib.Core.List.{List};
 ghost use Prim.Native.Nat.{ℕ, _+_, _≤_, _<_};
-ghost use lib.ListN.{length};
 ghost use Rattle.records.specs.Sets.{Set};
 ghost use Rattle.encoding.specs.Slots.{Term, kindNumber, kindCount, active, accu, bitOne};
 ghost use Rattle.encoding.specs.Steps.{Link as ChainLink, chain as chainOf};
-ghost use Rattle.encoder_slots.specs.Pieces.{WritesTree};
-ghost use Rattle.encoder_slots.specs.Places.{placeOf, placeFrom, size};
+ghost use Rattle.encoder_slots.specs.Pieces.{WritesTree, Ready, chainRoom};
+ghost use Rattle.encoder_slots.specs.Places.{placeOf, placeFrom};
 ghost use Rattle.encoder_chains.specs.Given.{Gives, givenBy};
-ghost use Rattle.set_index.specs.Members.{Members, ofClass, classCount};
+ghost use Rattle.set_index.specs.Members.{ofClass, classCount};
 ghost use Rattle.encoder_chains.specs.Placed.{placedLink, ifLink};
 ghost use Rattle.table.specs.Formulas.{bitSort, wordSort};
 ghost use Rattle.table.specs.Repeats.{lastIndex};
@@ -113,12 +112,12 @@ fn fixed_links(
     n: u32,
     base: u64,
 ) -> Root
-    ensures { λ r. ⌜ ((S : Set) (links : ℕ → ChainLink) (tree : Term) (start : List ℕ) (m : ℕ) → test < kindCount → t < 4 → n + 32 ≤ lastIndex → length (now (slots .entry)) ≡ size
-        → Members S (now (members .entry))
+    ensures { λ r. ⌜ ((S : Set) (cs lists : List ℕ) (links : ℕ → ChainLink) (tree : Term) (start : List ℕ) (m : ℕ) → test < kindCount → t < S .threads → n + chainRoom ≤ lastIndex
+        → Ready S cs (now (members .entry)) lists (now (slots .entry)) m
         → (class < classCount → (i : ℕ) → ifLink sort (placeFrom (now (slots .entry)) test t i 0) effect ≡ placedLink (placeOf (now (slots .entry))) (links i))
         → WritesTree (placeOf (now (slots .entry))) tree start m (now (out .entry)) n base
         → WritesTree (placeOf (now (slots .entry))) (chainOf (ofClass S class t links) (S .count t) tree) start m (now (out .exit)) (r .next) (r .at))
-        × (r .next ≤ n + 32) ⌝ }
+        × (r .next ≤ n + chainRoom) ⌝ }
 {
     let mut tree = Root { next: n, at: base };
     // With these known, the compiler drops the tests of places in the loop.
@@ -165,13 +164,13 @@ fn own_links(
     n: u32,
     base: u64,
 ) -> Root
-    ensures { λ r. ⌜ ((S : Set) (links : ℕ → ChainLink) (tree : Term) (start : List ℕ) (m : ℕ) → test < kindCount → effect < kindCount → t < 4 → n + 32 ≤ lastIndex
-        → length (now (slots .entry)) ≡ size → Members S (now (members .entry))
+    ensures { λ r. ⌜ ((S : Set) (cs lists : List ℕ) (links : ℕ → ChainLink) (tree : Term) (start : List ℕ) (m : ℕ) → test < kindCount → effect < kindCount → t < S .threads → n + chainRoom ≤ lastIndex
+        → Ready S cs (now (members .entry)) lists (now (slots .entry)) m
         → (class < classCount → (i : ℕ) → ifLink wordSort (placeFrom (now (slots .entry)) test t i 0) (placeFrom (now (slots .entry)) effect t i 2)
         ≡ placedLink (placeOf (now (slots .entry))) (links i))
         → WritesTree (placeOf (now (slots .entry))) tree start m (now (out .entry)) n base
         → WritesTree (placeOf (now (slots .entry))) (chainOf (ofClass S class t links) (S .count t) tree) start m (now (out .exit)) (r .next) (r .at))
-        × (r .next ≤ n + 32) ⌝ }
+        × (r .next ≤ n + chainRoom) ⌝ }
 {
     let mut tree = Root { next: n, at: base };
     if LAST < class {
@@ -218,11 +217,11 @@ pub fn given_chain(
     n: u32,
     base: u64,
 ) -> Root
-    ensures { λ r. ⌜ ((S : Set) (tree : Term) (start : List ℕ) (m : ℕ) → t < 4 → n + 32 ≤ lastIndex → length (now (slots .entry)) ≡ size
-        → Members S (now (members .entry))
+    ensures { λ r. ⌜ ((S : Set) (cs lists : List ℕ) (tree : Term) (start : List ℕ) (m : ℕ) → t < S .threads → n + chainRoom ≤ lastIndex
+        → Ready S cs (now (members .entry)) lists (now (slots .entry)) m
         → WritesTree (placeOf (now (slots .entry))) tree start m (now (out .entry)) n base
         → WritesTree (placeOf (now (slots .entry))) (chainOf (givenBy S kind t) (S .count t) tree) start m (now (out .exit)) (r .next) (r .at))
-        × (r .next ≤ n + 32) ⌝ }
+        × (r .next ≤ n + chainRoom) ⌝ }
 {
     let giver = giver_of(kind);
     let class = giver.class;

@@ -7,7 +7,7 @@ ghost use lib.ListN.{length, getD};
 ghost use Rattle.records.specs.Sets.{Set};
 ghost use Rattle.machine.specs.Machine.{contains as containsOf};
 ghost use Rattle.encoder_slots.specs.Places.{placeFrom};
-ghost use Rattle.set_index.specs.ListTables.{ListTable};
+ghost use Rattle.encoder_slots.specs.Pieces.{Ready};
 ghost use Rattle.encoder_chains.specs.Placed.{noLink, ifLink, bitLink};
 ghost use Rattle.encoding.specs.Slots.{kindNumber, choice, active, permittedFirst, halted, bitOne};
 ghost use Rattle.table.specs.Formulas.{bitSort, wordSort, AND};
@@ -91,7 +91,7 @@ pub fn flushed(threads: u8, slots: &[u32], effect: u8, t: u16) -> Link
 
 // Where thread t contains checkpoint p, by the table: the operation with its bit of a kind for p.
 pub fn contained(table: &[u8], slots: &[u32], operation: u8, kind: u8, t: u8, p: u16) -> Link
-    ensures { λ r. ⌜ ((S : Set) (cs : List ℕ) → ListTable S cs (now (table .entry)) → t < S .threads → p < length cs
+    ensures { λ r. ⌜ ((S : Set) (cs members : List ℕ) (m : ℕ) → t < S .threads → p < length cs → Ready S cs members (now (table .entry)) (now (slots .entry)) m
         → r ≡ cond (containsOf S t (getD cs p 0)) (bitLink operation (placeFrom (now (slots .entry)) kind t p 0)) noLink) ⌝ }
 {
     if contains(table, t, p) {

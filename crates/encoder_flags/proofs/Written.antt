@@ -1,12 +1,12 @@
 -- A flag's tree with its links as the code asks for them. Assumes nothing.
-use Prim.Native.Nat.{ℕ, suc, _+_, _*_, _≤_, _<_}
+use Prim.Native.Nat.{ℕ, suc, _+_, _≤_, _<_}
 use mathlib.Core.Path.{_≡_, subst}
 use mathlib.Core.Bool.{true, false}
 use mathlib.Core.List.{List, []}
 use native.Mathlib.Omega.{arith}
 use lib.ListN.{getD}
 use borrow.Author.Tests.{ne-eqb}
-use Rattle.records.specs.Sets.{Set}
+use Rattle.records.specs.Sets.{Set, mostStatements}
 use Rattle.encoding.specs.Slots.{flag, Slot, Term}
 use Rattle.encoding.specs.Steps.{Link as ChainLink, skip, linked, chain, base, leads}
 use Rattle.encoder_slots.specs.Pieces.{WritesTree}
@@ -14,7 +14,7 @@ use Rattle.encoder_slots.proofs.Entries.{treeOf}
 use Rattle.set_index.specs.Members.{namesTarget}
 use Rattle.encoder_chains.proofs.Leads.{leads-elsewhere}
 use Rattle.encoder_chains.proofs.Trees.{chain-none, chain-more, chain-to}
-use Rattle.set_index.specs.ListTables.{JumpsOf, onward}
+use Rattle.set_index.specs.ListTables.{JumpsOf, onward, nextJumps}
 use Rattle.encoder_flags.specs.Named.{NamedFirst}
 use Rattle.encoder_flags.proofs.Lists.{passed-over, named-later, named-next}
 
@@ -63,7 +63,7 @@ pub record Reached (places : Slot → ℕ) (S : Set) (t j count from end : ℕ) 
   pub written : WritesTree places (chain (leads S [] 0 t j) low tree) start m out n at
 
 -- j does not stand after one of the statements from `from` on and before `end`
-module _ (places : Slot → ℕ) (S : Set) (t j : ℕ) (small : j < 32) (count from end : ℕ) (inside : end ≤ count) (apart : (x : ℕ) → from ≤ x → x < end → (j ≡ x + 1 → ⊥))
+module _ (places : Slot → ℕ) (S : Set) (t j : ℕ) (small : j < mostStatements) (count from end : ℕ) (inside : end ≤ count) (apart : (x : ℕ) → from ≤ x → x < end → (j ≡ x + 1 → ⊥))
     (tree : Term) (start : List ℕ) (m hit : ℕ) (out : List ℕ) (n at : ℕ) (r : Reached places S t j count from end tree start m hit out n at) where
   -- the statements before `hit` give no link
   pub reached-to : (k : ℕ) → r .low ≤ k → k ≤ hit → k ≤ end → WritesTree places (chain (leads S [] 0 t j) k tree) start m out n at
@@ -75,7 +75,7 @@ module _ (places : Slot → ℕ) (S : Set) (t j : ℕ) (small : j < 32) (count f
 
   -- jump `hit` gives its link
   pub reached-more : hit < end → namesTarget (S .statement t hit) j ≡ true → (table : List ℕ) → JumpsOf S t count table → (next : ℕ) → hit < next →
-      next ≡ onward hit (getD table (288 + 32 * t + hit) 0) → (out1 : List ℕ) (n1 at1 : ℕ) →
+      next ≡ onward hit (getD table (nextJumps t + hit) 0) → (out1 : List ℕ) (n1 at1 : ℕ) →
       (WritesTree places (chain (leads S [] 0 t j) hit tree) start m out n at → WritesTree places (linked (leads S [] 0 t j hit) (chain (leads S [] 0 t j) hit tree)) start m out1 n1 at1) →
       Reached places S t j count from end tree start m next out1 n1 at1
   reached-more more names table w next greater is out1 n1 at1 put = record {

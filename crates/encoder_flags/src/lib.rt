@@ -3,14 +3,14 @@
 ghost use mathlib.Core.Path.{_≡_};
 ghost use mathlib.Core.List.{List, []};
 ghost use Prim.Native.Nat.{ℕ, _+_, _-_, _≤_, _<_};
-ghost use lib.ListN.{length, getD};
-ghost use Rattle.records.specs.Sets.{Set, setBy};
-ghost use Rattle.encoding.specs.Slots.{Slot, slot, Term, choice, flag as flagKind, bitZero};
+ghost use lib.ListN.{getD};
+ghost use Rattle.records.specs.Sets.{Set, setBy, mostThreads, mostStatements};
+ghost use Rattle.encoding.specs.Slots.{slot, Term, choice, flag as flagKind, bitZero};
 ghost use Rattle.encoding.specs.Steps.{chain as chainOf, leads as leadsOf, entry as entryOf, line as lineOf};
-ghost use Rattle.encoder_slots.specs.Places.{placeOf, size};
-ghost use Rattle.encoder_slots.specs.Pieces.{Writes, WritesTree, Ready, lineRoom};
-ghost use Rattle.records.specs.StatementRecords.{StandsFrom, Stands};
-ghost use Rattle.set_index.specs.ListTables.{JumpsOf, onward, nextJumps};
+ghost use Rattle.encoder_slots.specs.Places.{placeOf};
+ghost use Rattle.encoder_slots.specs.Pieces.{Writes, WritesTree, Ready, chainRoom, entryRoom, lineRoom};
+ghost use Rattle.records.specs.StatementRecords.{Stands};
+ghost use Rattle.set_index.specs.ListTables.{onward, nextJumps};
 ghost use Rattle.encoder_flags.specs.Named.{NamedFirst};
 ghost use Rattle.table.specs.Repeats.{lastIndex};
 use encoder_chains::Root;
@@ -60,10 +60,10 @@ fn named_links(
     n: u32,
     base: u64,
 ) -> Named
-    requires { ⌜ (first < 65536) × (end ≤ 32) × (n + (end - hit) ≤ lastIndex) × (t < 4) ⌝ }
-    ensures { λ r. ⌜ ((S : Set) (tree : Term) (start : List ℕ) (m j count from : ℕ) → j < 32 → from ≤ hit → from ≤ end → end ≤ count
-        → ((x : ℕ) → from ≤ x → x < end → (j ≡ x + 1 → ⊥)) → JumpsOf S t count (now (lists .entry)) → StandsFrom S (now (set .entry)) t first count
-        → NamedFirst S t count hit from j
+    requires { ⌜ (first < 65536) × (end ≤ mostStatements) × (n + (end - hit) ≤ lastIndex) × (t < mostThreads) ⌝ }
+    ensures { λ r. ⌜ ((S : Set) (cs members : List ℕ) (tree : Term) (start : List ℕ) (m j count from : ℕ) → j < mostStatements → from ≤ hit → from ≤ end → end ≤ count
+        → ((x : ℕ) → from ≤ x → x < end → (j ≡ x + 1 → ⊥)) → t < S .threads → Stands S (now (set .entry)) first count t
+        → Ready S cs members (now (lists .entry)) (now (slots .entry)) m → NamedFirst S t count hit from j
         → WritesTree (placeOf (now (slots .entry))) (chainOf (leadsOf S [] 0 t j) from tree) start m (now (out .entry)) n base
         → (WritesTree (placeOf (now (slots .entry))) (chainOf (leadsOf S [] 0 t j) end tree) start m (now (out .exit)) (r .tree .next) (r .tree .at))
         × (NamedFirst S t count (r .hit) end j))
@@ -93,11 +93,12 @@ fn jump_links(
     n: u32,
     base: u64,
 ) -> Root
-    requires { ⌜ (first < 65536) × (count ≤ 32) × (j < count) × (n + 32 ≤ lastIndex) × (t < 4) ⌝ }
-    ensures { λ r. ⌜ ((S : Set) (tree : Term) (start : List ℕ) (m : ℕ) → JumpsOf S t count (now (lists .entry)) → StandsFrom S (now (set .entry)) t first count
+    requires { ⌜ (first < 65536) × (count ≤ mostStatements) × (j < count) × (n + chainRoom ≤ lastIndex) × (t < mostThreads) ⌝ }
+    ensures { λ r. ⌜ ((S : Set) (cs members : List ℕ) (tree : Term) (start : List ℕ) (m : ℕ) → t < S .threads → Stands S (now (set .entry)) first count t
+        → Ready S cs members (now (lists .entry)) (now (slots .entry)) m
         → WritesTree (placeOf (now (slots .entry))) tree start m (now (out .entry)) n base
         → WritesTree (placeOf (now (slots .entry))) (chainOf (leadsOf S [] 0 t j) count tree) start m (now (out .exit)) (r .next) (r .at))
-        × (r .next ≤ n + 32) ⌝ }
+        × (r .next ≤ n + chainRoom) ⌝ }
 {
     let hit = first_jump(lists, t, j);
     if j == 0 {
@@ -138,11 +139,12 @@ fn flag_links(
     n: u32,
     base: u64,
 ) -> Root
-    requires { ⌜ (first < 65536) × (count ≤ 32) × (j < count) × (n + 32 ≤ lastIndex) × (t < 4) ⌝ }
-    ensures { λ r. ⌜ ((S : Set) (tree : Term) (start : List ℕ) (m : ℕ) → JumpsOf S t count (now (lists .entry)) → StandsFrom S (now (set .entry)) t first count
+    requires { ⌜ (first < 65536) × (count ≤ mostStatements) × (j < count) × (n + chainRoom ≤ lastIndex) × (t < mostThreads) ⌝ }
+    ensures { λ r. ⌜ ((S : Set) (cs members : List ℕ) (tree : Term) (start : List ℕ) (m : ℕ) → t < S .threads → Stands S (now (set .entry)) first count t
+        → Ready S cs members (now (lists .entry)) (now (slots .entry)) m
         → WritesTree (placeOf (now (slots .entry))) tree start m (now (out .entry)) n base
         → WritesTree (placeOf (now (slots .entry))) (chainOf (leadsOf S [] 0 t j) count tree) start m (now (out .exit)) (r .next) (r .at))
-        × (r .next ≤ n + 32) ⌝ }
+        × (r .next ≤ n + chainRoom) ⌝ }
 {
     if first_jump(lists, t, j) < lists::NONE {
         return jump_links(set, first, lists, slots, out, t, j, count, n, base);
@@ -170,12 +172,11 @@ fn flag(
     zero: u64,
     n: u32,
 ) -> u32
-    requires { ⌜ (first < 65536) × (count ≤ 32) × (j < count) × (t < 4) × (n + 36 ≤ lastIndex) ⌝ }
-    ensures { λ r. ⌜ ((S : Set) (cs : List ℕ) (k : ℕ) → JumpsOf S t count (now (lists .entry)) → Stands S (now (set .entry)) first count t
+    requires { ⌜ (first < 65536) × (count ≤ mostStatements) × (j < count) × (t < mostThreads) × (n + entryRoom ≤ lastIndex) ⌝ }
+    ensures { λ r. ⌜ ((S : Set) (cs members : List ℕ) (k : ℕ) → t < S .threads → Stands S (now (set .entry)) first count t → Ready S cs members (now (lists .entry)) (now (slots .entry)) n
         → executes ≡ placeOf (now (slots .entry)) (slot choice 0 t) → zero ≡ placeOf (now (slots .entry)) (slot bitZero 0 0)
-        → length (now (slots .entry)) ≡ size → ((s : Slot) → placeOf (now (slots .entry)) s < n)
         → Writes (entryOf S cs k flagKind t j) (now (out .entry)) (now (slots .entry)) n (now (out .exit)) (now (slots .exit)) r)
-        × (r ≤ n + 36) ⌝ }
+        × (r ≤ n + entryRoom) ⌝ }
 {
     let statement = records::statement_at(set, first + (j as u32));
     let base = encoder_bases::put_flag(statement, slots, out, executes, zero, t, j, n);
@@ -196,9 +197,8 @@ fn each_flag(
     count: u16,
     n: u32,
 ) -> u32
-    requires { ⌜ (first < 65536) × (count ≤ 32) × (t < 4) × (n + lineRoom ≤ lastIndex) ⌝ }
-    ensures { λ r. ⌜ ((S : Set) (cs : List ℕ) (k : ℕ) → JumpsOf S t count (now (lists .entry)) → Stands S (now (set .entry)) first count t
-        → length (now (slots .entry)) ≡ size → ((s : Slot) → placeOf (now (slots .entry)) s < n)
+    requires { ⌜ (first < 65536) × (count ≤ mostStatements) × (t < mostThreads) × (n + lineRoom ≤ lastIndex) ⌝ }
+    ensures { λ r. ⌜ ((S : Set) (cs members : List ℕ) (k : ℕ) → t < S .threads → Stands S (now (set .entry)) first count t → Ready S cs members (now (lists .entry)) (now (slots .entry)) n
         → Writes (lineOf S cs k flagKind t) (now (out .entry)) (now (slots .entry)) n (now (out .exit)) (now (slots .exit)) r)
         × (r ≤ n + lineRoom) ⌝ }
 {

@@ -2,13 +2,13 @@
 ghost use mathlib.Core.Path.{_≡_};
 ghost use mathlib.Core.Bool.{true};
 ghost use mathlib.Core.List.{List};
-ghost use Prim.Native.Nat.{ℕ, _+_, _≤_, _<_};
+ghost use Prim.Native.Nat.{ℕ, _+_, _*_, _≤_, _<_};
 ghost use lib.ListN.{length};
-ghost use Rattle.records.specs.Sets.{Set};
+ghost use Rattle.records.specs.Sets.{Set, mostThreads, mostCheckpoints};
 ghost use Rattle.encoding.specs.Slots.{kindAt, opening as openingKind, waits as waitsKind};
 ghost use Rattle.encoding.specs.Steps.{base as baseOf, entry as entryOf, line as lineOf, block as blockOf};
 ghost use Rattle.encoder_slots.specs.Places.{placeOf};
-ghost use Rattle.encoder_slots.specs.Pieces.{Writes, Ready, blockRoom};
+ghost use Rattle.encoder_slots.specs.Pieces.{Writes, Ready, treeRoom, entryRoom, blockRoom};
 ghost use Rattle.encoder_bases.specs.SmallTrees.{Puts};
 ghost use Rattle.encoder_marks.specs.Marked.{marked};
 ghost use Rattle.table.specs.Repeats.{lastIndex};
@@ -36,10 +36,10 @@ fn opening(
     p: u16,
     n: u32,
 ) -> u32
-    requires { ⌜ (n + 8 ≤ lastIndex) × (p < 8) ⌝ }
+    requires { ⌜ (n + entryRoom ≤ lastIndex) × (p < mostCheckpoints) ⌝ }
     ensures { λ r. ⌜ ((S : Set) (cs members : List ℕ) → S .threads ≡ threads → p < length cs → Ready S cs members (now (table .entry)) (now (slots .entry)) n
         → Writes (entryOf S cs step openingKind 0 p) (now (out .entry)) (now (slots .entry)) n (now (out .exit)) (now (slots .exit)) r)
-        × (r ≤ n + 8) ⌝ }
+        × (r ≤ n + entryRoom) ⌝ }
 {
     let base = encoder_bases::put_base(slots, out, threads, step, kinds::OPENING, 0, p, n);
     let next = n + base.count;
@@ -106,10 +106,10 @@ fn waiting(
     t: u8,
     n: u32,
 ) -> u32
-    requires { ⌜ (n + 12 ≤ lastIndex) × (t < 4) ⌝ }
+    requires { ⌜ (n + entryRoom ≤ lastIndex) × (t < mostThreads) ⌝ }
     ensures { λ r. ⌜ ((S : Set) (cs members : List ℕ) → S .threads ≡ threads → length cs ≡ count → t < S .threads → Ready S cs members (now (table .entry)) (now (slots .entry)) n
         → Writes (entryOf S cs step waitsKind t 0) (now (out .entry)) (now (slots .entry)) n (now (out .exit)) (now (slots .exit)) r)
-        × (r ≤ n + 12) ⌝ }
+        × (r ≤ n + entryRoom) ⌝ }
 {
     let base = encoder_bases::put_base(slots, out, threads, step, kinds::WAITS, t, 0, n);
     let next = n + base.count;
@@ -169,7 +169,7 @@ fn put_marked(
     n: u32,
 ) -> WrittenTree
     ensures { λ r. ⌜ ((S : Set) (cs : List ℕ) → S .threads ≡ threads → marked kind ≡ true → n ≤ lastIndex
-        → Puts r (placeOf (now (slots .entry))) n (baseOf S cs step (kindAt kind) t p) (now (out .entry)) (now (out .exit))) × (r .count ≤ 4) ⌝ }
+        → Puts r (placeOf (now (slots .entry))) n (baseOf S cs step (kindAt kind) t p) (now (out .entry)) (now (out .exit))) × (r .count ≤ treeRoom) ⌝ }
 {
     match kind {
         kinds::HELD => encoder_bases::put_base(slots, out, threads, step, kinds::HELD, t, p, n),
@@ -190,10 +190,10 @@ fn entry(
     p: u16,
     n: u32,
 ) -> u32
-    requires { ⌜ (n + 36 ≤ lastIndex) × (t < 4) × (p < 8) ⌝ }
+    requires { ⌜ (n + entryRoom ≤ lastIndex) × (t < mostThreads) × (p < mostCheckpoints) ⌝ }
     ensures { λ r. ⌜ ((S : Set) (cs members : List ℕ) → S .threads ≡ threads → marked kind ≡ true → t < S .threads → p < length cs → Ready S cs members (now (table .entry)) (now (slots .entry)) n
         → Writes (entryOf S cs step (kindAt kind) t p) (now (out .entry)) (now (slots .entry)) n (now (out .exit)) (now (slots .exit)) r)
-        × (r ≤ n + 36) ⌝ }
+        × (r ≤ n + entryRoom) ⌝ }
 {
     if set_index::checks::contains(table, t, p) {
         let base = put_marked(slots, out, threads, step, kind, t, p, n);
@@ -229,10 +229,10 @@ fn line(
     t: u8,
     n: u32,
 ) -> u32
-    requires { ⌜ (n + 288 ≤ lastIndex) × (count ≤ 8) × (t < 4) ⌝ }
+    requires { ⌜ (n + mostCheckpoints * entryRoom ≤ lastIndex) × (count ≤ mostCheckpoints) × (t < mostThreads) ⌝ }
     ensures { λ r. ⌜ ((S : Set) (cs members : List ℕ) → S .threads ≡ threads → length cs ≡ count → marked kind ≡ true → t < S .threads → Ready S cs members (now (table .entry)) (now (slots .entry)) n
         → Writes (lineOf S cs step (kindAt kind) t) (now (out .entry)) (now (slots .entry)) n (now (out .exit)) (now (slots .exit)) r)
-        × (r ≤ n + 288) ⌝ }
+        × (r ≤ n + mostCheckpoints * entryRoom) ⌝ }
 {
     let mut next = n;
     let mut p: u16 = 0;

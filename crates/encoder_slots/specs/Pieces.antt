@@ -1,10 +1,10 @@
 -- A piece of a program written to a table: the output, the places and the next index afterwards. This serves the code; no call's promise needs it.
 -- Assumes nothing.
-use Prim.Native.Nat.{ℕ, _<_}
+use Prim.Native.Nat.{ℕ, _+_, _*_, _<_}
 use mathlib.Core.Path.{_≡_}
 use mathlib.Core.List.{List, []}
 use lib.ListN.{length}
-use Rattle.records.specs.Sets.{Set}
+use Rattle.records.specs.Sets.{Set, mostThreads, mostStatements}
 use Rattle.table.specs.Formulas.{writtenAt}
 use Rattle.table.specs.Programs.{Command, next, root, records, compiled, nextAfter, placesAfter}
 use Rattle.encoding.specs.Slots.{Slot, same, Term}
@@ -35,9 +35,19 @@ pub record Ready (S : Set) (cs members lists slots : List ℕ) (n : ℕ) : Type 
   pub below : (s : Slot) → placeOf slots s < n
   pub idle : Idle S (placeOf slots)
 
+-- the most records of a value's base, of the links over it (one for each statement of a thread), and of both
+abbrev pub treeRoom : ℕ
+treeRoom = 4
+
+abbrev pub chainRoom : ℕ
+chainRoom = mostStatements
+
+abbrev pub entryRoom : ℕ
+entryRoom = treeRoom + chainRoom
+
 -- the most records of a kind's values for one thread, and for all threads
 abbrev pub lineRoom : ℕ
-lineRoom = 1152
+lineRoom = mostStatements * entryRoom
 
 abbrev pub blockRoom : ℕ
-blockRoom = 4608
+blockRoom = mostThreads * lineRoom

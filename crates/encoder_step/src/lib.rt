@@ -4,16 +4,16 @@ ghost use mathlib.Core.Bool.{true, false};
 ghost use mathlib.Core.List.{List, [], _∷_};
 ghost use Prim.Native.Nat.{ℕ, _+_, _*_, _≤_, _<_};
 ghost use lib.ListN.{length};
-ghost use Rattle.records.specs.Sets.{Set, setBy};
+ghost use Rattle.records.specs.Sets.{Set, setBy, mostThreads, mostCheckpoints};
 ghost use Rattle.table.specs.Programs.{needs};
 ghost use Rattle.encoding.specs.Encodings.{starting};
 ghost use Rattle.encoding.specs.Slots.{kindAt, kindNumber, kindCount, mayExecute, flag};
 ghost use Rattle.encoding.specs.Steps.{single, shape, rows as rowsOf, columns as columnsOf, entry as entryOf, block as blockOf, blocks as blocksOf, ruled, step as stepOf};
 ghost use Rattle.set_index.specs.Points.{listed};
-ghost use Rattle.encoder_slots.specs.Pieces.{Writes, Ready, blockRoom};
+ghost use Rattle.encoder_slots.specs.Pieces.{Writes, Ready, treeRoom, entryRoom, blockRoom};
 ghost use Rattle.encoder_slots.specs.Places.{ofStatement};
 ghost use Rattle.encoder_chains.specs.Chained.{chained};
-ghost use Rattle.encoder_step.specs.Entries.{stepRoom, BareEntry, GivenEntry, ByThread, AfterThread};
+ghost use Rattle.encoder_step.specs.Entries.{stepRoom, mostColumns, BareEntry, GivenEntry, ByThread, AfterThread};
 ghost use Rattle.table.specs.Repeats.{lastIndex};
 use encoder_slots::BLOCK;
 use encoder_slots::SIZE;
@@ -81,10 +81,10 @@ fn bare_entry(
     b: u16,
     n: u32,
 ) -> u32
-    requires { ⌜ (n + 4 ≤ lastIndex) × (a < 4) × (b < 9) ⌝ }
+    requires { ⌜ (n + treeRoom ≤ lastIndex) × (a < mostThreads) × (b < mostColumns) ⌝ }
     ensures { λ r. ⌜ ((S : Set) (cs members lists : List ℕ) → S .threads ≡ threads → BareEntry S cs kind a b → Ready S cs members lists (now (slots .entry)) n
         → Writes (entryOf S cs step (kindAt kind) a b) (now (out .entry)) (now (slots .entry)) n (now (out .exit)) (now (slots .exit)) r)
-        × (r ≤ n + 4) ⌝ }
+        × (r ≤ n + treeRoom) ⌝ }
 {
     let base = encoder_bases::put_base(slots, out, threads, step, kind, a, b, n);
     encoder_slots::set_place(slots, kind, a, b, base.root);
@@ -101,11 +101,11 @@ fn bare_line(
     columns: u16,
     n: u32,
 ) -> u32
-    requires { ⌜ (n + 36 ≤ lastIndex) × (columns ≤ 9) ⌝ }
+    requires { ⌜ (n + mostColumns * treeRoom ≤ lastIndex) × (columns ≤ mostColumns) ⌝ }
     ensures { λ r. ⌜ ((S : Set) (cs members lists : List ℕ) → S .threads ≡ threads → ((b : ℕ) → BareEntry S cs kind 0 b) → rowsOf S cs step (shape (kindAt kind)) ≡ 1
         → columns ≡ columnsOf S cs step (shape (kindAt kind)) 0 → Ready S cs members lists (now (slots .entry)) n
         → Writes (blockOf S cs step (kindAt kind)) (now (out .entry)) (now (slots .entry)) n (now (out .exit)) (now (slots .exit)) r)
-        × (r ≤ n + 36) ⌝ }
+        × (r ≤ n + mostColumns * treeRoom) ⌝ }
 {
     let mut next = n;
     let mut b: u16 = 0;
@@ -118,10 +118,10 @@ fn bare_line(
 
 // Writes for each thread whether it may execute.
 fn may_execute_block(slots: &mut [u32], out: &mut [u8], threads: u8, step: u8, n: u32) -> u32
-    requires { ⌜ (n + 16 ≤ lastIndex) × (threads ≤ 4) ⌝ }
+    requires { ⌜ (n + mostThreads * treeRoom ≤ lastIndex) × (threads ≤ mostThreads) ⌝ }
     ensures { λ r. ⌜ ((S : Set) (cs members lists : List ℕ) → S .threads ≡ threads → Ready S cs members lists (now (slots .entry)) n
         → Writes (blockOf S cs step mayExecute) (now (out .entry)) (now (slots .entry)) n (now (out .exit)) (now (slots .exit)) r)
-        × (r ≤ n + 16) ⌝ }
+        × (r ≤ n + mostThreads * treeRoom) ⌝ }
 {
     let mut next = n;
     let mut t: u8 = 0;
@@ -134,10 +134,10 @@ fn may_execute_block(slots: &mut [u32], out: &mut [u8], threads: u8, step: u8, n
 
 // Writes a value that there is one of, whose links the choices or the threads give.
 fn single_block(slots: &mut [u32], out: &mut [u8], threads: u8, step: u8, kind: u8, n: u32) -> u32
-    requires { ⌜ (n + 12 ≤ lastIndex) × (threads ≤ 4) × (kind < kindCount) × (ofStatement kind ≡ false) × (kind ≡ kindNumber flag → ⊥) ⌝ }
+    requires { ⌜ (n + entryRoom ≤ lastIndex) × (kind < kindCount) × (ofStatement kind ≡ false) × (kind ≡ kindNumber flag → ⊥) ⌝ }
     ensures { λ r. ⌜ ((S : Set) (cs members lists : List ℕ) → S .threads ≡ threads → chained kind ≡ true → shape (kindAt kind) ≡ single → Ready S cs members lists (now (slots .entry)) n
         → Writes (blockOf S cs step (kindAt kind)) (now (out .entry)) (now (slots .entry)) n (now (out .exit)) (now (slots .exit)) r)
-        × (r ≤ n + 12) ⌝ }
+        × (r ≤ n + entryRoom) ⌝ }
 {
     let base = encoder_bases::put_base(slots, out, threads, step, kind, 0, 0, n);
     let next = n + base.count;
@@ -159,10 +159,10 @@ fn given_entry(
     t: u8,
     n: u32,
 ) -> u32
-    requires { ⌜ (n + 36 ≤ lastIndex) × (a < 4) × (b < 9) × (t < 4) ⌝ }
-    ensures { λ r. ⌜ ((S : Set) (cs lists : List ℕ) → S .threads ≡ threads → GivenEntry S cs kind a b t → Ready S cs (now (members .entry)) lists (now (slots .entry)) n
+    requires { ⌜ (n + entryRoom ≤ lastIndex) × (a < mostThreads) × (b < mostColumns) ⌝ }
+    ensures { λ r. ⌜ ((S : Set) (cs lists : List ℕ) → S .threads ≡ threads → t < S .threads → GivenEntry S cs kind a b t → Ready S cs (now (members .entry)) lists (now (slots .entry)) n
         → Writes (entryOf S cs step (kindAt kind) a b) (now (out .entry)) (now (slots .entry)) n (now (out .exit)) (now (slots .exit)) r)
-        × (r ≤ n + 36) ⌝ }
+        × (r ≤ n + entryRoom) ⌝ }
 {
     let base = encoder_bases::put_base(slots, out, threads, step, kind, a, b, n);
     let next = n + base.count;
@@ -181,10 +181,10 @@ fn register_block(
     kind: u8,
     n: u32,
 ) -> u32
-    requires { ⌜ (n + 144 ≤ lastIndex) × (threads ≤ 4) ⌝ }
+    requires { ⌜ (n + mostThreads * entryRoom ≤ lastIndex) × (threads ≤ mostThreads) ⌝ }
     ensures { λ r. ⌜ ((S : Set) (cs lists : List ℕ) → S .threads ≡ threads → ByThread S cs kind → Ready S cs (now (members .entry)) lists (now (slots .entry)) n
         → Writes (blockOf S cs step (kindAt kind)) (now (out .entry)) (now (slots .entry)) n (now (out .exit)) (now (slots .exit)) r)
-        × (r ≤ n + 144) ⌝ }
+        × (r ≤ n + mostThreads * entryRoom) ⌝ }
 {
     let mut next = n;
     let mut t: u8 = 0;
@@ -205,10 +205,10 @@ fn running_block(
     kind: u8,
     n: u32,
 ) -> u32
-    requires { ⌜ (n + 148 ≤ lastIndex) × (threads ≤ 4) ⌝ }
+    requires { ⌜ (n + treeRoom + mostThreads * entryRoom ≤ lastIndex) × (threads ≤ mostThreads) ⌝ }
     ensures { λ r. ⌜ ((S : Set) (cs lists : List ℕ) → S .threads ≡ threads → AfterThread S cs kind → Ready S cs (now (members .entry)) lists (now (slots .entry)) n
         → Writes (blockOf S cs step (kindAt kind)) (now (out .entry)) (now (slots .entry)) n (now (out .exit)) (now (slots .exit)) r)
-        × (r ≤ n + 148) ⌝ }
+        × (r ≤ n + treeRoom + mostThreads * entryRoom) ⌝ }
 {
     let mut next = bare_entry(slots, out, threads, step, kind, 0, 0, n);
     let mut t: u8 = 0;
@@ -230,7 +230,7 @@ fn statement_block(
     kind: u8,
     n: u32,
 ) -> u32
-    requires { ⌜ (n + blockRoom ≤ lastIndex) × (layout .threads ≤ 4) × (kind < kindCount) × (ofStatement kind ≡ true) ⌝ }
+    requires { ⌜ (n + blockRoom ≤ lastIndex) × (layout .threads ≤ mostThreads) × (kind < kindCount) × (ofStatement kind ≡ true) ⌝ }
     ensures { λ r. ⌜ ((cs lists : List ℕ) (step : ℕ) → Ready (setBy (now (set .entry)) layout) cs (now (members .entry)) lists (now (slots .entry)) n
         → Writes (blockOf (setBy (now (set .entry)) layout) cs step (kindAt kind)) (now (out .entry)) (now (slots .entry)) n (now (out .exit)) (now (slots .exit)) r)
         × (r ≤ n + blockRoom) ⌝ }
@@ -254,7 +254,7 @@ fn flag_block(
     out: &mut [u8],
     n: u32,
 ) -> u32
-    requires { ⌜ (n + blockRoom ≤ lastIndex) × (layout .threads ≤ 4) ⌝ }
+    requires { ⌜ (n + blockRoom ≤ lastIndex) × (layout .threads ≤ mostThreads) ⌝ }
     ensures { λ r. ⌜ ((cs members : List ℕ) (step : ℕ) → Ready (setBy (now (set .entry)) layout) cs members (now (lists .entry)) (now (slots .entry)) n
         → Writes (blockOf (setBy (now (set .entry)) layout) cs step flag) (now (out .entry)) (now (slots .entry)) n (now (out .exit)) (now (slots .exit)) r)
         × (r ≤ n + blockRoom) ⌝ }
@@ -283,7 +283,7 @@ fn choice_kinds(
     step: u8,
     n: u32,
 ) -> u32
-    requires { ⌜ (n + 5 * blockRoom ≤ lastIndex) × (layout .threads ≤ 4) × (length (listed points) ≤ 8) ⌝ }
+    requires { ⌜ (n + 5 * blockRoom ≤ lastIndex) × (layout .threads ≤ mostThreads) × (length (listed points) ≤ mostCheckpoints) ⌝ }
     ensures { λ r. ⌜ (Ready (setBy (now (set .entry)) layout) (listed points) (now (members .entry)) (now (lists .entry)) (now (slots .entry)) n
         → Writes (blocksOf (setBy (now (set .entry)) layout) (listed points) step 0 5) (now (out .entry)) (now (slots .entry)) n (now (out .exit)) (now (slots .exit)) r)
         × (r ≤ n + 5 * blockRoom) ⌝ }
@@ -308,7 +308,7 @@ fn permit_kinds(
     step: u8,
     n: u32,
 ) -> u32
-    requires { ⌜ (n + 5 * blockRoom ≤ lastIndex) × (layout .threads ≤ 4) ⌝ }
+    requires { ⌜ (n + 5 * blockRoom ≤ lastIndex) × (layout .threads ≤ mostThreads) ⌝ }
     ensures { λ r. ⌜ ((bytes members : List ℕ) → Ready (setBy bytes layout) (listed points) members (now (lists .entry)) (now (slots .entry)) n
         → Writes (blocksOf (setBy bytes layout) (listed points) step 5 5) (now (out .entry)) (now (slots .entry)) n (now (out .exit)) (now (slots .exit)) r)
         × (r ≤ n + 5 * blockRoom) ⌝ }
@@ -335,7 +335,7 @@ fn deciding_kinds(
     step: u8,
     n: u32,
 ) -> u32
-    requires { ⌜ (n + 11 * blockRoom ≤ lastIndex) × (layout .threads ≤ 4) × (length (listed points) ≤ 8) ⌝ }
+    requires { ⌜ (n + 11 * blockRoom ≤ lastIndex) × (layout .threads ≤ mostThreads) × (length (listed points) ≤ mostCheckpoints) ⌝ }
     ensures { λ r. ⌜ (Ready (setBy (now (set .entry)) layout) (listed points) (now (members .entry)) (now (lists .entry)) (now (slots .entry)) n
         → Writes (blocksOf (setBy (now (set .entry)) layout) (listed points) step 0 11) (now (out .entry)) (now (slots .entry)) n (now (out .exit)) (now (slots .exit)) r)
         × (r ≤ n + 11 * blockRoom) ⌝ }
@@ -354,7 +354,7 @@ fn statement_kinds(
     out: &mut [u8],
     n: u32,
 ) -> u32
-    requires { ⌜ (n + 5 * blockRoom ≤ lastIndex) × (layout .threads ≤ 4) ⌝ }
+    requires { ⌜ (n + 5 * blockRoom ≤ lastIndex) × (layout .threads ≤ mostThreads) ⌝ }
     ensures { λ r. ⌜ ((cs lists : List ℕ) (step : ℕ) → Ready (setBy (now (set .entry)) layout) cs (now (members .entry)) lists (now (slots .entry)) n
         → Writes (blocksOf (setBy (now (set .entry)) layout) cs step 11 5) (now (out .entry)) (now (slots .entry)) n (now (out .exit)) (now (slots .exit)) r)
         × (r ≤ n + 5 * blockRoom) ⌝ }
@@ -376,7 +376,7 @@ fn write_kinds(
     step: u8,
     n: u32,
 ) -> u32
-    requires { ⌜ (n + 5 * blockRoom ≤ lastIndex) × (layout .threads ≤ 4) ⌝ }
+    requires { ⌜ (n + 5 * blockRoom ≤ lastIndex) × (layout .threads ≤ mostThreads) ⌝ }
     ensures { λ r. ⌜ ((cs lists : List ℕ) → Ready (setBy (now (set .entry)) layout) cs (now (members .entry)) lists (now (slots .entry)) n
         → Writes (blocksOf (setBy (now (set .entry)) layout) cs step 16 5) (now (out .entry)) (now (slots .entry)) n (now (out .exit)) (now (slots .exit)) r)
         × (r ≤ n + 5 * blockRoom) ⌝ }
@@ -400,7 +400,7 @@ fn exit_kinds(
     step: u8,
     n: u32,
 ) -> u32
-    requires { ⌜ (n + 5 * blockRoom ≤ lastIndex) × (layout .threads ≤ 4) ⌝ }
+    requires { ⌜ (n + 5 * blockRoom ≤ lastIndex) × (layout .threads ≤ mostThreads) ⌝ }
     ensures { λ r. ⌜ ((bytes : List ℕ) → Ready (setBy bytes layout) (listed points) (now (members .entry)) (now (lists .entry)) (now (slots .entry)) n
         → Writes (blocksOf (setBy bytes layout) (listed points) step 21 5) (now (out .entry)) (now (slots .entry)) n (now (out .exit)) (now (slots .exit)) r)
         × (r ≤ n + 5 * blockRoom) ⌝ }
@@ -423,7 +423,7 @@ fn register_kinds(
     step: u8,
     n: u32,
 ) -> u32
-    requires { ⌜ (n + 5 * blockRoom ≤ lastIndex) × (threads ≤ 4) ⌝ }
+    requires { ⌜ (n + 5 * blockRoom ≤ lastIndex) × (threads ≤ mostThreads) ⌝ }
     ensures { λ r. ⌜ ((S : Set) (cs lists : List ℕ) → S .threads ≡ threads → Ready S cs (now (members .entry)) lists (now (slots .entry)) n
         → Writes (blocksOf S cs step 26 5) (now (out .entry)) (now (slots .entry)) n (now (out .exit)) (now (slots .exit)) r)
         × (r ≤ n + 5 * blockRoom) ⌝ }
@@ -446,7 +446,7 @@ fn end_kinds(
     step: u8,
     n: u32,
 ) -> u32
-    requires { ⌜ (n + 5 * blockRoom ≤ lastIndex) × (layout .threads ≤ 4) ⌝ }
+    requires { ⌜ (n + 5 * blockRoom ≤ lastIndex) × (layout .threads ≤ mostThreads) ⌝ }
     ensures { λ r. ⌜ ((members : List ℕ) → Ready (setBy (now (set .entry)) layout) (listed points) members (now (lists .entry)) (now (slots .entry)) n
         → Writes (blocksOf (setBy (now (set .entry)) layout) (listed points) step 31 5) (now (out .entry)) (now (slots .entry)) n (now (out .exit)) (now (slots .exit)) r)
         × (r ≤ n + 5 * blockRoom) ⌝ }
@@ -472,7 +472,7 @@ fn acting_kinds(
     step: u8,
     n: u32,
 ) -> u32
-    requires { ⌜ (n + 25 * blockRoom ≤ lastIndex) × (layout .threads ≤ 4) ⌝ }
+    requires { ⌜ (n + 25 * blockRoom ≤ lastIndex) × (layout .threads ≤ mostThreads) ⌝ }
     ensures { λ r. ⌜ (Ready (setBy (now (set .entry)) layout) (listed points) (now (members .entry)) (now (lists .entry)) (now (slots .entry)) n
         → Writes (blocksOf (setBy (now (set .entry)) layout) (listed points) step 11 25) (now (out .entry)) (now (slots .entry)) n (now (out .exit)) (now (slots .exit)) r)
         × (r ≤ n + 25 * blockRoom) ⌝ }
@@ -488,7 +488,7 @@ fn acting_kinds(
 
 // Writes the constraint of a step: before the end exactly one choice, and it permitted; none after.
 fn rule(layout: Layout, slots: &[u32], out: &mut [u8], n: u32) -> u32
-    requires { ⌜ (n + 2 ≤ lastIndex) × (layout .threads ≤ 4) ⌝ }
+    requires { ⌜ (n + 2 ≤ lastIndex) × (layout .threads ≤ mostThreads) ⌝ }
     ensures { λ r. ⌜ ((bytes cs : List ℕ) (step : ℕ) → Writes (needs (ruled (setBy bytes layout) cs step) ∷ [])
         (now (out .entry)) (now (slots .entry)) n (now (out .exit)) (now (slots .entry)) r)
         × (r ≡ n + 2) ⌝ }
@@ -556,7 +556,7 @@ pub fn shared(
 ) -> u32
     ensures { λ r. ⌜ ((cs lists : List ℕ) → Ready (setBy (now (set .entry)) layout) cs (now (members .entry)) lists (now (slots .entry)) n → n + stepRoom ≤ lastIndex
         → Writes (starting (setBy (now (set .entry)) layout) cs) (now (out .entry)) (now (slots .entry)) n (now (out .exit)) (now (slots .exit)) r)
-        × (r ≤ n + 4 + blockRoom) ⌝ }
+        × (r ≤ n + treeRoom + blockRoom) ⌝ }
 {
     if LIMIT < n {
         return n;

@@ -1,12 +1,12 @@
 -- `encoder_flags::each_flag` meets its contract. Assumes nothing.
 use Rattle.records.specs.StatementRecords.{Stands}
-use Rattle.set_index.specs.ListTables.{JumpsOf}
 use Rattle.encoder_slots.proofs.Entries.{row-others}
-use Rattle.encoder_slots.proofs.Pieces.{writes-row, writes-more, below-after}
-use Rattle.encoder_slots.specs.Pieces.{Writes}
-use Rattle.encoder_slots.specs.Places.{placeOf, size}
+use Rattle.encoder_slots.proofs.Pieces.{writes-row, writes-more}
+use Rattle.encoder_slots.proofs.Ready.{ready-entry}
+use Rattle.encoder_slots.specs.Pieces.{Writes, Ready, entryRoom}
+use Rattle.encoder_slots.specs.Places.{placeOf}
 use Rattle.encoding.specs.Steps.{entry}
-use Rattle.encoding.specs.Slots.{Kind, kindNumber, choice, flag, bitZero, Slot, slot}
+use Rattle.encoding.specs.Slots.{Kind, kindNumber, choice, flag, bitZero, slot}
 use Rattle.table.specs.Programs.{upto}
 use Rattle.records.specs.Sets.{Set}
 use Prim.Native.Nat.{ℕ, _+_, _-_, _*_, _≤_, _<_}
@@ -23,10 +23,9 @@ use Rattle.encoder_flags.proofs.each_flag.Tie as tie
 
 abbrev Inv-loop : tie.InvT-loop
 Inv-loop set first lists slots₀ out₀ t count n executes no' next₀ j₀ slots out next j =
-    (j ≤ count) × (next ≤ n + 36 * j) × (length out ≡ length out₀) × (length slots ≡ length slots₀)
-    × ((S : Set) (cs : List ℕ) (k : ℕ) → JumpsOf S t count lists → Stands S set first count t
-    → length slots₀ ≡ size → ((s : Slot) → placeOf slots₀ s < n)
-    → (Writes (upto (entry S cs k flag t) j) out₀ slots₀ n out slots next) × ((s : Slot) → placeOf slots s < next))
+    (j ≤ count) × (next ≤ n + entryRoom * j) × (length out ≡ length out₀) × (length slots ≡ length slots₀)
+    × ((S : Set) (cs members : List ℕ) (k : ℕ) → t < S .threads → Stands S set first count t → Ready S cs members lists slots₀ n
+    → (Writes (upto (entry S cs k flag t) j) out₀ slots₀ n out slots next) × (Ready S cs members lists slots next))
 
 abbrev μ-loop : tie.MeasureT-loop
 μ-loop set first lists slots₀ out₀ t count n executes no' next₀ j₀ slots out next j = count - j
@@ -44,7 +43,7 @@ loop-holds c =
       omega arith,
       refl,
       refl,
-      λ (S : Set) (cs : List ℕ) (k : ℕ) listed known all below. (writes-row (entry S cs k flag (a .t)) (now (a .out)) (now (a .slots)) (a .n), below),
+      λ (S : Set) (cs members : List ℕ) (k : ℕ) row stands ready. (writes-row (entry S cs k flag (a .t)) (now (a .out)) (now (a .slots)) (a .n), ready),
     )
 
 flag-requires : tie.Need-flag-requires Inv-loop μ-loop
@@ -72,13 +71,13 @@ loop-again c =
       omega arith,
       search needs,
       search needs,
-      λ (S : Set) (cs : List ℕ) (k : ℕ) listed known all below.
+      λ (S : Set) (cs members : List ℕ) (k : ℕ) row stands ready.
           let f = entry S cs k flag (a .t) in
-          let so-far = l .inv .4 S cs k listed known all below in
+          let so-far = l .inv .4 S cs members k row stands ready in
           let kept : (other : Kind) (x y : ℕ) → eqb (kindNumber other) (kindNumber flag) ≡ false → placeOf (now (a .slots)) (slot other x y) ≡ placeOf (l .slots) (slot other x y) =
           λ other x y apart. sym (row-others S cs k flag (a .t) other x y apart (l .j) (now (a .out)) (now (a .slots)) (a .n) (l .out) (l .slots) (l .next) (so-far .0)) in
-          let w = r .ensures .0 S cs k listed known (choice-place .ensures ∙ kept choice 0 (a .t) refl) (no-place .ensures ∙ kept bitZero 0 0 refl) (l .inv .3 ∙ all) (so-far .1) in
-          (writes-more f (l .j) (now (a .out)) (now (a .slots)) (a .n) _ _ _ _ _ _ (so-far .0) w, below-after (f (l .j)) _ _ _ _ _ _ w (so-far .1)),
+          let w = r .ensures .0 S cs members k row stands (so-far .1) (choice-place .ensures ∙ kept choice 0 (a .t) refl) (no-place .ensures ∙ kept bitZero 0 0 refl) in
+          (writes-more f (l .j) (now (a .out)) (now (a .slots)) (a .n) _ _ _ _ _ _ (so-far .0) w, ready-entry k flag (a .t) (l .j) w (so-far .1)),
     )
 
 same-length : tie.Need-same-length Inv-loop μ-loop
@@ -93,9 +92,9 @@ returns c =
     let l = c .before .loop in
     let few = c .before .before .before .before .before .before .before .before .before .before .pre .1 in
     let j-is : l .j ≡ a .count = omega arith in (
-      λ (S : Set) (cs : List ℕ) (k : ℕ) listed known all below.
+      λ (S : Set) (cs members : List ℕ) (k : ℕ) row stands ready.
           subst (λ (i : ℕ). Writes (upto (entry S cs k flag (a .t)) i) (now (a .out)) (now (a .slots)) (a .n) (l .out) (l .slots) (l .next))
-          (j-is ∙ sym (known .countIs)) (l .inv .4 S cs k listed known all below .0),
+          (j-is ∙ sym (stands .countIs)) (l .inv .4 S cs members k row stands ready .0),
       omega arith,
     )
 

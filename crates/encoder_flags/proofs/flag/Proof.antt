@@ -6,9 +6,9 @@ use Rattle.encoder_slots.specs.Pieces.{WritesTree}
 use Rattle.encoder_slots.specs.Places.{placeOf}
 use Rattle.encoding.specs.Steps.{base}
 use Rattle.encoding.specs.Slots.{kinds, flag}
-use Rattle.table.proofs.Sequences.{inside}
+use Rattle.encoder_slots.proofs.Ready.{ready-root}
 use Rattle.records.specs.Sets.{Set}
-use Prim.Native.Nat.{ℕ, _≤_, _<_}
+use Prim.Native.Nat.{ℕ, _≤_}
 use mathlib.Core.Path.{refl, sym, _∙_}
 use mathlib.Core.List.{List}
 use native.Mathlib.Omega.{arith}
@@ -55,20 +55,15 @@ returns c =
     let p = c .before .before .set-place .ensures in
     let most = g .ensures .1 in
     let links = r .ensures .1 in (
-      λ (S : Set) (cs : List ℕ) (k : ℕ) listed known executes-is no-is all below.
+      λ (S : Set) (cs members : List ℕ) (k : ℕ) row stands ready executes-is no-is.
           let places = placeOf (now (a .slots)) in
-          let put = g .ensures .0 S cs k (s .ensures ∙ sym (known .statementIs (a .j) (omega arith))) executes-is no-is room in
+          let put = g .ensures .0 S cs k (s .ensures ∙ sym (stands .statementIs (a .j) (omega arith))) executes-is no-is room in
           let w : WritesTree places (treeOf S cs k flag (a .t) (a .j)) (now (a .out)) (a .n) _ (r .result .next) (r .result .at) =
-          flag-chained S cs k (a .t) (a .j) (a .count) (sym (known .countIs)) places (now (a .out)) (a .n) _ (r .result .next) (r .result .at)
-          (r .ensures .0 S (base S cs k flag (a .t) (a .j)) (now (a .out)) (a .n) listed (known .statementIs)
+          flag-chained S cs k (a .t) (a .j) (a .count) (sym (stands .countIs)) places (now (a .out)) (a .n) _ (r .result .next) (r .result .at)
+          (r .ensures .0 S cs members (base S cs k flag (a .t) (a .j)) (now (a .out)) (a .n) row stands ready
           (put-written (g .result) places (a .n) (base S cs k flag (a .t) (a .j)) (now (a .out)) _ put)) in
-          let small : r .result .at < 4294967295 =
-          let i = inside places (treeOf S cs k flag (a .t) (a .j)) (a .n) below in
-          let e = w .treeRoot in
-          let f = w .treeNext in
-          omega arith in
           entry-kept S cs k flag (a .t) (a .j) (now (a .out)) (now (a .slots)) (a .n) _ _ (r .result .next) (r .result .at) refl w
-          (p .1 all (omega arith) (q .3) (omega arith) small) (p .0),
+          (p .1 (ready .allPlaces) (omega arith) (q .3) (omega arith) (ready-root ready w (omega arith))) (p .0),
       omega arith,
     )
 

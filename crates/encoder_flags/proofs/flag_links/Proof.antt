@@ -2,11 +2,13 @@
 use Rattle.encoder_flags.proofs.Lists.{jumps-unnamed}
 use Rattle.encoder_flags.proofs.Written.{none-lead, before-leads}
 use Rattle.encoder_slots.specs.Places.{placeOf}
+use Rattle.encoder_slots.proofs.Ready.{ready-jumps}
+use Rattle.set_index.specs.ListTables.{firstJumps, noStatement}
 use Rattle.encoding.specs.Steps.{chain, leads}
 use Rattle.encoding.specs.Slots.{Term}
 use Rattle.records.specs.declared.Statement.{Statement}
 use Rattle.records.specs.Sets.{Set}
-use Prim.Native.Nat.{ℕ, _+_, _-_, _*_, _≤_, _<_}
+use Prim.Native.Nat.{ℕ, _+_, _-_, _≤_, _<_}
 use mathlib.Core.Path.{sym, ap, _∙_}
 use mathlib.Core.List.{List, []}
 use native.Mathlib.Omega.{arith}
@@ -29,7 +31,7 @@ same-length c = search needs
 returns : tie.Need-returns
 returns c =
     let r = c .before .before .jump-links .ensures in
-    (λ S tree start m listed known w. r .0 S tree start m listed known w, r .1)
+    (λ S cs members tree start m row stands ready w. r .0 S cs members tree start m row stands ready w, r .1)
 
 sub-before : tie.Need-sub-before
 sub-before c = search needs
@@ -65,14 +67,14 @@ returns-2 c =
     let jump = c .before .before .before .before .before .before .before .before .first .ensures in
     let left = c .before .before .before .before .before .before .before .if1 .left in
     let room : a .n ≤ lastIndex = omega arith in (
-      λ (S : Set) (tree : Term) (start : List ℕ) (m : ℕ) listed known w.
-          let unnamed = jumps-unnamed S (a .t) (a .count) (a .j) (omega arith) few (now (a .lists)) listed (λ (e : getD (now (a .lists)) (160 + 32 * a .t + a .j) 0 < 32). omega arith) in
+      λ (S : Set) (cs members : List ℕ) (tree : Term) (start : List ℕ) (m : ℕ) row stands ready w.
+          let unnamed = jumps-unnamed S (a .t) (a .count) (a .j) (omega arith) few (now (a .lists)) (ready-jumps ready row stands) (λ (e : getD (now (a .lists)) (firstJumps (a .t) + a .j) 0 < noStatement). omega arith) in
           let places = placeOf (now (a .slots)) in
           let links = leads S [] 0 (a .t) (a .j) in
           before-leads places S (a .t) (a .j) (a .count) within unnamed tree start m (a .j - 1) (omega arith)
           (now (a .out)) (a .n) (a .base) _ _ _
           (p .ensures .0 places (links (a .j - 1)) (chain links (a .j - 1) tree) start m room
-          (c .before .before .before .before .follows .ensures S (a .j) (ap (λ (x : Statement). x .number) (s .ensures ∙ sym (known (a .j - 1) (omega arith)))) (omega arith)
+          (c .before .before .before .before .follows .ensures S (a .j) (ap (λ (x : Statement). x .number) (s .ensures ∙ sym (stands .statementIs (a .j - 1) (omega arith)))) (omega arith)
           (unnamed (a .j - 1) (omega arith)))) w,
       omega arith,
     )
@@ -85,8 +87,8 @@ returns-3 c =
     let within = q .2 in
     let jump = c .before .before .first .ensures in
     let left = c .before .if1 .left in (
-      λ (S : Set) (tree : Term) (start : List ℕ) (m : ℕ) listed known w.
-          let unnamed = jumps-unnamed S (a .t) (a .count) (a .j) (omega arith) few (now (a .lists)) listed (λ (e : getD (now (a .lists)) (160 + 32 * a .t + a .j) 0 < 32). omega arith) in
+      λ (S : Set) (cs members : List ℕ) (tree : Term) (start : List ℕ) (m : ℕ) row stands ready w.
+          let unnamed = jumps-unnamed S (a .t) (a .count) (a .j) (omega arith) few (now (a .lists)) (ready-jumps ready row stands) (λ (e : getD (now (a .lists)) (firstJumps (a .t) + a .j) 0 < noStatement). omega arith) in
           none-lead (placeOf (now (a .slots))) S (a .t) (a .j) (a .count) (omega arith) unnamed tree start m (omega arith)
           (now (a .out)) (a .n) (a .base) w,
       omega arith,

@@ -1,6 +1,6 @@
 -- `encoder_flags::flags` meets its contract. Assumes nothing.
 use Rattle.encoder_slots.specs.Pieces.{lineRoom}
-use Rattle.records.specs.Sets.{setBy}
+use Rattle.records.specs.Sets.{setBy, mostStatements}
 use Prim.Native.Nat.{ℕ, _+_, _≤_, _<_}
 use mathlib.Core.List.{List}
 use native.Mathlib.Omega.{arith}
@@ -26,7 +26,7 @@ element-copy-out-count c = search needs
 returns-2 : tie.Need-returns-2
 returns-2 c =
     let a = c .before .before .before .before .before .before .before .args in
-    ((λ (cs members : List ℕ) (k : ℕ) row room ready. let few : getD (a .t2 .counts) (a .t) 0 ≤ 32 = ready .byName .fewStatements (a .t) row in absurd (omega arith)), omega arith)
+    ((λ (cs members : List ℕ) (k : ℕ) row room ready. let few : getD (a .t2 .counts) (a .t) 0 ≤ mostStatements = ready .byName .fewStatements (a .t) row in absurd (omega arith)), omega arith)
 
 returns-3 : tie.Need-returns-3
 returns-3 c =
@@ -61,9 +61,7 @@ returns-6 c =
     let r = c .before .before .before .before .each-flag in
     let start = c .before .before .before .before .before .before .before .first in (
       (λ (cs members : List ℕ) (k : ℕ) row room ready.
-          r .ensures .0 (setBy (now (a .set)) (a .t2)) cs k (ready .byName .jumps (a .t) row)
-          (stands-by (now (a .set)) (a .t2) (a .t) (start .result) (start .ensures .0))
-          (ready .allPlaces) (ready .below)),
+          r .ensures .0 (setBy (now (a .set)) (a .t2)) cs members k row (stands-by (now (a .set)) (a .t2) (a .t) (start .result) (start .ensures .0)) ready),
       r .ensures .1,
     )
 

@@ -1,6 +1,7 @@
 -- `encoder_flags::jump_links` meets its contract. Assumes nothing.
 use Rattle.encoder_chains.proofs.Trees.{chain-none, chain-more}
 use Rattle.encoder_slots.specs.Places.{placeOf}
+use Rattle.encoder_slots.proofs.Ready.{ready-jumps}
 use Rattle.encoding.specs.Steps.{chain, leads}
 use Rattle.encoding.specs.Slots.{Term}
 use Rattle.records.specs.Sets.{Set}
@@ -43,9 +44,10 @@ returns c =
     let all = c .before .before .before .named-links in
     let most = all .ensures .2 in
     let zero = c .before .before .before .before .before .if1 .taken in (
-      λ (S : Set) (tree : Term) (start : List ℕ) (m : ℕ) listed known w.
-          all .ensures .0 S tree start m (a .j) (a .count) 0 (omega arith) (omega arith) (omega arith) (omega arith)
-          (λ (x : ℕ) (p : 0 ≤ x) (q : x < a .count) (e : a .j ≡ x + 1). omega arith) listed known (heads (c .before .before .before .before .before .before) S listed)
+      λ (S : Set) (cs members : List ℕ) (tree : Term) (start : List ℕ) (m : ℕ) row stands ready w.
+          let listed = ready-jumps ready row stands in
+          all .ensures .0 S cs members tree start m (a .j) (a .count) 0 (omega arith) (omega arith) (omega arith) (omega arith)
+          (λ (x : ℕ) (p : 0 ≤ x) (q : x < a .count) (e : a .j ≡ x + 1). omega arith) row stands ready (heads (c .before .before .before .before .before .before) S listed)
           (chain-none (placeOf (now (a .slots))) (leads S [] 0 (a .t) (a .j)) tree start m (now (a .out)) (a .n) (a .base) w) .0,
       omega arith,
     )
@@ -111,18 +113,19 @@ returns-2 c =
     let rest = later .ensures .2 in
     let ahead = past-ahead (a .j - 1) (earlier .result .hit) (g .result) _ (omega arith) (g .ensures .0) (g .ensures .1) in
     let room : earlier .result .tree .next ≤ lastIndex = omega arith in (
-      λ (S : Set) (tree : Term) (start : List ℕ) (m : ℕ) listed known w.
+      λ (S : Set) (cs members : List ℕ) (tree : Term) (start : List ℕ) (m : ℕ) row stands ready w.
+          let listed = ready-jumps ready row stands in
           let places = placeOf (now (a .slots)) in
           let links = leads S [] 0 (a .t) (a .j) in
-          let before = earlier .ensures .0 S tree start m (a .j) (a .count) 0 (omega arith) (omega arith) (omega arith) (omega arith)
-          (λ (x : ℕ) (l : 0 ≤ x) (r : x < a .j - 1) (e : a .j ≡ x + 1). omega arith) listed known (heads (c .before .before .before .before .before .before .before .before .before .before .before .before .before .before .before .before .before) S listed)
+          let before = earlier .ensures .0 S cs members tree start m (a .j) (a .count) 0 (omega arith) (omega arith) (omega arith) (omega arith)
+          (λ (x : ℕ) (l : 0 ≤ x) (r : x < a .j - 1) (e : a .j ≡ x + 1). omega arith) row stands ready (heads (c .before .before .before .before .before .before .before .before .before .before .before .before .before .before .before .before .before) S listed)
           (chain-none places links tree start m (now (a .out)) (a .n) (a .base) w) in
-          later .ensures .0 S tree start m (a .j) (a .count) (a .j - 1 + 1) (omega arith) (omega arith) (omega arith) (omega arith)
-          (λ (x : ℕ) (l : a .j - 1 + 1 ≤ x) (r : x < a .count) (e : a .j ≡ x + 1). omega arith) listed known
+          later .ensures .0 S cs members tree start m (a .j) (a .count) (a .j - 1 + 1) (omega arith) (omega arith) (omega arith) (omega arith)
+          (λ (x : ℕ) (l : a .j - 1 + 1 ≤ x) (r : x < a .count) (e : a .j ≡ x + 1). omega arith) row stands ready
           (named-past S (a .t) (a .count) (a .j) (omega arith) few (now (a .lists)) listed (earlier .result .hit) (a .j - 1) (g .result) (omega arith) due (g .ensures .0) (g .ensures .1) (before .1))
           (chain-more places links tree start m _ _ _ (a .j - 1)
           (p .ensures .0 places (links (a .j - 1)) (chain links (a .j - 1) tree) start m room
-          (link .ensures S (s .ensures ∙ sym (known (a .j - 1) (omega arith)))) (before .0))) .0,
+          (link .ensures S (s .ensures ∙ sym (stands .statementIs (a .j - 1) (omega arith)))) (before .0))) .0,
       omega arith,
     )
 

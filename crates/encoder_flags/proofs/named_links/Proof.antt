@@ -1,12 +1,13 @@
 -- `encoder_flags::named_links` meets its contract. Assumes nothing.
-use Rattle.records.specs.StatementRecords.{StandsFrom}
+use Rattle.records.specs.StatementRecords.{Stands}
 use Rattle.set_index.specs.Members.{namesTarget}
-use Rattle.encoder_slots.specs.Pieces.{WritesTree}
+use Rattle.encoder_slots.specs.Pieces.{WritesTree, Ready}
 use Rattle.encoder_slots.specs.Places.{placeOf}
+use Rattle.encoder_slots.proofs.Ready.{ready-jumps}
 use Rattle.encoding.specs.Steps.{chain, leads}
 use Rattle.encoding.specs.Slots.{Term}
 use Rattle.records.specs.declared.Statement.{Statement}
-use Rattle.records.specs.Sets.{Set}
+use Rattle.records.specs.Sets.{Set, mostStatements}
 use Prim.Native.Nat.{ℕ, _+_, _-_, _≤_, _<_}
 use mathlib.Core.Path.{_≡_, refl, sym, ap, _∙_, subst}
 use mathlib.Core.Bool.{true}
@@ -14,7 +15,6 @@ use mathlib.Core.List.{List, []}
 use native.Mathlib.Omega.{arith}
 use denote.Ref.{now}
 use lib.ListN.{length}
-use Rattle.set_index.specs.ListTables.{JumpsOf}
 use Rattle.set_index.proofs.Making.{onward-after}
 use Rattle.encoder_flags.specs.Named.{NamedFirst}
 use Rattle.encoder_flags.proofs.Written.{Reached, reached-more, reached-all}
@@ -26,9 +26,9 @@ use Rattle.table.specs.Repeats.{lastIndex}
 abbrev Inv-loop : tie.InvT-loop
 Inv-loop set first lists slots out₀ t hit end n base tree₀ i₀ out tree i =
     (hit ≤ i) × (i < end → tree .next ≤ n + (i - hit)) × (tree .next ≤ n + (end - hit)) × (length out ≡ length out₀)
-    × ((S : Set) (base-tree : Term) (start : List ℕ) (m j count from : ℕ) → j < 32 → from ≤ hit → from ≤ end → end ≤ count
-    → ((x : ℕ) → from ≤ x → x < end → (j ≡ x + 1 → ⊥)) → JumpsOf S t count lists → StandsFrom S set t first count
-    → NamedFirst S t count hit from j
+    × ((S : Set) (cs members : List ℕ) (base-tree : Term) (start : List ℕ) (m j count from : ℕ) → j < mostStatements → from ≤ hit → from ≤ end → end ≤ count
+    → ((x : ℕ) → from ≤ x → x < end → (j ≡ x + 1 → ⊥)) → t < S .threads → Stands S set first count t
+    → Ready S cs members lists slots m → NamedFirst S t count hit from j
     → WritesTree (placeOf slots) (chain (leads S [] 0 t j) from base-tree) start m out₀ n base
     → Reached (placeOf slots) S t j count from end base-tree start m i out (tree .next) (tree .at))
 
@@ -42,7 +42,7 @@ loop-holds c =
       λ more. omega arith,
       omega arith,
       refl,
-      λ (S : Set) (tree : Term) (start : List ℕ) (m j count from : ℕ) small due within inside apart listed known soonest w. record {
+      λ (S : Set) (cs members : List ℕ) (tree : Term) (start : List ℕ) (m j count from : ℕ) small due within inside apart row stands ready soonest w. record {
         low = from;
         since = omega arith;
         within = within;
@@ -98,16 +98,16 @@ loop-again c =
       λ more. omega arith,
       omega arith,
       p .kept .0 ∙ l .inv .3,
-      λ (S : Set) (tree : Term) (start : List ℕ) (m j count from : ℕ) small due within inside apart listed known soonest w.
+      λ (S : Set) (cs members : List ℕ) (tree : Term) (start : List ℕ) (m j count from : ℕ) small due within inside apart row stands ready soonest w.
           let places = placeOf (now (a .slots)) in
           let links = leads S [] 0 (a .t) j in
-          let r = l .inv .4 S tree start m j count from small due within inside apart listed known soonest w in
+          let r = l .inv .4 S cs members tree start m j count from small due within inside apart row stands ready soonest w in
           let names : namesTarget (S .statement (a .t) (l .i)) j ≡ true = r .soonest .belongs (omega arith) .1 in
           let after : from ≤ l .i = let x = r .since in let y = r .due in omega arith in
           reached-more places S (a .t) j small count from (a .end) inside apart tree start m (l .i) (l .out) (l .tree .next) (l .tree .at) r going names
-          (now (a .lists)) listed (f .result) greater (f .ensures) _ _ _
+          (now (a .lists)) (ready-jumps ready row stands) (f .result) greater (f .ensures) _ _ _
           (p .ensures .0 places (links (l .i)) (chain links (l .i) tree) start m room
-          (link .ensures S j (ap (λ (x : Statement). x .number) (s .ensures ∙ sym (known (l .i) (omega arith)))) names (apart (l .i) after going))),
+          (link .ensures S j (ap (λ (x : Statement). x .number) (s .ensures ∙ sym (stands .statementIs (l .i) (omega arith)))) names (apart (l .i) after going))),
     )
 
 same-length : tie.Need-same-length Inv-loop μ-loop
@@ -118,9 +118,9 @@ returns c =
     let a = c .before .before .before .before .before .before .args in
     let l = c .before .loop in
     let past = c .loop-test .left in (
-      λ (S : Set) (tree : Term) (start : List ℕ) (m j count from : ℕ) small due within inside apart listed known soonest w.
+      λ (S : Set) (cs members : List ℕ) (tree : Term) (start : List ℕ) (m j count from : ℕ) small due within inside apart row stands ready soonest w.
           reached-all (placeOf (now (a .slots))) S (a .t) j small count from (a .end) inside apart tree start m (l .i) (l .out) (l .tree .next) (l .tree .at)
-          (l .inv .4 S tree start m j count from small due within inside apart listed known soonest w) past,
+          (l .inv .4 S cs members tree start m j count from small due within inside apart row stands ready soonest w) past,
       past,
       l .inv .2,
     )

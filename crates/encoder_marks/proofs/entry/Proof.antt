@@ -5,11 +5,10 @@ use Rattle.encoder_slots.specs.Pieces.{WritesTree, Ready}
 use Rattle.encoder_slots.specs.Places.{placeOf}
 use Rattle.encoder_slots.proofs.Entries.{entry-none, entry-kept, treeOf}
 use Rattle.encoder_slots.proofs.Rows.{width-least}
-use Rattle.set_index.specs.ListTables.{ListTable}
 use Rattle.encoder_bases.proofs.Given.{put-written}
 use Rattle.encoding.specs.Steps.{base, shape, kept}
 use Rattle.encoding.specs.Slots.{kindAt}
-use Rattle.table.proofs.Sequences.{inside}
+use Rattle.encoder_slots.proofs.Ready.{ready-root}
 use Rattle.records.specs.Sets.{Set}
 use Prim.Native.Nat.{ℕ, _+_, _<_}
 use lib.ListN.{length}
@@ -23,12 +22,12 @@ use Rattle.encoder_marks.proofs.entry.Statement.{statement}
 use Rattle.encoder_marks.proofs.entry.Tie as tie
 
 -- whether there is a mark
-there : (c : tie.After-contains) → let a = c .before .before .before .before .args in (S : Set) (cs : List ℕ) →
-    marked (a .kind) ≡ true → a .t < S .threads → a .p < length cs → ListTable S cs (now (a .table)) →
+there : (c : tie.After-contains) → let a = c .before .before .before .before .args in (S : Set) (cs members : List ℕ) →
+    marked (a .kind) ≡ true → a .t < S .threads → a .p < length cs → Ready S cs members (now (a .table)) (now (a .slots)) (a .n) →
     kept S cs 0 (shape (kindAt (a .kind))) (a .t) (a .p) ≡ c .contains .result
-there c S cs is row column k =
+there c S cs members is row column ready =
     let a = c .before .before .before .before .args in
-    marked-kept S cs 0 (a .t) (a .p) (a .kind) is ∙ sym (c .contains .ensures S cs k row column)
+    marked-kept S cs 0 (a .t) (a .p) (a .kind) is ∙ sym (c .contains .ensures S cs (ready .byName) row column)
 
 contains-requires : tie.Need-contains-requires
 contains-requires c κs = search needs
@@ -69,14 +68,9 @@ returns c =
           let put = put-written (g .result) places (a .n) bare (now (a .out)) _ (g .ensures .0 S cs threads is (omega arith)) in
           let w : WritesTree places (treeOf S cs (a .step) (kindAt (a .kind)) (a .t) (a .p)) (now (a .out)) (a .n) _ (r .result .next) (r .result .at) =
           raised-written S cs (a .step) (a .t) (a .p) places (now (a .out)) (a .n) _ (r .result .next) (r .result .at) (a .kind) (c .before .before .before .before .before .before .before .before .before .if2 .taken)
-          (r .ensures .0 S cs bare (now (a .out)) (a .n) inside-row inside-column (omega arith) (ready .allPlaces) (ready .byName) put) in
-          let small : r .result .at < 4294967295 =
-          let i = inside places (treeOf S cs (a .step) (kindAt (a .kind)) (a .t) (a .p)) (a .n) (ready .below) in
-          let e = w .treeRoot in
-          let f = w .treeNext in
-          omega arith in
+          (r .ensures .0 S cs members bare (now (a .out)) (a .n) inside-row inside-column (omega arith) ready put) in
           entry-kept S cs (a .step) (kindAt (a .kind)) (a .t) (a .p) (now (a .out)) (now (a .slots)) (a .n) _ _ (r .result .next) (r .result .at)
-          (there (c .before .before .before .before .before .before .before .before .before .before .before .before .before .before .before .before .before) S cs is inside-row inside-column (ready .byName) ∙ c .before .before .before .before .before .before .before .before .before .before .before .before .before .before .before .before .if1 .taken) w (p .1 (ready .allPlaces) (marked-known (a .kind) is) (q .1) (omega arith) small) (p .0),
+          (there (c .before .before .before .before .before .before .before .before .before .before .before .before .before .before .before .before .before) S cs members is inside-row inside-column ready ∙ c .before .before .before .before .before .before .before .before .before .before .before .before .before .before .before .before .if1 .taken) w (p .1 (ready .allPlaces) (marked-known (a .kind) is) (q .1) (omega arith) (ready-root ready w (omega arith))) (p .0),
       omega arith,
     )
 
@@ -105,13 +99,8 @@ returns-2 c =
           let put = put-written (g .result) places (a .n) bare (now (a .out)) _ (g .ensures .0 S cs threads is (omega arith)) in
           let w : WritesTree places (treeOf S cs (a .step) (kindAt (a .kind)) (a .t) (a .p)) (now (a .out)) (a .n) _ (a .n + g .result .count) (g .result .root) =
           mark-written S cs (a .step) (a .t) (a .p) places (now (a .out)) (a .n) _ (a .n + g .result .count) (g .result .root) (a .kind) is (c .before .before .before .before .if2 .left) put in
-          let small : g .result .root < 4294967295 =
-          let i = inside places (treeOf S cs (a .step) (kindAt (a .kind)) (a .t) (a .p)) (a .n) (ready .below) in
-          let e = w .treeRoot in
-          let f = w .treeNext in
-          omega arith in
           entry-kept S cs (a .step) (kindAt (a .kind)) (a .t) (a .p) (now (a .out)) (now (a .slots)) (a .n) _ _ (a .n + g .result .count) (g .result .root)
-          (there (c .before .before .before .before .before .before .before .before .before .before .before .before) S cs is inside-row inside-column (ready .byName) ∙ c .before .before .before .before .before .before .before .before .before .before .before .if1 .taken) w (p .1 (ready .allPlaces) (marked-known (a .kind) is) (q .1) (omega arith) small) (p .0),
+          (there (c .before .before .before .before .before .before .before .before .before .before .before .before) S cs members is inside-row inside-column ready ∙ c .before .before .before .before .before .before .before .before .before .before .before .if1 .taken) w (p .1 (ready .allPlaces) (marked-known (a .kind) is) (q .1) (omega arith) (ready-root ready w (omega arith))) (p .0),
       omega arith,
     )
 
@@ -120,7 +109,7 @@ returns-3 c =
     let a = c .before .before .before .before .before .args in (
       λ (S : Set) (cs members : List ℕ) threads is inside-row inside-column (ready : Ready S cs members (now (a .table)) (now (a .slots)) (a .n)).
           entry-none S cs (a .step) (kindAt (a .kind)) (a .t) (a .p) (now (a .out)) (now (a .slots)) (a .n)
-          (there (c .before) S cs is inside-row inside-column (ready .byName) ∙ c .if1 .left),
+          (there (c .before) S cs members is inside-row inside-column ready ∙ c .if1 .left),
       omega arith,
     )
 

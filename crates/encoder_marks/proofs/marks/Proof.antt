@@ -1,5 +1,5 @@
 -- `encoder_marks::marks` meets its contract. Assumes nothing.
-use Rattle.encoder_slots.specs.Pieces.{Writes, Ready, blockRoom}
+use Rattle.encoder_slots.specs.Pieces.{Writes, Ready, entryRoom, blockRoom}
 use Rattle.encoder_slots.proofs.Ready.{ready-line}
 use Rattle.encoder_slots.proofs.Pieces.{writes-row, writes-more}
 use Rattle.encoder_marks.specs.Marked.{marked}
@@ -7,7 +7,7 @@ use Rattle.encoder_marks.proofs.Marked.{marked-rows}
 use Rattle.encoding.specs.Steps.{line}
 use Rattle.encoding.specs.Slots.{kindAt}
 use Rattle.table.specs.Programs.{upto}
-use Rattle.records.specs.Sets.{Set}
+use Rattle.records.specs.Sets.{Set, mostThreads, mostCheckpoints}
 use Prim.Native.Nat.{ℕ, _+_, _-_, _*_, _≤_, _<_}
 use mathlib.Core.Path.{_≡_, refl, sym, _∙_, subst}
 use mathlib.Core.Bool.{true}
@@ -22,7 +22,7 @@ use Rattle.table.specs.Repeats.{lastIndex}
 
 abbrev Inv-loop : tie.InvT-loop
 Inv-loop table slots₀ out₀ threads count step kind n next₀ t₀ slots out next t =
-    (t ≤ threads) × (threads ≤ 4) × (count ≤ 8) × (n + blockRoom ≤ lastIndex) × (next ≤ n + 288 * t) × (length out ≡ length out₀) × (length slots ≡ length slots₀)
+    (t ≤ threads) × (threads ≤ mostThreads) × (count ≤ mostCheckpoints) × (n + blockRoom ≤ lastIndex) × (next ≤ n + mostCheckpoints * entryRoom * t) × (length out ≡ length out₀) × (length slots ≡ length slots₀)
     × ((S : Set) (cs members : List ℕ) → S .threads ≡ threads → length cs ≡ count → marked kind ≡ true → Ready S cs members table slots₀ n
     → (Ready S cs members table slots next) × (Writes (upto (line S cs step (kindAt kind)) t) out₀ slots₀ n out slots next))
 

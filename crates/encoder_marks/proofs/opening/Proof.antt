@@ -5,9 +5,9 @@ use Rattle.encoder_slots.proofs.Entries.{entry-kept, treeOf}
 use Rattle.encoder_bases.proofs.Given.{put-written}
 use Rattle.encoding.specs.Steps.{base}
 use Rattle.encoding.specs.Slots.{kinds, opening}
-use Rattle.table.proofs.Sequences.{inside}
+use Rattle.encoder_slots.proofs.Ready.{ready-root}
 use Rattle.records.specs.Sets.{Set}
-use Prim.Native.Nat.{ℕ, _<_}
+use Prim.Native.Nat.{ℕ}
 use mathlib.Core.Path.{refl}
 use mathlib.Core.List.{List}
 use native.Mathlib.Omega.{arith}
@@ -50,15 +50,10 @@ returns c =
       λ (S : Set) (cs members : List ℕ) row column (ready : Ready S cs members (now (a .table)) (now (a .slots)) (a .n)).
           let put = g .ensures .0 S cs row refl (λ e. absurd (omega arith)) (omega arith) in
           let w : WritesTree places (treeOf S cs (a .step) opening 0 (a .p)) (now (a .out)) (a .n) _ (r .result .next) (r .result .at) =
-          r .ensures .0 S cs (base S cs (a .step) opening 0 (a .p)) (now (a .out)) (a .n) row column (omega arith) (ready .allPlaces) (ready .byName)
+          r .ensures .0 S cs members (base S cs (a .step) opening 0 (a .p)) (now (a .out)) (a .n) row column (omega arith) ready
           (put-written (g .result) places (a .n) (base S cs (a .step) opening 0 (a .p)) (now (a .out)) _ put) in
-          let small : r .result .at < 4294967295 =
-          let i = inside places (treeOf S cs (a .step) opening 0 (a .p)) (a .n) (ready .below) in
-          let e = w .treeRoot in
-          let f = w .treeNext in
-          omega arith in
           entry-kept S cs (a .step) opening 0 (a .p) (now (a .out)) (now (a .slots)) (a .n) _ _ (r .result .next) (r .result .at) refl w
-          (p .1 (ready .allPlaces) (omega arith) (omega arith) (omega arith) small) (p .0),
+          (p .1 (ready .allPlaces) (omega arith) (omega arith) (omega arith) (ready-root ready w (omega arith))) (p .0),
       omega arith,
     )
 

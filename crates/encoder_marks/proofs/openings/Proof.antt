@@ -1,12 +1,12 @@
 -- `encoder_marks::openings` meets its contract. Assumes nothing.
-use Rattle.encoder_slots.specs.Pieces.{Writes, Ready, blockRoom}
+use Rattle.encoder_slots.specs.Pieces.{Writes, Ready, entryRoom, blockRoom}
 use Rattle.encoder_slots.proofs.Ready.{ready-entry}
 use Rattle.encoder_slots.proofs.Pieces.{writes-row, writes-more}
 use Rattle.encoder_marks.proofs.Blocks.{openings-written}
 use Rattle.encoding.specs.Steps.{entry}
 use Rattle.encoding.specs.Slots.{opening}
 use Rattle.table.specs.Programs.{upto}
-use Rattle.records.specs.Sets.{Set}
+use Rattle.records.specs.Sets.{Set, mostCheckpoints}
 use Prim.Native.Nat.{ℕ, _+_, _-_, _*_, _≤_, _<_}
 use mathlib.Core.Path.{_≡_, refl}
 use mathlib.Core.List.{List}
@@ -20,7 +20,7 @@ use Rattle.table.specs.Repeats.{lastIndex}
 
 abbrev Inv-loop : tie.InvT-loop
 Inv-loop table slots₀ out₀ threads count step n next₀ p₀ slots out next p =
-    (p ≤ count) × (count ≤ 8) × (n + blockRoom ≤ lastIndex) × (next ≤ n + 8 * p) × (length out ≡ length out₀) × (length slots ≡ length slots₀)
+    (p ≤ count) × (count ≤ mostCheckpoints) × (n + blockRoom ≤ lastIndex) × (next ≤ n + entryRoom * p) × (length out ≡ length out₀) × (length slots ≡ length slots₀)
     × ((S : Set) (cs members : List ℕ) → S .threads ≡ threads → length cs ≡ count → Ready S cs members table slots₀ n
     → (Ready S cs members table slots next) × (Writes (upto (entry S cs step opening 0) p) out₀ slots₀ n out slots next))
 

@@ -1,7 +1,7 @@
 -- `encoder_marks::put_marked` meets its contract. Assumes nothing.
 use Rattle.encoder_marks.proofs.Marked.{put-at, marked-last}
 use Rattle.encoder_slots.specs.Places.{placeOf}
-use Rattle.encoding.specs.Slots.{kinds}
+use Rattle.encoding.specs.Slots.{kinds, kindNumber, held, raised, mark}
 use Rattle.records.specs.Sets.{Set}
 use Prim.Native.Nat.{ℕ}
 use mathlib.Core.Path.{refl}
@@ -30,7 +30,7 @@ returns c =
     let a = c .before .before .before .before .before .before .before .args in
     let g = c .before .before .put-base in (
       λ (S : Set) (cs : List ℕ) threads is room.
-          put-at S cs (a .step) (a .t) (a .p) (placeOf (now (a .slots))) (now (a .out)) _ (a .n) (g .result) (a .kind) 5 (c .before .before .before .before .match .keys1) (g .ensures .0 S cs threads refl (λ e. absurd (omega arith)) room),
+          put-at S cs (a .step) (a .t) (a .p) (placeOf (now (a .slots))) (now (a .out)) _ (a .n) (g .result) (a .kind) (kindNumber held) (c .before .before .before .before .match .keys1) (g .ensures .0 S cs threads refl (λ e. absurd (omega arith)) room),
       g .ensures .1,
     )
 
@@ -43,7 +43,7 @@ returns-2 c =
     let a = c .before .before .before .before .before .before .before .args in
     let g = c .before .before .put-base2 in (
       λ (S : Set) (cs : List ℕ) threads is room.
-          put-at S cs (a .step) (a .t) (a .p) (placeOf (now (a .slots))) (now (a .out)) _ (a .n) (g .result) (a .kind) 21 (c .before .before .before .before .match .keys2) (g .ensures .0 S cs threads refl (λ e. absurd (omega arith)) room),
+          put-at S cs (a .step) (a .t) (a .p) (placeOf (now (a .slots))) (now (a .out)) _ (a .n) (g .result) (a .kind) (kindNumber raised) (c .before .before .before .before .match .keys2) (g .ensures .0 S cs threads refl (λ e. absurd (omega arith)) room),
       g .ensures .1,
     )
 
@@ -56,7 +56,7 @@ returns-3 c =
     let a = c .before .before .before .before .before .before .before .args in
     let g = c .before .before .put-base3 in (
       λ (S : Set) (cs : List ℕ) threads is room.
-          put-at S cs (a .step) (a .t) (a .p) (placeOf (now (a .slots))) (now (a .out)) _ (a .n) (g .result) (a .kind) 32 (marked-last (a .kind) is (c .before .before .before .before .match .rest)) (g .ensures .0 S cs threads refl (λ e. absurd (omega arith)) room),
+          put-at S cs (a .step) (a .t) (a .p) (placeOf (now (a .slots))) (now (a .out)) _ (a .n) (g .result) (a .kind) (kindNumber mark) (marked-last (a .kind) is (c .before .before .before .before .match .rest)) (g .ensures .0 S cs threads refl (λ e. absurd (omega arith)) room),
       g .ensures .1,
     )
 

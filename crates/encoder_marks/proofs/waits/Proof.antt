@@ -1,12 +1,12 @@
 -- `encoder_marks::waits` meets its contract. Assumes nothing.
-use Rattle.encoder_slots.specs.Pieces.{Writes, Ready, blockRoom}
+use Rattle.encoder_slots.specs.Pieces.{Writes, Ready, entryRoom, blockRoom}
 use Rattle.encoder_slots.proofs.Ready.{ready-line}
 use Rattle.encoder_slots.proofs.Pieces.{writes-row, writes-more}
 use Rattle.encoder_marks.proofs.Blocks.{waits-line}
 use Rattle.encoding.specs.Steps.{line}
 use Rattle.encoding.specs.Slots.{waits}
 use Rattle.table.specs.Programs.{upto}
-use Rattle.records.specs.Sets.{Set}
+use Rattle.records.specs.Sets.{Set, mostThreads}
 use Prim.Native.Nat.{ℕ, _+_, _-_, _*_, _≤_, _<_}
 use mathlib.Core.Path.{_≡_, refl, subst}
 use mathlib.Core.List.{List}
@@ -20,7 +20,7 @@ use Rattle.table.specs.Repeats.{lastIndex}
 
 abbrev Inv-loop : tie.InvT-loop
 Inv-loop table slots₀ out₀ threads count step n next₀ t₀ slots out next t =
-    (t ≤ threads) × (threads ≤ 4) × (n + blockRoom ≤ lastIndex) × (next ≤ n + 12 * t) × (length out ≡ length out₀) × (length slots ≡ length slots₀)
+    (t ≤ threads) × (threads ≤ mostThreads) × (n + blockRoom ≤ lastIndex) × (next ≤ n + entryRoom * t) × (length out ≡ length out₀) × (length slots ≡ length slots₀)
     × ((S : Set) (cs members : List ℕ) → S .threads ≡ threads → length cs ≡ count → Ready S cs members table slots₀ n
     → (Ready S cs members table slots next) × (Writes (upto (line S cs step waits) t) out₀ slots₀ n out slots next))
 

@@ -4,10 +4,10 @@ use native.Mathlib.Omega.{arith}
 use mathlib.Core.List.{List}
 use Prim.Native.Nat.{ℕ, _+_, _≤_, _<_}
 use Rattle.records.specs.Sets.{Set}
-use Rattle.table.proofs.Sequences.{inside}
 use Rattle.encoding.specs.Slots.{kindAt}
 use Rattle.encoding.specs.Steps.{base}
 use Rattle.encoder_slots.specs.Places.{placeOf, width}
+use Rattle.encoder_slots.proofs.Ready.{ready-root}
 use Rattle.encoder_slots.proofs.Rows.{width-least}
 use Rattle.encoder_slots.proofs.Entries.{entry-kept}
 use Rattle.encoder_bases.proofs.Given.{put-written}
@@ -45,14 +45,10 @@ returns c =
           let places = placeOf (now (a .slots)) in
           let t = base S cs (a .step) (kindAt (a .kind)) (a .a) (a .b) in
           let put = g .ensures .0 S cs threads (bare .plain) (bare .noFlag) room in
-          let small : g .result .root < 4294967295 =
-          let i = inside places t (a .n) (ready .below) in
-          let e = put .rootPut in
-          let f = put .countPut in
-          omega arith in
+          let w = put-written (g .result) places (a .n) t (now (a .out)) _ put in
           entry-kept S cs (a .step) (kindAt (a .kind)) (a .a) (a .b) (now (a .out)) (now (a .slots)) (a .n) _ _ (a .n + g .result .count) (g .result .root) (bare .there)
-          (bare-written S cs (a .step) (a .kind) (a .a) (a .b) bare places (now (a .out)) (a .n) _ _ _ (put-written (g .result) places (a .n) t (now (a .out)) _ put))
-          (p .1 (ready .allPlaces) (bare .known) (q .1) column small) (p .0),
+          (bare-written S cs (a .step) (a .kind) (a .a) (a .b) bare places (now (a .out)) (a .n) _ _ _ w)
+          (p .1 (ready .allPlaces) (bare .known) (q .1) column (ready-root ready w (omega arith))) (p .0),
       omega arith,
     )
 

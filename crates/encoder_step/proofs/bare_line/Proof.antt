@@ -9,7 +9,7 @@ use Rattle.records.specs.Sets.{Set}
 use Rattle.table.specs.Programs.{upto}
 use Rattle.encoding.specs.Slots.{kindAt}
 use Rattle.encoding.specs.Steps.{entry}
-use Rattle.encoder_slots.specs.Pieces.{Writes, Ready}
+use Rattle.encoder_slots.specs.Pieces.{Writes, Ready, treeRoom}
 use Rattle.encoder_slots.proofs.Ready.{ready-entry}
 use Rattle.encoder_slots.proofs.Pieces.{writes-row, writes-more}
 use Rattle.encoder_step.specs.Entries.{BareEntry}
@@ -20,7 +20,7 @@ use Rattle.encoder_step.proofs.bare_line.Tie as tie
 
 abbrev Inv-loop : tie.InvT-loop
 Inv-loop slots₀ out₀ threads step kind columns n next₀ b₀ slots out next b =
-    (b ≤ columns) × (next ≤ n + 4 * b) × (length out ≡ length out₀) × (length slots ≡ length slots₀)
+    (b ≤ columns) × (next ≤ n + treeRoom * b) × (length out ≡ length out₀) × (length slots ≡ length slots₀)
     × ((S : Set) (cs members lists : List ℕ) → S .threads ≡ threads → ((j : ℕ) → BareEntry S cs kind 0 j) → Ready S cs members lists slots₀ n
     → (Writes (upto (entry S cs step (kindAt kind) 0) b) out₀ slots₀ n out slots next) × (Ready S cs members lists slots next))
 

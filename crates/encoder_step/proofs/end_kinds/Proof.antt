@@ -32,7 +32,7 @@ single-block-requires c κs =
     let p1 = q .1 in
     let m1 = c .before .before .before .before .before .before .before .before .before .before .before .before .before .flag-block .ensures .1 in
     let m2 = c .before .before .before .before .before .before .marks .ensures .1 in
-    (omega arith, omega arith, omega arith, refl, λ e. absurd (omega arith))
+    (omega arith, omega arith, refl, λ e. absurd (omega arith))
 
 bare-entry-requires : tie.Need-bare-entry-requires
 bare-entry-requires c κs =

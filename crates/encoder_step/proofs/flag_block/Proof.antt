@@ -8,7 +8,7 @@ use Prim.Native.Nat.{ℕ, _+_, _-_, _*_, _≤_}
 use Rattle.encoding.specs.Steps.{line}
 use Rattle.encoding.specs.Slots.{kinds, flag}
 use Rattle.table.specs.Programs.{upto}
-use Rattle.records.specs.Sets.{setBy}
+use Rattle.records.specs.Sets.{setBy, mostThreads}
 use mathlib.Core.List.{List}
 use Rattle.encoder_slots.proofs.Ready.{ready-line}
 use Rattle.encoder_slots.proofs.Pieces.{writes-row, writes-more}
@@ -22,7 +22,7 @@ use Rattle.table.specs.Repeats.{lastIndex}
 
 abbrev Inv-loop : tie.InvT-loop
 Inv-loop set layout lists slots₀ out₀ n threads next₀ t₀ slots out next t =
-    (t ≤ threads) × (threads ≤ 4) × (next ≤ n + 1152 * t) × (length out ≡ length out₀) × (length slots ≡ length slots₀)
+    (t ≤ threads) × (threads ≤ mostThreads) × (next ≤ n + lineRoom * t) × (length out ≡ length out₀) × (length slots ≡ length slots₀)
     × ((cs members : List ℕ) (step : ℕ) → Ready (setBy set layout) cs members lists slots₀ n
     → (Writes (upto (line (setBy set layout) cs step flag) t) out₀ slots₀ n out slots next) × (Ready (setBy set layout) cs members lists slots next))
 

@@ -5,12 +5,12 @@ use mathlib.Core.List.{List}
 use mathlib.Core.Path.{sym, subst}
 use Prim.Native.Nat.{ℕ, _+_, _≤_, _<_}
 use Rattle.records.specs.Sets.{Set}
-use Rattle.table.proofs.Sequences.{inside}
+use Rattle.encoder_slots.proofs.Ready.{ready-root}
 use Rattle.encoding.specs.Slots.{Term, kindAt}
 use Rattle.encoding.specs.Steps.{chain, base}
 use Rattle.encoder_slots.specs.Places.{placeOf, width}
 use Rattle.encoder_slots.proofs.Rows.{width-least}
-use Rattle.encoder_slots.specs.Pieces.{WritesTree}
+use Rattle.encoder_slots.specs.Pieces.{WritesTree, chainRoom}
 use Rattle.encoder_slots.proofs.Entries.{entry-kept, treeOf}
 use Rattle.encoder_bases.proofs.Given.{put-written}
 use borrow.Author.Needs.{needs}
@@ -47,22 +47,17 @@ returns c =
     let last = r .ensures .1 in
     let little = q .0 in
     let room : a .n ≤ lastIndex = omega arith in
-    let few : a .n + b .result .count + 32 ≤ lastIndex = omega arith in
+    let few : a .n + b .result .count + chainRoom ≤ lastIndex = omega arith in
     let column : a .b < width (a .kind) = let most = q .2 in let least = width-least (a .kind) in omega arith in (
-      λ (S : Set) (cs lists : List ℕ) threads e ready.
+      λ (S : Set) (cs lists : List ℕ) threads row e ready.
           let places = placeOf (now (a .slots)) in
           let root = base S cs (a .step) (kindAt (a .kind)) (a .a) (a .b) in
           let g = b .ensures .0 S cs threads (e .plain) (e .noFlag) room in
           let w : WritesTree places (treeOf S cs (a .step) (kindAt (a .kind)) (a .a) (a .b)) (now (a .out)) (a .n) _ (r .result .next) (r .result .at) =
           subst (λ (t : Term). WritesTree places t (now (a .out)) (a .n) (r .last .1 .1 .0) (r .result .next) (r .result .at)) (λ z. chain (sym (e .linked) z) (sym (e .counted) z) root)
-          (r .ensures .0 S root (now (a .out)) (a .n) (q .3) few (ready .allPlaces) (ready .byClass) (put-written (b .result) places (a .n) root (now (a .out)) _ g)) in
-          let small : r .result .at < 4294967295 =
-          let i = inside places (treeOf S cs (a .step) (kindAt (a .kind)) (a .a) (a .b)) (a .n) (ready .below) in
-          let x = w .treeRoot in
-          let f = w .treeNext in
-          omega arith in
+          (r .ensures .0 S cs lists root (now (a .out)) (a .n) row few ready (put-written (b .result) places (a .n) root (now (a .out)) _ g)) in
           entry-kept S cs (a .step) (kindAt (a .kind)) (a .a) (a .b) (now (a .out)) (now (a .slots)) (a .n) _ _ (r .result .next) (r .result .at) (e .there) w
-          (p .1 (ready .allPlaces) (e .known) (q .1) column small) (p .0),
+          (p .1 (ready .allPlaces) (e .known) (q .1) column (ready-root ready w (omega arith))) (p .0),
       omega arith,
     )
 

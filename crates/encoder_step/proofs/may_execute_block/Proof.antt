@@ -9,7 +9,7 @@ use Rattle.records.specs.Sets.{Set}
 use Rattle.table.specs.Programs.{upto}
 use Rattle.encoding.specs.Slots.{kinds, kindNumber, mayExecute}
 use Rattle.encoding.specs.Steps.{line}
-use Rattle.encoder_slots.specs.Pieces.{Writes, Ready}
+use Rattle.encoder_slots.specs.Pieces.{Writes, Ready, treeRoom}
 use Rattle.encoder_slots.proofs.Ready.{ready-line}
 use Rattle.encoder_slots.proofs.Pieces.{writes-row, writes-more}
 use Rattle.encoder_step.proofs.Loops.{line-one, registers, lone-at}
@@ -19,7 +19,7 @@ use Rattle.encoder_step.proofs.may_execute_block.Tie as tie
 
 abbrev Inv-loop : tie.InvT-loop
 Inv-loop slots₀ out₀ threads step n next₀ t₀ slots out next t =
-    (t ≤ threads) × (next ≤ n + 4 * t) × (length out ≡ length out₀) × (length slots ≡ length slots₀)
+    (t ≤ threads) × (next ≤ n + treeRoom * t) × (length out ≡ length out₀) × (length slots ≡ length slots₀)
     × ((S : Set) (cs members lists : List ℕ) → S .threads ≡ threads → Ready S cs members lists slots₀ n
     → (Writes (upto (line S cs step mayExecute) t) out₀ slots₀ n out slots next) × (Ready S cs members lists slots next))
 

@@ -5,7 +5,7 @@ use lib.ListN.{length}
 use mathlib.Core.List.{[], _∷_}
 use mathlib.Core.Path.{_≡_}
 use Prim.Native.Nat.{_+_, _≤_}
-use Rattle.records.specs.Sets.{setBy}
+use Rattle.records.specs.Sets.{setBy, mostCheckpoints}
 use Rattle.table.specs.Programs.{needs as demanded}
 use Rattle.encoding.specs.Steps.{blocks, ruled, step}
 use Rattle.set_index.specs.Points.{listed}
@@ -39,7 +39,7 @@ returns-3 c =
 deciding-kinds-requires : tie.Need-deciding-kinds-requires
 deciding-kinds-requires c κs =
     let a = c .before .before .before .before .before .before .before .before .before .before .before .args in
-    let eight : length (a .points .numbers) ≡ 8 = search needs in
+    let eight : length (a .points .numbers) ≡ mostCheckpoints = search needs in
     (omega arith, omega arith, listed-most (a .points) eight)
 
 rule-requires : tie.Need-rule-requires

@@ -4,12 +4,12 @@ use native.Mathlib.Omega.{arith}
 use lib.ListN.{length}
 use mathlib.Core.List.{List}
 use mathlib.Core.Path.{_≡_, refl, sym, _∙_}
-use Prim.Native.Nat.{ℕ, _+_, _-_, _*_, _≤_}
+use Prim.Native.Nat.{ℕ, _+_, _-_, _*_, _≤_, _<_}
 use Rattle.records.specs.Sets.{Set}
 use Rattle.table.specs.Programs.{upto}
 use Rattle.encoding.specs.Slots.{kindAt}
 use Rattle.encoding.specs.Steps.{line}
-use Rattle.encoder_slots.specs.Pieces.{Writes, Ready}
+use Rattle.encoder_slots.specs.Pieces.{Writes, Ready, entryRoom}
 use Rattle.encoder_slots.proofs.Ready.{ready-line}
 use Rattle.encoder_slots.proofs.Pieces.{writes-row, writes-more}
 use Rattle.encoder_step.specs.Entries.{ByThread}
@@ -20,7 +20,7 @@ use Rattle.encoder_step.proofs.register_block.Tie as tie
 
 abbrev Inv-loop : tie.InvT-loop
 Inv-loop members slots₀ out₀ threads step kind n next₀ t₀ slots out next t =
-    (t ≤ threads) × (next ≤ n + 36 * t) × (length out ≡ length out₀) × (length slots ≡ length slots₀)
+    (t ≤ threads) × (next ≤ n + entryRoom * t) × (length out ≡ length out₀) × (length slots ≡ length slots₀)
     × ((S : Set) (cs lists : List ℕ) → S .threads ≡ threads → ByThread S cs kind → Ready S cs members lists slots₀ n
     → (Writes (upto (line S cs step (kindAt kind)) t) out₀ slots₀ n out slots next) × (Ready S cs members lists slots next))
 
@@ -44,7 +44,7 @@ given-entry-requires c κs =
     let room = q .0 in
     let four = q .1 in
     let so-far = l .inv .1 in
-    (omega arith, omega arith, omega arith, omega arith)
+    (omega arith, omega arith, omega arith)
 
 add-t : tie.Need-add-t Inv-loop μ-loop
 add-t c = search needs
@@ -63,10 +63,11 @@ loop-again c =
       omega arith,
       search needs,
       search needs,
-      λ (S : Set) (cs lists : List ℕ) threads by ready.
+      λ (S : Set) (cs lists : List ℕ) (threads : S .threads ≡ a .threads) by ready.
           let f = line S cs (a .step) (kindAt (a .kind)) in
           let done = l .inv .4 S cs lists threads by ready in
-          let w = line-one S cs (a .step) (a .kind) _ _ _ _ _ _ (by .each) (l .t) (r .ensures .0 S cs lists threads (by .own (l .t)) (done .1)) in
+          let row : l .t < S .threads = omega arith in
+          let w = line-one S cs (a .step) (a .kind) _ _ _ _ _ _ (by .each) (l .t) (r .ensures .0 S cs lists threads row (by .own (l .t)) (done .1)) in
           (writes-more f (l .t) (now (a .out)) (now (a .slots)) (a .n) _ _ _ _ _ _ (done .0) w, ready-line (a .step) (kindAt (a .kind)) (l .t) w (done .1)),
     )
 

@@ -5,7 +5,9 @@ use mathlib.Core.List.{List}
 use mathlib.Core.Path.{_≡_, refl, ap, _∙_}
 use Prim.Native.Nat.{ℕ, _+_, _*_}
 use borrow.Author.Needs.{needs}
+use Rattle.encoding.specs.Slots.{kindNumber, none}
 use Rattle.encoder_slots.specs.Places.{placeFrom}
+use Rattle.table.specs.Formulas.{bitSort}
 use Rattle.table.specs.Programs.{constraint, ternaryFormula, if3}
 use Rattle.records.specs.Sets.{setBy}
 use Rattle.encoder_step.proofs.Constraint.{rule-writes}
@@ -50,8 +52,8 @@ returns c =
       λ (bytes cs : List ℕ) (step : ℕ). rule-writes (now (a .out)) (now (a .slots)) (a .n) (setBy bytes (a .layout)) cs step _
           (c .before .before .put2 .ensures ∙ ap (recordAt (a .n + 1) (constraint (a .n)))
           (c .before .before .before .before .before .before .put .ensures
-          ∙ λ i. recordAt (a .n) (ternaryFormula (if3 1) (c .before .before .before .before .before .before .before .before .before .before .place .ensures i)
-          ((c .before .before .before .before .before .before .before .before .before .place2 .ensures ∙ ap (λ (b : ℕ). placeFrom (now (a .slots)) 8 0 b 0) twice) i) (c .before .before .before .before .before .before .before .before .place3 .ensures i)) (now (a .out)))),
+          ∙ λ i. recordAt (a .n) (ternaryFormula (if3 bitSort) (c .before .before .before .before .before .before .before .before .before .before .place .ensures i)
+          ((c .before .before .before .before .before .before .before .before .before .place2 .ensures ∙ ap (λ (b : ℕ). placeFrom (now (a .slots)) (kindNumber none) 0 b 0) twice) i) (c .before .before .before .before .before .before .before .before .place3 .ensures i)) (now (a .out)))),
       refl,
     )
 

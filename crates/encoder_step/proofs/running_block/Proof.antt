@@ -4,12 +4,12 @@ use native.Mathlib.Omega.{arith}
 use lib.ListN.{length}
 use mathlib.Core.List.{List}
 use mathlib.Core.Path.{_≡_, refl, sym, _∙_}
-use Prim.Native.Nat.{ℕ, _+_, _-_, _*_, _≤_}
+use Prim.Native.Nat.{ℕ, _+_, _-_, _*_, _≤_, _<_}
 use Rattle.records.specs.Sets.{Set}
 use Rattle.table.specs.Programs.{upto}
 use Rattle.encoding.specs.Slots.{kindAt}
 use Rattle.encoding.specs.Steps.{entry}
-use Rattle.encoder_slots.specs.Pieces.{Writes, Ready}
+use Rattle.encoder_slots.specs.Pieces.{Writes, Ready, entryRoom}
 use Rattle.encoder_slots.proofs.Ready.{ready-entry}
 use Rattle.encoder_slots.proofs.Pieces.{writes-row, writes-more}
 use Rattle.encoder_step.specs.Entries.{AfterThread}
@@ -20,7 +20,7 @@ use Rattle.encoder_step.proofs.running_block.Tie as tie
 
 abbrev Inv-loop : tie.InvT-loop
 Inv-loop members slots₀ out₀ threads step kind n next₀ t₀ slots out next t =
-    (t ≤ threads) × (next ≤ next₀ + 36 * t) × (length out ≡ length out₀) × (length slots ≡ length slots₀)
+    (t ≤ threads) × (next ≤ next₀ + entryRoom * t) × (length out ≡ length out₀) × (length slots ≡ length slots₀)
     × ((S : Set) (cs lists begun begunSlots : List ℕ) (m : ℕ) → S .threads ≡ threads → AfterThread S cs kind → Ready S cs members lists slots₀ next₀
     → Writes (upto (entry S cs step (kindAt kind) 0) 1) begun begunSlots m out₀ slots₀ next₀
     → (Writes (upto (entry S cs step (kindAt kind) 0) (t + 1)) begun begunSlots m out slots next) × (Ready S cs members lists slots next))
@@ -51,7 +51,7 @@ given-entry-requires c κs =
     let room = q .0 in
     let four = q .1 in
     let so-far = l .inv .1 in
-    (omega arith, omega arith, omega arith, omega arith)
+    (omega arith, omega arith, omega arith)
 
 add-t : tie.Need-add-t Inv-loop μ-loop
 add-t c = search needs
@@ -70,10 +70,11 @@ loop-again c =
       omega arith,
       search needs,
       search needs,
-      λ (S : Set) (cs lists begun begunSlots : List ℕ) (m : ℕ) threads after ready first.
+      λ (S : Set) (cs lists begun begunSlots : List ℕ) (m : ℕ) (threads : S .threads ≡ a .threads) after ready first.
           let f = entry S cs (a .step) (kindAt (a .kind)) 0 in
           let done = l .inv .4 S cs lists begun begunSlots m threads after ready first in
-          let w = r .ensures .0 S cs lists threads (after .next (l .t + 1) (l .t) refl) (done .1) in
+          let row : l .t < S .threads = omega arith in
+          let w = r .ensures .0 S cs lists threads row (after .next (l .t + 1) (l .t) refl) (done .1) in
           (writes-more f (l .t + 1) begun begunSlots m _ _ _ _ _ _ (done .0) w, ready-entry (a .step) (kindAt (a .kind)) 0 (l .t + 1) w (done .1)),
     )
 

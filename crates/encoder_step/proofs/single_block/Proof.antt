@@ -6,11 +6,11 @@ use mathlib.Core.Path.{_≡_, ap}
 use mathlib.Core.Bool.{true}
 use Prim.Native.Nat.{ℕ, _+_, _≤_, _<_}
 use Rattle.records.specs.Sets.{Set}
-use Rattle.table.proofs.Sequences.{inside}
+use Rattle.encoder_slots.proofs.Ready.{ready-root}
 use Rattle.encoding.specs.Slots.{kindAt}
 use Rattle.encoding.specs.Steps.{Shape, shape, base, rows, columns, kept}
 use Rattle.encoder_slots.specs.Places.{placeOf, width}
-use Rattle.encoder_slots.specs.Pieces.{WritesTree}
+use Rattle.encoder_slots.specs.Pieces.{WritesTree, chainRoom}
 use Rattle.encoder_slots.proofs.Entries.{entry-kept, treeOf}
 use Rattle.encoder_slots.proofs.Rows.{width-least}
 use Rattle.encoder_bases.proofs.Given.{put-written}
@@ -49,23 +49,18 @@ returns c =
     let last = r .ensures .1 in
     let little = q .0 in
     let room : a .n ≤ lastIndex = omega arith in
-    let few : a .n + b .result .count + 8 ≤ lastIndex = omega arith in
+    let few : a .n + b .result .count + chainRoom ≤ lastIndex = omega arith in
     let column : 0 < width (a .kind) = let least = width-least (a .kind) in omega arith in (
       λ (S : Set) (cs members lists : List ℕ) threads chained single ready.
           let places = placeOf (now (a .slots)) in
           let root = base S cs (a .step) (kindAt (a .kind)) 0 0 in
-          let g = b .ensures .0 S cs threads (q .3) (q .4) room in
+          let g = b .ensures .0 S cs threads (q .2) (q .3) room in
           let w : WritesTree places (treeOf S cs (a .step) (kindAt (a .kind)) 0 0) (now (a .out)) (a .n) _ (r .result .next) (r .result .at) =
-          r .ensures .0 S cs root (now (a .out)) (a .n) threads (q .1) chained few (ready .allPlaces) (put-written (b .result) places (a .n) root (now (a .out)) _ g) in
-          let small : r .result .at < 4294967295 =
-          let i = inside places (treeOf S cs (a .step) (kindAt (a .kind)) 0 0) (a .n) (ready .below) in
-          let x = w .treeRoot in
-          let f = w .treeNext in
-          omega arith in
+          r .ensures .0 S cs members lists root (now (a .out)) (a .n) threads chained few ready (put-written (b .result) places (a .n) root (now (a .out)) _ g) in
           let there : kept S cs 0 (shape (kindAt (a .kind))) 0 0 ≡ true = ap (λ (s : Shape). kept S cs 0 s 0 0) single in
           one-value S cs (a .step) (a .kind) _ _ _ _ _ _ (ap (rows S cs (a .step)) single) (ap (λ (s : Shape). columns S cs (a .step) s 0) single)
           (entry-kept S cs (a .step) (kindAt (a .kind)) 0 0 (now (a .out)) (now (a .slots)) (a .n) _ _ (r .result .next) (r .result .at) there w
-          (p .1 (ready .allPlaces) (q .2) (omega arith) column small) (p .0)),
+          (p .1 (ready .allPlaces) (q .1) (omega arith) column (ready-root ready w (omega arith))) (p .0)),
       omega arith,
     )
 

@@ -1,12 +1,11 @@
 -- `encoder_chains::chains::opening_chain` meets its contract. Assumes nothing.
-use Rattle.set_index.specs.ListTables.{ListTable}
 use Rattle.encoder_chains.proofs.Leads.{and-placed}
 use Rattle.machine.specs.Machine.{contains}
-use Rattle.records.specs.Sets.{Set}
+use Rattle.records.specs.Sets.{Set, mostThreads}
 use Rattle.encoder_chains.proofs.Trees.{chain-none, chain-more}
 use Rattle.encoding.specs.Slots.{Term, slot, opening, mark}
 use Rattle.encoding.specs.Steps.{chain as chainOf, link}
-use Rattle.encoder_slots.specs.Pieces.{WritesTree}
+use Rattle.encoder_slots.specs.Pieces.{WritesTree, Ready, chainRoom}
 use Rattle.encoder_slots.specs.Places.{placeOf}
 use native.Mathlib.Omega.{arith}
 use denote.Ref.{now}
@@ -21,8 +20,8 @@ use Rattle.table.specs.Repeats.{lastIndex}
 
 abbrev Inv-loop : tie.InvT-loop
 Inv-loop table slots out₀ threads p n base tree₀ t₀ out tree t =
-    (t ≤ threads) × (threads ≤ 4) × (tree .next ≤ n + t) × (length out ≡ length out₀)
-    × ((S : Set) (cs : List ℕ) (base-tree : Term) (start : List ℕ) (m : ℕ) → S .threads ≡ threads → p < length cs → n + 4 ≤ lastIndex → ListTable S cs table
+    (t ≤ threads) × (threads ≤ mostThreads) × (tree .next ≤ n + t) × (length out ≡ length out₀)
+    × ((S : Set) (cs members : List ℕ) (base-tree : Term) (start : List ℕ) (m : ℕ) → S .threads ≡ threads → p < length cs → n + chainRoom ≤ lastIndex → Ready S cs members table slots m
     → WritesTree (placeOf slots) base-tree start m out₀ n base
     → WritesTree (placeOf slots) (chainOf (link S cs 0 opening 0 p) t base-tree) start m out (tree .next) (tree .at))
 
@@ -32,17 +31,17 @@ abbrev μ-loop : tie.MeasureT-loop
 returns : tie.Need-returns Inv-loop μ-loop
 returns c =
     let a = c .before .before .before .before .args in
-    (λ S cs tree start m is inside small all k w. absurd (c .if1 .taken all), omega arith)
+    (λ S cs members tree start m is inside small ready w. absurd (c .if1 .taken (ready .allPlaces)), omega arith)
 
 returns-2 : tie.Need-returns-2 Inv-loop μ-loop
 returns-2 c =
     let a = c .before .before .before .before .before .args in
-    (λ (S : Set) (cs : List ℕ) tree start m is inside small all (k : ListTable S cs (now (a .table))) w. absurd (c .if2 .taken (k .whole)), omega arith)
+    (λ S cs members tree start m is inside small ready w. absurd (c .if2 .taken (ready .byName .whole)), omega arith)
 
 returns-3 : tie.Need-returns-3 Inv-loop μ-loop
 returns-3 c =
     let a = c .before .before .before .before .before .before .args in
-    (λ (S : Set) (cs : List ℕ) tree start m (is : S .threads ≡ a .threads) inside small all (k : ListTable S cs (now (a .table))) w. let few = k .fourThreads in absurd (omega arith), omega arith)
+    (λ (S : Set) cs members tree start m (is : S .threads ≡ a .threads) inside small ready w. let few = ready .byName .fourThreads in absurd (omega arith), omega arith)
 
 loop-holds : tie.Need-loop-holds Inv-loop μ-loop
 loop-holds c =
@@ -52,7 +51,7 @@ loop-holds c =
       omega arith,
       omega arith,
       refl,
-      λ (S : Set) (cs : List ℕ) (tree : Term) (start : List ℕ) (m : ℕ) is inside small k w.
+      λ (S : Set) (cs members : List ℕ) (tree : Term) (start : List ℕ) (m : ℕ) is inside small ready w.
           chain-none (placeOf (now (a .slots))) (link S cs 0 opening 0 (a .p)) tree start m (now (a .out)) (a .n) (a .base) w,
     )
 
@@ -79,13 +78,13 @@ loop-again c =
       l .inv .1,
       omega arith,
       p .kept .0 ∙ l .inv .3,
-      λ (S : Set) (cs : List ℕ) (tree : Term) (start : List ℕ) (m : ℕ) (is : S .threads ≡ a .threads) inside (small : a .n + 4 ≤ lastIndex) k w.
+      λ (S : Set) (cs members : List ℕ) (tree : Term) (start : List ℕ) (m : ℕ) (is : S .threads ≡ a .threads) inside (small : a .n + chainRoom ≤ lastIndex) ready w.
           let links = link S cs 0 opening 0 (a .p) in
           let here : l .t < S .threads = omega arith in
           chain-more (placeOf (now (a .slots))) links tree start m _ _ _ (l .t)
           (p .ensures .0 (placeOf (now (a .slots))) (links (l .t)) (chainOf links (l .t) tree) start m (omega arith)
-          (c .before .before .before .before .contained .ensures S cs k here inside ∙ and-placed (placeOf (now (a .slots))) {d = contains S (l .t) (getD cs (a .p) 0)} refl (slot mark (l .t) (a .p)))
-          (l .inv .4 S cs tree start m is inside small k w)),
+          (c .before .before .before .before .contained .ensures S cs members m here inside ready ∙ and-placed (placeOf (now (a .slots))) {d = contains S (l .t) (getD cs (a .p) 0)} refl (slot mark (l .t) (a .p)))
+          (l .inv .4 S cs members tree start m is inside small ready w)),
     )
 
 same-length : tie.Need-same-length Inv-loop μ-loop
@@ -95,10 +94,10 @@ returns-4 : tie.Need-returns-4 Inv-loop μ-loop
 returns-4 c =
     let a = c .before .before .before .before .before .before .before .before .args in
     let l = c .before .loop in (
-      λ (S : Set) (cs : List ℕ) (tree : Term) (start : List ℕ) (m : ℕ) (is : S .threads ≡ a .threads) inside small all k w.
+      λ (S : Set) (cs members : List ℕ) (tree : Term) (start : List ℕ) (m : ℕ) (is : S .threads ≡ a .threads) inside small ready w.
           let end : l .t ≡ S .threads = omega arith in
           subst (λ (j : ℕ). WritesTree (placeOf (now (a .slots))) (chainOf (link S cs 0 opening 0 (a .p)) j tree) start m (l .out) (l .tree .next) (l .tree .at))
-          end (l .inv .4 S cs tree start m is inside small k w),
+          end (l .inv .4 S cs members tree start m is inside small ready w),
       omega arith,
     )
 

@@ -1,17 +1,17 @@
 -- `encoder_chains::chains::single_chain` meets its contract. Assumes nothing.
 use Rattle.encoder_chains.specs.Chained.{chained}
-use Rattle.records.specs.Sets.{Set}
+use Rattle.records.specs.Sets.{Set, mostThreads}
 use mathlib.Core.Bool.{true}
 use Rattle.encoder_chains.proofs.Trees.{chain-none, chain-more}
 use Rattle.encoding.specs.Slots.{Term, kindAt}
 use Rattle.encoding.specs.Steps.{chain as chainOf, link, links}
-use Rattle.encoder_slots.specs.Pieces.{WritesTree}
+use Rattle.encoder_slots.specs.Pieces.{WritesTree, chainRoom}
 use Rattle.encoder_slots.specs.Places.{placeOf}
 use native.Mathlib.Omega.{arith}
 use denote.Ref.{now}
 use mathlib.Core.Path.{_≡_, refl, _∙_, subst}
 use mathlib.Core.List.{List}
-use Prim.Native.Nat.{ℕ, _+_, _-_, _≤_}
+use Prim.Native.Nat.{ℕ, _+_, _-_, _*_, _≤_}
 use lib.ListN.{length}
 use borrow.Author.Needs.{needs}
 use Rattle.encoder_chains.proofs.chains.single_chain.Statement.{statement}
@@ -20,8 +20,8 @@ use Rattle.table.specs.Repeats.{lastIndex}
 
 abbrev Inv-loop : tie.InvT-loop
 Inv-loop slots out₀ threads kind n base tree₀ many i₀ out tree i =
-    (i ≤ many) × (many ≤ 8) × (tree .next ≤ n + i) × (length out ≡ length out₀)
-    × ((S : Set) (cs : List ℕ) (base-tree : Term) (start : List ℕ) (m : ℕ) → S .threads ≡ threads → chained kind ≡ true → n + 8 ≤ lastIndex
+    (i ≤ many) × (many ≤ 2 * mostThreads) × (tree .next ≤ n + i) × (length out ≡ length out₀)
+    × ((S : Set) (cs : List ℕ) (base-tree : Term) (start : List ℕ) (m : ℕ) → S .threads ≡ threads → chained kind ≡ true → n + chainRoom ≤ lastIndex
     → WritesTree (placeOf slots) base-tree start m out₀ n base
     → WritesTree (placeOf slots) (chainOf (link S cs 0 (kindAt kind) 0 0) i base-tree) start m out (tree .next) (tree .at))
 
@@ -31,12 +31,12 @@ abbrev μ-loop : tie.MeasureT-loop
 returns : tie.Need-returns Inv-loop μ-loop
 returns c =
     let a = c .before .before .before .args in
-    (λ S cs tree start m e few single small all w. absurd (c .if1 .taken all), omega arith)
+    (λ S cs members lists tree start m e single small ready w. absurd (c .if1 .taken (ready .allPlaces)), omega arith)
 
 returns-2 : tie.Need-returns-2 Inv-loop μ-loop
 returns-2 c =
     let a = c .before .before .before .before .args in
-    (λ S cs tree start m e few single small all w. absurd (omega arith), omega arith)
+    (λ (S : Set) cs members lists tree start m (e : S .threads ≡ a .threads) single small ready w. let few = ready .byName .fourThreads in absurd (omega arith), omega arith)
 
 single-links-requires : tie.Need-single-links-requires Inv-loop μ-loop
 single-links-requires c κs = search needs
@@ -75,7 +75,7 @@ loop-again c =
       l .inv .1,
       omega arith,
       p .kept .0 ∙ l .inv .3,
-      λ (S : Set) (cs : List ℕ) (tree : Term) (start : List ℕ) (m : ℕ) e single (small : a .n + 8 ≤ lastIndex) w.
+      λ (S : Set) (cs : List ℕ) (tree : Term) (start : List ℕ) (m : ℕ) e single (small : a .n + chainRoom ≤ lastIndex) w.
           let links = link S cs 0 (kindAt (a .kind)) 0 0 in
           chain-more (placeOf (now (a .slots))) links tree start m _ _ _ (l .i)
           (p .ensures .0 (placeOf (now (a .slots))) (links (l .i)) (chainOf links (l .i) tree) start m (omega arith)
@@ -90,7 +90,7 @@ returns-3 c =
     let a = c .before .before .before .before .before .before .before .args in
     let l = c .before .loop in
     let many = c .before .before .single-links in (
-      λ (S : Set) (cs : List ℕ) (tree : Term) (start : List ℕ) (m : ℕ) e few single small all w.
+      λ (S : Set) (cs members lists : List ℕ) (tree : Term) (start : List ℕ) (m : ℕ) e single small ready w.
           let end : l .i ≡ many .result = omega arith in
           subst (λ (k : ℕ). WritesTree (placeOf (now (a .slots))) (chainOf (link S cs 0 (kindAt (a .kind)) 0 0) k tree) start m (l .out) (l .tree .next) (l .tree .at))
           (end ∙ many .ensures .0 S cs e single) (l .inv .4 S cs tree start m e single small w),

@@ -3,12 +3,13 @@ use Rattle.encoder_chains.proofs.Chained.{chained-last}
 use Rattle.encoder_chains.specs.Placed.{placedLink, ifLink}
 use Rattle.encoder_slots.specs.Places.{placeOf, placeFrom}
 use Rattle.encoding.specs.Steps.{link}
-use Rattle.encoding.specs.Slots.{kinds, kindAt}
+use Rattle.encoding.specs.Slots.{kinds, kindAt, kindNumber, choice, onePermitted, flushTo, flushValue, adr, val, halts}
 use Rattle.records.specs.Sets.{Set}
 use denote.Ref.{now}
 use Prim.Native.Nat.{ℕ, _+_}
 use mathlib.Core.List.{List}
 use mathlib.Core.Path.{_≡_, sym, ap, _∙_}
+use Rattle.table.specs.Formulas.{wordSort}
 use borrow.Author.Needs.{needs}
 use Rattle.encoder_chains.proofs.chains.single_link.Statement.{statement}
 use Rattle.encoder_chains.proofs.chains.single_link.Tie as tie
@@ -22,11 +23,11 @@ arm k c e S cs =
 
 -- by which thread i flushes
 abbrev flush : (effect : ℕ) (c : tie.After-shared-slice-known) (S : Set) → let a = c .before .args in S .threads ≡ a .threads →
-    ifLink 2 (placeFrom (now (a .slots)) 0 0 (a .threads + a .i) 0) (placeFrom (now (a .slots)) effect (a .i) 0 2)
-    ≡ ifLink 2 (placeFrom (now (a .slots)) 0 0 (S .threads + a .i) 0) (placeFrom (now (a .slots)) effect (a .i) 0 2)
+    ifLink wordSort (placeFrom (now (a .slots)) (kindNumber choice) 0 (a .threads + a .i) 0) (placeFrom (now (a .slots)) effect (a .i) 0 2)
+    ≡ ifLink wordSort (placeFrom (now (a .slots)) (kindNumber choice) 0 (S .threads + a .i) 0) (placeFrom (now (a .slots)) effect (a .i) 0 2)
 flush effect c S e =
     let a = c .before .args in
-    sym (ap (λ (x : ℕ). ifLink 2 (placeFrom (now (a .slots)) 0 0 (x + a .i) 0) (placeFrom (now (a .slots)) effect (a .i) 0 2)) e)
+    sym (ap (λ (x : ℕ). ifLink wordSort (placeFrom (now (a .slots)) (kindNumber choice) 0 (x + a .i) 0) (placeFrom (now (a .slots)) effect (a .i) 0 2)) e)
 
 one-permitted-requires : tie.Need-one-permitted-requires
 one-permitted-requires c κs = search needs
@@ -42,21 +43,21 @@ halts-requires c κs = search needs
 
 returns : tie.Need-returns
 unfolding kinds
-returns c = λ (S : Set) (cs : List ℕ) e single. c .one-permitted .ensures ∙ arm 10 (c .before .before) (c .before .match .keys1) S cs
+returns c = λ (S : Set) (cs : List ℕ) e single. c .one-permitted .ensures ∙ arm (kindNumber onePermitted) (c .before .before) (c .before .match .keys1) S cs
 
 returns-2 : tie.Need-returns-2
 unfolding kinds
-returns-2 c = λ (S : Set) (cs : List ℕ) e single. c .flushed .ensures ∙ (flush 26 (c .before .before) S e ∙ arm 17 (c .before .before) (c .before .match .keys2) S cs)
+returns-2 c = λ (S : Set) (cs : List ℕ) e single. c .flushed .ensures ∙ (flush (kindNumber adr) (c .before .before) S e ∙ arm (kindNumber flushTo) (c .before .before) (c .before .match .keys2) S cs)
 
 returns-3 : tie.Need-returns-3
 unfolding kinds
-returns-3 c = λ (S : Set) (cs : List ℕ) e single. c .flushed2 .ensures ∙ (flush 25 (c .before .before) S e ∙ arm 19 (c .before .before) (c .before .match .keys3) S cs)
+returns-3 c = λ (S : Set) (cs : List ℕ) e single. c .flushed2 .ensures ∙ (flush (kindNumber val) (c .before .before) S e ∙ arm (kindNumber flushValue) (c .before .before) (c .before .match .keys3) S cs)
 
 returns-4 : tie.Need-returns-4
 unfolding kinds
 returns-4 c = λ (S : Set) (cs : List ℕ) e single.
     let s = c .before .before in
-    c .halts .ensures ∙ arm 33 s (chained-last (s .before .args .kind) single (c .before .match .rest)) S cs
+    c .halts .ensures ∙ arm (kindNumber halts) s (chained-last (s .before .args .kind) single (c .before .match .rest)) S cs
 
 pub single-link-spec : {M : Type 1} → statement M
 single-link-spec =

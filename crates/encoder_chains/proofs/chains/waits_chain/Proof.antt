@@ -1,12 +1,11 @@
 -- `encoder_chains::chains::waits_chain` meets its contract. Assumes nothing.
-use Rattle.set_index.specs.ListTables.{ListTable}
 use Rattle.encoder_chains.proofs.Leads.{or-placed}
 use Rattle.machine.specs.Machine.{contains}
-use Rattle.records.specs.Sets.{Set}
+use Rattle.records.specs.Sets.{Set, mostCheckpoints}
 use Rattle.encoder_chains.proofs.Trees.{chain-none, chain-more}
 use Rattle.encoding.specs.Slots.{Term, slot, held, waits}
 use Rattle.encoding.specs.Steps.{chain as chainOf, link}
-use Rattle.encoder_slots.specs.Pieces.{WritesTree}
+use Rattle.encoder_slots.specs.Pieces.{WritesTree, Ready, chainRoom}
 use Rattle.encoder_slots.specs.Places.{placeOf}
 use native.Mathlib.Omega.{arith}
 use denote.Ref.{now}
@@ -21,8 +20,8 @@ use Rattle.table.specs.Repeats.{lastIndex}
 
 abbrev Inv-loop : tie.InvT-loop
 Inv-loop table slots out₀ count t n base tree₀ p₀ out tree p =
-    (p ≤ count) × (count ≤ 8) × (tree .next ≤ n + p) × (length out ≡ length out₀)
-    × ((S : Set) (cs : List ℕ) (base-tree : Term) (start : List ℕ) (m : ℕ) → length cs ≡ count → t < S .threads → n + 8 ≤ lastIndex → ListTable S cs table
+    (p ≤ count) × (count ≤ mostCheckpoints) × (tree .next ≤ n + p) × (length out ≡ length out₀)
+    × ((S : Set) (cs members : List ℕ) (base-tree : Term) (start : List ℕ) (m : ℕ) → length cs ≡ count → t < S .threads → n + chainRoom ≤ lastIndex → Ready S cs members table slots m
     → WritesTree (placeOf slots) base-tree start m out₀ n base
     → WritesTree (placeOf slots) (chainOf (link S cs 0 waits t 0) p base-tree) start m out (tree .next) (tree .at))
 
@@ -32,17 +31,17 @@ abbrev μ-loop : tie.MeasureT-loop
 returns : tie.Need-returns Inv-loop μ-loop
 returns c =
     let a = c .before .before .before .before .args in
-    (λ S cs tree start m is inside small all k w. absurd (c .if1 .taken all), omega arith)
+    (λ S cs members tree start m is inside small ready w. absurd (c .if1 .taken (ready .allPlaces)), omega arith)
 
 returns-2 : tie.Need-returns-2 Inv-loop μ-loop
 returns-2 c =
     let a = c .before .before .before .before .before .args in
-    (λ (S : Set) (cs : List ℕ) tree start m is inside small all (k : ListTable S cs (now (a .table))) w. absurd (c .if2 .taken (k .whole)), omega arith)
+    (λ S cs members tree start m is inside small ready w. absurd (c .if2 .taken (ready .byName .whole)), omega arith)
 
 returns-3 : tie.Need-returns-3 Inv-loop μ-loop
 returns-3 c =
     let a = c .before .before .before .before .before .before .args in
-    (λ (S : Set) (cs : List ℕ) tree start m (is : length cs ≡ a .count) inside small all (k : ListTable S cs (now (a .table))) w. let few = k .eightPoints in absurd (omega arith), omega arith)
+    (λ S (cs : List ℕ) members tree start m (is : length cs ≡ a .count) inside small ready w. let few = ready .byName .eightPoints in absurd (omega arith), omega arith)
 
 loop-holds : tie.Need-loop-holds Inv-loop μ-loop
 loop-holds c =
@@ -52,7 +51,7 @@ loop-holds c =
       omega arith,
       omega arith,
       refl,
-      λ (S : Set) (cs : List ℕ) (tree : Term) (start : List ℕ) (m : ℕ) is inside small k w.
+      λ (S : Set) (cs members : List ℕ) (tree : Term) (start : List ℕ) (m : ℕ) is inside small ready w.
           chain-none (placeOf (now (a .slots))) (link S cs 0 waits (a .t) 0) tree start m (now (a .out)) (a .n) (a .base) w,
     )
 
@@ -79,13 +78,13 @@ loop-again c =
       l .inv .1,
       omega arith,
       p .kept .0 ∙ l .inv .3,
-      λ (S : Set) (cs : List ℕ) (tree : Term) (start : List ℕ) (m : ℕ) (is : length cs ≡ a .count) inside (small : a .n + 8 ≤ lastIndex) k w.
+      λ (S : Set) (cs members : List ℕ) (tree : Term) (start : List ℕ) (m : ℕ) (is : length cs ≡ a .count) inside (small : a .n + chainRoom ≤ lastIndex) ready w.
           let links = link S cs 0 waits (a .t) 0 in
           let here : l .p < length cs = omega arith in
           chain-more (placeOf (now (a .slots))) links tree start m _ _ _ (l .p)
           (p .ensures .0 (placeOf (now (a .slots))) (links (l .p)) (chainOf links (l .p) tree) start m (omega arith)
-          (c .before .before .before .before .contained .ensures S cs k inside here ∙ or-placed (placeOf (now (a .slots))) {d = contains S (a .t) (getD cs (l .p) 0)} refl (slot held (a .t) (l .p)))
-          (l .inv .4 S cs tree start m is inside small k w)),
+          (c .before .before .before .before .contained .ensures S cs members m inside here ready ∙ or-placed (placeOf (now (a .slots))) {d = contains S (a .t) (getD cs (l .p) 0)} refl (slot held (a .t) (l .p)))
+          (l .inv .4 S cs members tree start m is inside small ready w)),
     )
 
 same-length : tie.Need-same-length Inv-loop μ-loop
@@ -95,10 +94,10 @@ returns-4 : tie.Need-returns-4 Inv-loop μ-loop
 returns-4 c =
     let a = c .before .before .before .before .before .before .before .before .args in
     let l = c .before .loop in (
-      λ (S : Set) (cs : List ℕ) (tree : Term) (start : List ℕ) (m : ℕ) (is : length cs ≡ a .count) inside small all k w.
+      λ (S : Set) (cs members : List ℕ) (tree : Term) (start : List ℕ) (m : ℕ) (is : length cs ≡ a .count) inside small ready w.
           let end : l .p ≡ length cs = omega arith in
           subst (λ (j : ℕ). WritesTree (placeOf (now (a .slots))) (chainOf (link S cs 0 waits (a .t) 0) j tree) start m (l .out) (l .tree .next) (l .tree .at))
-          end (l .inv .4 S cs tree start m is inside small k w),
+          end (l .inv .4 S cs members tree start m is inside small ready w),
       omega arith,
     )
 

@@ -11,6 +11,7 @@ use Prim.Native.Nat.{ℕ, _+_}
 use mathlib.Core.Bool.{Bool, false, cond, not}
 use mathlib.Core.Path.{_≡_, refl, sym, ap, _∙_}
 use denote.Ref.{now}
+use Rattle.records.specs.Instructions.{JMP}
 use borrow.Author.Needs.{needs}
 use Rattle.encoder_chains.proofs.edges.follows.Statement.{statement}
 use Rattle.encoder_chains.proofs.edges.follows.Tie as tie
@@ -34,7 +35,7 @@ returns-2 : tie.Need-returns-2
 returns-2 c =
     let a = c .before .before .before .before .before .args in
     λ (S : Set) (j : ℕ) (is : a .n ≡ S .statement (a .t) (a .i) .number) (after : j ≡ a .i + 1) (names : namesTarget (S .statement (a .t) (a .i)) j ≡ false).
-    c .none2 .ensures ∙ leads-by (placeOf (now (a .slots))) (S .statement (a .t) (a .i)) S (a .t) j (a .i) refl (follows-jump (S .statement (a .t) (a .i)) (a .t) j (a .i) after names (ap (λ (n : ℕ). rests n) (sym is) ∙ (sym (c .before .before .before .rests .ensures) ∙ c .before .before .if1 .left)) (ap (λ (n : ℕ). eqb n 9) (sym is) ∙ eq-eqb _ _ (c .before .if2 .taken)))
+    c .none2 .ensures ∙ leads-by (placeOf (now (a .slots))) (S .statement (a .t) (a .i)) S (a .t) j (a .i) refl (follows-jump (S .statement (a .t) (a .i)) (a .t) j (a .i) after names (ap (λ (n : ℕ). rests n) (sym is) ∙ (sym (c .before .before .before .rests .ensures) ∙ c .before .before .if1 .left)) (ap (λ (n : ℕ). eqb n JMP) (sym is) ∙ eq-eqb _ _ (c .before .if2 .taken)))
 
 is-conditional-requires : tie.Need-is-conditional-requires
 is-conditional-requires c κs = search needs
@@ -49,7 +50,7 @@ returns-3 : tie.Need-returns-3
 returns-3 c =
     let a = c .before .before .before .before .before .before .before .before .args in
     λ (S : Set) (j : ℕ) (is : a .n ≡ S .statement (a .t) (a .i) .number) (after : j ≡ a .i + 1) (names : namesTarget (S .statement (a .t) (a .i)) j ≡ false).
-    let straight = ap (λ (n : ℕ). eqb n 9) (sym is) ∙ ne-eqb _ _ (c .before .before .before .before .if2 .left) in
+    let straight = ap (λ (n : ℕ). eqb n JMP) (sym is) ∙ ne-eqb _ _ (c .before .before .before .before .if2 .left) in
     c .by-test .ensures
     ∙ tested (placeOf (now (a .slots))) (a .t) (a .i) (ap (λ (b : Bool). cond (not b) test notTest) (c .before .is-plain .ensures ∙ ap (λ (n : ℕ). isPlain n) is) ∙ contrary (isPlain (S .statement (a .t) (a .i) .number)))
     ∙ leads-by (placeOf (now (a .slots))) (S .statement (a .t) (a .i)) S (a .t) j (a .i) refl (follows-test (S .statement (a .t) (a .i)) (a .t) j (a .i) after names (ap (λ (n : ℕ). rests n) (sym is) ∙ (sym (c .before .before .before .before .before .before .rests .ensures) ∙ c .before .before .before .before .before .if1 .left)) straight (ap (λ (n : ℕ). isConditional n) (sym is) ∙ (sym (c .before .before .before .is-conditional .ensures) ∙ c .before .before .if3 .taken)))
@@ -61,7 +62,7 @@ returns-4 : tie.Need-returns-4
 returns-4 c =
     let a = c .before .before .before .before .before .before .before .args in
     λ (S : Set) (j : ℕ) (is : a .n ≡ S .statement (a .t) (a .i) .number) (after : j ≡ a .i + 1) (names : namesTarget (S .statement (a .t) (a .i)) j ≡ false).
-    let straight = ap (λ (n : ℕ). eqb n 9) (sym is) ∙ ne-eqb _ _ (c .before .before .before .if2 .left) in
+    let straight = ap (λ (n : ℕ). eqb n JMP) (sym is) ∙ ne-eqb _ _ (c .before .before .before .if2 .left) in
     c .bit-if .ensures
     ∙ leads-by (placeOf (now (a .slots))) (S .statement (a .t) (a .i)) S (a .t) j (a .i) refl (follows-on (S .statement (a .t) (a .i)) (a .t) j (a .i) after names (ap (λ (n : ℕ). rests n) (sym is) ∙ (sym (c .before .before .before .before .before .rests .ensures) ∙ c .before .before .before .before .if1 .left)) straight (ap (λ (n : ℕ). isConditional n) (sym is) ∙ (sym (c .before .before .is-conditional .ensures) ∙ c .before .if3 .left)))
 

@@ -11,6 +11,8 @@ use Rattle.encoding.specs.Slots.{slot, active, bitOne, test, notTest}
 use Rattle.encoding.specs.Steps.{only, isConditional, isPlain, rests}
 use Rattle.encoder_slots.specs.Places.{placeOf}
 use Rattle.encoder_chains.proofs.Leads.{if-placed, leads-none, leads-rests, leads-always, leads-on, leads-taken, leads-missed, contrary, tested, leads-by}
+use Rattle.records.specs.Instructions.{JMP}
+use Rattle.table.specs.Formulas.{bitSort}
 use borrow.Author.Needs.{needs}
 use Rattle.encoder_chains.proofs.edges.leads.Statement.{statement}
 use Rattle.encoder_chains.proofs.edges.leads.Tie as tie
@@ -21,10 +23,10 @@ goes c = sym (c .before .rests .ensures) ∙ c .if2 .left
 
 both : (c : tie.After-is-conditional) → let a = c .before .before .before .before .before .args in
     let n = a .statement .number in let goal = a .statement .argument in
-    (eqb n 9 || c .is-conditional .result && eqb goal (a .i + 1)) ≡ (eqb n 9 || isConditional n && eqb goal (a .i + 1))
+    (eqb n JMP || c .is-conditional .result && eqb goal (a .i + 1)) ≡ (eqb n JMP || isConditional n && eqb goal (a .i + 1))
 both c =
     let a = c .before .before .before .before .before .args in
-    ap (λ (b : Bool). eqb (a .statement .number) 9 || b && eqb (a .statement .argument) (a .i + 1)) (c .is-conditional .ensures)
+    ap (λ (b : Bool). eqb (a .statement .number) JMP || b && eqb (a .statement .argument) (a .i + 1)) (c .is-conditional .ensures)
 
 add-after : tie.Need-add-after
 add-after c = search needs
@@ -65,7 +67,7 @@ returns-3 : tie.Need-returns-3
 returns-3 c =
     let d = c .before .before in
     let a = d .before .before .before .before .before .args in
-    λ (S : Set) is. c .bit-if .ensures ∙ if-placed (placeOf (now (a .slots))) {d = eqb (a .statement .argument) (a .j)} refl 1 (slot active (a .t) (a .i)) (only bitOne)
+    λ (S : Set) is. c .bit-if .ensures ∙ if-placed (placeOf (now (a .slots))) {d = eqb (a .statement .argument) (a .j)} refl bitSort (slot active (a .t) (a .i)) (only bitOne)
     ∙ leads-by (placeOf (now (a .slots))) (a .statement) S (a .t) (a .j) (a .i) is (leads-always (a .statement) _ _ _ _ (goes (d .before)) (sym (both d) ∙ c .before .if3 .taken))
 
 is-plain-requires : tie.Need-is-plain-requires
@@ -109,7 +111,7 @@ returns-6 : tie.Need-returns-6
 returns-6 c =
     let d = c .before .before .before in
     let a = d .before .before .before .before .before .args in
-    λ (S : Set) is. c .bit-if2 .ensures ∙ if-placed (placeOf (now (a .slots))) {d = eqb (a .i + 1) (a .j)} refl 1 (slot active (a .t) (a .i)) (only bitOne)
+    λ (S : Set) is. c .bit-if2 .ensures ∙ if-placed (placeOf (now (a .slots))) {d = eqb (a .i + 1) (a .j)} refl bitSort (slot active (a .t) (a .i)) (only bitOne)
     ∙ leads-by (placeOf (now (a .slots))) (a .statement) S (a .t) (a .j) (a .i) is
     (leads-on (a .statement) _ _ _ _ (goes (d .before)) (sym (both d) ∙ c .before .before .if3 .left) (sym (d .is-conditional .ensures) ∙ c .before .if4 .left))
 

@@ -11,6 +11,7 @@ use Prim.Native.Nat.{ℕ, _+_}
 use mathlib.Core.Bool.{Bool, true, cond}
 use mathlib.Core.Path.{_≡_, refl, sym, ap, _∙_}
 use denote.Ref.{now}
+use Rattle.records.specs.Instructions.{JMP}
 use borrow.Author.Needs.{needs}
 use Rattle.encoder_chains.proofs.edges.named.Statement.{statement}
 use Rattle.encoder_chains.proofs.edges.named.Tie as tie
@@ -23,7 +24,7 @@ returns c =
     let a = c .before .before .before .args in
     λ (S : Set) (j : ℕ) (is : a .n ≡ S .statement (a .t) (a .i) .number) (names : namesTarget (S .statement (a .t) (a .i)) j ≡ true) (apart : j ≡ a .i + 1 → ⊥).
     c .bit-if .ensures
-    ∙ leads-by (placeOf (now (a .slots))) (S .statement (a .t) (a .i)) S (a .t) j (a .i) refl (named-always (S .statement (a .t) (a .i)) (a .t) j (a .i) names (ap (λ (n : ℕ). eqb n 9) (sym is) ∙ eq-eqb _ _ (c .before .if1 .taken)))
+    ∙ leads-by (placeOf (now (a .slots))) (S .statement (a .t) (a .i)) S (a .t) j (a .i) refl (named-always (S .statement (a .t) (a .i)) (a .t) j (a .i) names (ap (λ (n : ℕ). eqb n JMP) (sym is) ∙ eq-eqb _ _ (c .before .if1 .taken)))
 
 is-plain-requires : tie.Need-is-plain-requires
 is-plain-requires c κs = search needs
@@ -37,7 +38,7 @@ returns-2 c =
     λ (S : Set) (j : ℕ) (is : a .n ≡ S .statement (a .t) (a .i) .number) (names : namesTarget (S .statement (a .t) (a .i)) j ≡ true) (apart : j ≡ a .i + 1 → ⊥).
     c .by-test .ensures
     ∙ tested (placeOf (now (a .slots))) (a .t) (a .i) (ap (λ (b : Bool). cond b test notTest) (c .before .is-plain .ensures ∙ ap (λ (n : ℕ). isPlain n) is))
-    ∙ leads-by (placeOf (now (a .slots))) (S .statement (a .t) (a .i)) S (a .t) j (a .i) refl (named-test (S .statement (a .t) (a .i)) (a .t) j (a .i) names (ap (λ (n : ℕ). eqb n 9) (sym is) ∙ ne-eqb _ _ (c .before .before .if1 .left)) apart)
+    ∙ leads-by (placeOf (now (a .slots))) (S .statement (a .t) (a .i)) S (a .t) j (a .i) refl (named-test (S .statement (a .t) (a .i)) (a .t) j (a .i) names (ap (λ (n : ℕ). eqb n JMP) (sym is) ∙ ne-eqb _ _ (c .before .before .if1 .left)) apart)
 
 pub named-spec : {M : Type 1} → statement M
 named-spec =

@@ -27,10 +27,10 @@ returns c =
     let giver = c .before .before .before .before .before .giver-of in
     let gives = giver .ensures in
     let put = c .before .before .own-links in (
-      (λ (S : Set) (tree : Term) (start : List ℕ) (m : ℕ) row few all n w.
+      (λ (S : Set) (cs lists : List ℕ) (tree : Term) (start : List ℕ) (m : ℕ) row few ready w.
           subst (λ (x : Term). WritesTree (placeOf (now (a .slots))) x start m (put .last .1 .1 .0) (put .result .next) (put .result .at))
           (gives-chain (a .kind) (giver .result) gives (a .t) S tree (S .count (a .t)))
-          (put .ensures .0 S (gives .link (a .t)) tree start m (gives .small .0) (gives .small .1) row few all n
+          (put .ensures .0 S cs lists (gives .link (a .t)) tree start m (gives .small .0) (gives .small .1) row few ready
           (λ h i. gives-own (a .kind) (giver .result) gives (a .t) (now (a .slots)) h i (c .before .before .before .before .if1 .taken))
           w)),
       put .ensures .1,
@@ -51,10 +51,10 @@ returns-2 c =
     let giver = c .before .before .before .before .before .before .before .before .giver-of in
     let gives = giver .ensures in
     let put = c .before .before .fixed-links in (
-      (λ (S : Set) (tree : Term) (start : List ℕ) (m : ℕ) row few all n w.
+      (λ (S : Set) (cs lists : List ℕ) (tree : Term) (start : List ℕ) (m : ℕ) row few ready w.
           subst (λ (x : Term). WritesTree (placeOf (now (a .slots))) x start m (put .last .1 .1 .0) (put .result .next) (put .result .at))
           (gives-chain (a .kind) (giver .result) gives (a .t) S tree (S .count (a .t)))
-          (put .ensures .0 S (gives .link (a .t)) tree start m (gives .small .0) row few all n
+          (put .ensures .0 S cs lists (gives .link (a .t)) tree start m (gives .small .0) row few ready
           (λ h i. gives-bit (a .kind) (giver .result) gives (a .t) (now (a .slots)) h i _ (c .before .before .before .before .place .ensures) (c .before .before .before .before .before .before .before .if1 .left) (c .before .before .before .before .before .if2 .taken))
           w)),
       put .ensures .1,
@@ -75,10 +75,10 @@ returns-3 c =
     let giver = c .before .before .before .before .before .before .before .before .giver-of in
     let gives = giver .ensures in
     let put = c .before .before .fixed-links2 in (
-      (λ (S : Set) (tree : Term) (start : List ℕ) (m : ℕ) row few all n w.
+      (λ (S : Set) (cs lists : List ℕ) (tree : Term) (start : List ℕ) (m : ℕ) row few ready w.
           subst (λ (x : Term). WritesTree (placeOf (now (a .slots))) x start m (put .last .1 .1 .0) (put .result .next) (put .result .at))
           (gives-chain (a .kind) (giver .result) gives (a .t) S tree (S .count (a .t)))
-          (put .ensures .0 S (gives .link (a .t)) tree start m (gives .small .0) row few all n
+          (put .ensures .0 S cs lists (gives .link (a .t)) tree start m (gives .small .0) row few ready
           (λ h i. gives-accu (a .kind) (giver .result) gives (a .t) (now (a .slots)) h i _ (c .before .before .before .before .place2 .ensures) (c .before .before .before .before .before .before .before .if1 .left) (c .before .before .before .before .before .if2 .left))
           w)),
       put .ensures .1,

@@ -7,6 +7,7 @@ use Rattle.encoding.specs.Slots.{slot, active, swaps, address, loaded, result, 
 use Rattle.encoding.specs.Steps.{skip, ifThen, only}
 use Rattle.encoder_chains.specs.Given.{Gives, givenLink}
 use Rattle.encoder_chains.proofs.Skips.{given-else}
+use Rattle.table.specs.Formulas.{bitSort, wordSort}
 use borrow.Author.Needs.{needs}
 use Rattle.encoder_chains.proofs.given.giver_of.Statement.{statement}
 use Rattle.encoder_chains.proofs.given.giver_of.Tie as tie
@@ -51,7 +52,7 @@ returns : tie.Need-returns
 returns c =
     subst (Gives (c .before .before .args .kind)) (sym (c .sets-bit .ensures))
     (record {
-      link = λ (t i : ℕ). ifThen 1 (slot active t i) (only bitOne);
+      link = λ (t i : ℕ). ifThen bitSort (slot active t i) (only bitOne);
       inside = λ t i n. ap (λ (k : ℕ). givenLink k t i n) (c .before .match .keys1);
       places = λ slots t i h. refl;
       small = (omega arith, omega arith, λ e. absurd (true≢false (sym e)));
@@ -61,7 +62,7 @@ returns-2 : tie.Need-returns-2
 returns-2 c =
     subst (Gives (c .before .before .args .kind)) (sym (c .gives-own .ensures))
     (record {
-      link = λ (t i : ℕ). ifThen 2 (slot swaps t i) (slot address t i);
+      link = λ (t i : ℕ). ifThen wordSort (slot swaps t i) (slot address t i);
       inside = λ t i n. ap (λ (k : ℕ). givenLink k t i n) (c .before .match .keys2);
       places = λ slots t i h. refl;
       small = (omega arith, omega arith, λ e. refl);
@@ -71,7 +72,7 @@ returns-3 : tie.Need-returns-3
 returns-3 c =
     subst (Gives (c .before .before .args .kind)) (sym (c .gives-accu .ensures))
     (record {
-      link = λ (t i : ℕ). ifThen 2 (slot swaps t i) (slot accu t 0);
+      link = λ (t i : ℕ). ifThen wordSort (slot swaps t i) (slot accu t 0);
       inside = λ t i n. ap (λ (k : ℕ). givenLink k t i n) (c .before .match .keys3);
       places = λ slots t i h. refl;
       small = (omega arith, omega arith, λ e. absurd (true≢false (sym e)));
@@ -81,7 +82,7 @@ returns-4 : tie.Need-returns-4
 returns-4 c =
     subst (Gives (c .before .before .args .kind)) (sym (c .sets-bit2 .ensures))
     (record {
-      link = λ (t i : ℕ). ifThen 1 (slot active t i) (only bitOne);
+      link = λ (t i : ℕ). ifThen bitSort (slot active t i) (only bitOne);
       inside = λ t i n. ap (λ (k : ℕ). givenLink k t i n) (c .before .match .keys4);
       places = λ slots t i h. refl;
       small = (omega arith, omega arith, λ e. absurd (true≢false (sym e)));
@@ -91,7 +92,7 @@ returns-5 : tie.Need-returns-5
 returns-5 c =
     subst (Gives (c .before .before .args .kind)) (sym (c .gives-own2 .ensures))
     (record {
-      link = λ (t i : ℕ). ifThen 2 (slot active t i) (slot argument t i);
+      link = λ (t i : ℕ). ifThen wordSort (slot active t i) (slot argument t i);
       inside = λ t i n. ap (λ (k : ℕ). givenLink k t i n) (c .before .match .keys5);
       places = λ slots t i h. refl;
       small = (omega arith, omega arith, λ e. refl);
@@ -101,7 +102,7 @@ returns-6 : tie.Need-returns-6
 returns-6 c =
     subst (Gives (c .before .before .args .kind)) (sym (c .gives-accu2 .ensures))
     (record {
-      link = λ (t i : ℕ). ifThen 2 (slot active t i) (slot accu t 0);
+      link = λ (t i : ℕ). ifThen wordSort (slot active t i) (slot accu t 0);
       inside = λ t i n. ap (λ (k : ℕ). givenLink k t i n) (c .before .match .keys6);
       places = λ slots t i h. refl;
       small = (omega arith, omega arith, λ e. absurd (true≢false (sym e)));
@@ -111,7 +112,7 @@ returns-7 : tie.Need-returns-7
 returns-7 c =
     subst (Gives (c .before .before .args .kind)) (sym (c .gives-own3 .ensures))
     (record {
-      link = λ (t i : ℕ). ifThen 2 (slot active t i) (slot address t i);
+      link = λ (t i : ℕ). ifThen wordSort (slot active t i) (slot address t i);
       inside = λ t i n. ap (λ (k : ℕ). givenLink k t i n) (c .before .match .keys7);
       places = λ slots t i h. refl;
       small = (omega arith, omega arith, λ e. refl);
@@ -121,7 +122,7 @@ returns-8 : tie.Need-returns-8
 returns-8 c =
     subst (Gives (c .before .before .args .kind)) (sym (c .gives-own4 .ensures))
     (record {
-      link = λ (t i : ℕ). ifThen 2 (slot active t i) (slot loaded t i);
+      link = λ (t i : ℕ). ifThen wordSort (slot active t i) (slot loaded t i);
       inside = λ t i n. ap (λ (k : ℕ). givenLink k t i n) (c .before .match .keys8);
       places = λ slots t i h. refl;
       small = (omega arith, omega arith, λ e. refl);
@@ -131,7 +132,7 @@ returns-9 : tie.Need-returns-9
 returns-9 c =
     subst (Gives (c .before .before .args .kind)) (sym (c .gives-own5 .ensures))
     (record {
-      link = λ (t i : ℕ). ifThen 2 (slot active t i) (slot result t i);
+      link = λ (t i : ℕ). ifThen wordSort (slot active t i) (slot result t i);
       inside = λ t i n. ap (λ (k : ℕ). givenLink k t i n) (c .before .match .keys9);
       places = λ slots t i h. refl;
       small = (omega arith, omega arith, λ e. refl);
@@ -141,7 +142,7 @@ returns-10 : tie.Need-returns-10
 returns-10 c =
     subst (Gives (c .before .before .args .kind)) (sym (c .sets-bit3 .ensures))
     (record {
-      link = λ (t i : ℕ). ifThen 1 (slot active t i) (only bitOne);
+      link = λ (t i : ℕ). ifThen bitSort (slot active t i) (only bitOne);
       inside = λ t i n. ap (λ (k : ℕ). givenLink k t i n) (c .before .match .keys10);
       places = λ slots t i h. refl;
       small = (omega arith, omega arith, λ e. absurd (true≢false (sym e)));
@@ -151,7 +152,7 @@ returns-11 : tie.Need-returns-11
 returns-11 c =
     subst (Gives (c .before .before .args .kind)) (sym (c .sets-bit4 .ensures))
     (record {
-      link = λ (t i : ℕ). ifThen 1 (slot active t i) (only bitOne);
+      link = λ (t i : ℕ). ifThen bitSort (slot active t i) (only bitOne);
       inside = λ t i n. ap (λ (k : ℕ). givenLink k t i n) (c .before .match .keys11);
       places = λ slots t i h. refl;
       small = (omega arith, omega arith, λ e. absurd (true≢false (sym e)));

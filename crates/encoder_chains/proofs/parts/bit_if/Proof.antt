@@ -2,6 +2,7 @@
 use Rattle.encoder_chains.specs.Placed.{ifLink}
 use Rattle.base.proofs.Choice.{chosen}
 use mathlib.Core.Path.{sym, _∙_}
+use Rattle.table.specs.Formulas.{bitSort}
 use borrow.Author.Needs.{needs}
 use Rattle.encoder_chains.proofs.parts.bit_if.Statement.{statement}
 use Rattle.encoder_chains.proofs.parts.bit_if.Tie as tie
@@ -17,7 +18,7 @@ place-requires-2 : tie.Need-place-requires-2
 place-requires-2 c κs = search needs
 
 returns : tie.Need-returns
-returns c = (λ z. ifLink 1 (c .before .place .ensures z) (c .place2 .ensures z)) ∙ sym (chosen _ _ (c .before .before .if1 .taken))
+returns c = (λ z. ifLink bitSort (c .before .place .ensures z) (c .place2 .ensures z)) ∙ sym (chosen _ _ (c .before .before .if1 .taken))
 
 none-requires : tie.Need-none-requires
 none-requires c κs = search needs

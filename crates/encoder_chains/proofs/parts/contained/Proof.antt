@@ -15,14 +15,14 @@ place-requires c κs = search needs
 returns : tie.Need-returns
 returns c =
     let a = c .before .before .before .before .before .args in
-    λ S cs k row column.
-    (λ z. bitLink (a .operation) (c .place .ensures z)) ∙ sym (chosen _ _ (sym (c .before .before .contains .ensures S cs k row column) ∙ c .before .if1 .taken))
+    λ S cs members m row column ready.
+    (λ z. bitLink (a .operation) (c .place .ensures z)) ∙ sym (chosen _ _ (sym (c .before .before .contains .ensures S cs (ready .byName) row column) ∙ c .before .if1 .taken))
 
 none-requires : tie.Need-none-requires
 none-requires c κs = search needs
 
 returns-2 : tie.Need-returns-2
-returns-2 c = λ S cs k row column. c .none .ensures ∙ sym (passed _ _ (sym (c .before .before .contains .ensures S cs k row column) ∙ c .before .if1 .left))
+returns-2 c = λ S cs members m row column ready. c .none .ensures ∙ sym (passed _ _ (sym (c .before .before .contains .ensures S cs (ready .byName) row column) ∙ c .before .if1 .left))
 
 pub contained-spec : {M : Type 1} → statement M
 contained-spec =

@@ -1,5 +1,6 @@
 -- `encoder_chains::parts::halts` meets its contract. Assumes nothing.
 use Rattle.encoder_chains.specs.Placed.{bitLink}
+use Rattle.table.specs.Formulas.{AND}
 use borrow.Author.Needs.{needs}
 use Rattle.encoder_chains.proofs.parts.halts.Statement.{statement}
 use Rattle.encoder_chains.proofs.parts.halts.Tie as tie
@@ -11,7 +12,7 @@ thread-place-requires : tie.Need-thread-place-requires
 thread-place-requires c κs = search needs
 
 returns : tie.Need-returns
-returns c = λ z. bitLink 5 (c .thread-place .ensures z)
+returns c = λ z. bitLink AND (c .thread-place .ensures z)
 
 pub halts-spec : {M : Type 1} → statement M
 halts-spec = tie.close (tie.spec thread-place-requires returns)

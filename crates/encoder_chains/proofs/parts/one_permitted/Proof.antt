@@ -1,5 +1,6 @@
 -- `encoder_chains::parts::one_permitted` meets its contract. Assumes nothing.
 use Rattle.encoder_chains.specs.Placed.{ifLink}
+use Rattle.table.specs.Formulas.{bitSort}
 use borrow.Author.Needs.{needs}
 use Rattle.encoder_chains.proofs.parts.one_permitted.Statement.{statement}
 use Rattle.encoder_chains.proofs.parts.one_permitted.Tie as tie
@@ -14,7 +15,7 @@ place-requires-2 : tie.Need-place-requires-2
 place-requires-2 c κs = search needs
 
 returns : tie.Need-returns
-returns c = λ z. ifLink 1 (c .before .place .ensures z) (c .place2 .ensures z)
+returns c = λ z. ifLink bitSort (c .before .place .ensures z) (c .place2 .ensures z)
 
 pub one-permitted-spec : {M : Type 1} → statement M
 one-permitted-spec = tie.close (tie.spec place-requires place-requires-2 returns)
