@@ -8,12 +8,9 @@ use Rattle.table.specs.declared.Formula.{Formula}
 use Rattle.table.specs.Formulas.{writtenAt}
 use Rattle.table.specs.Programs.{next, root, records}
 use Rattle.encoding.specs.Slots.{Slot, slot, Term, full, adr, val, sharedMemory}
+use Rattle.encoder_slots.specs.Pieces.{treeRoom}
 use Rattle.encoder_bases.specs.declared.written.Load.{Load}
 use Rattle.encoder_bases.specs.declared.written.WrittenTree.{WrittenTree}
-
--- the most records of such a tree
-abbrev pub treeRoom : ℕ
-treeRoom = 4
 
 -- how many records, the index of the tree's own, and the records
 pub record SmallTree : Type 0 where

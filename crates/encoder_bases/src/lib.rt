@@ -7,9 +7,10 @@ ghost use Rattle.records.specs.Sets.{Set};
 ghost use Rattle.encoding.specs.Slots.{kindAt, kindNumber, flag};
 ghost use Rattle.encoding.specs.Steps.{base as baseOf};
 ghost use Rattle.encoder_slots.specs.Places.{placeOf};
-ghost use Rattle.encoder_bases.specs.SmallTrees.{Puts, treeRoom};
+ghost use Rattle.encoder_bases.specs.SmallTrees.{Puts};
 ghost use Rattle.encoder_slots.specs.Places.{ofStatement};
 ghost use Rattle.table.specs.Repeats.{lastIndex};
+ghost use Rattle.encoder_slots.specs.Pieces.{treeRoom};
 
 mod choices;
 mod state;

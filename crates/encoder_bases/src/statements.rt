@@ -7,8 +7,9 @@ ghost use Rattle.table.specs.Programs.{Binary, binaryNumber, binarySort, ref, u
 ghost use Rattle.encoding.specs.Slots.{Kind, Slot, slot, kindNumber, startPlace, choice, active, address, loaded, swaps, result, test, flag, accu, accu as accuKind, bitZero, wordZero, argument};
 ghost use Rattle.encoding.specs.Steps.{base as baseOf};
 ghost use Rattle.encoder_slots.specs.Places.{placeOf};
-ghost use Rattle.encoder_bases.specs.SmallTrees.{Puts, loadOf, treeRoom};
+ghost use Rattle.encoder_bases.specs.SmallTrees.{Puts, loadOf};
 ghost use Rattle.table.specs.Repeats.{lastIndex};
+ghost use Rattle.encoder_slots.specs.Pieces.{treeRoom};
 use crate::written::Load;
 use crate::written::WrittenTree;
 use crate::written::formula;

@@ -1,7 +1,7 @@
 -- Laws of the checkpoints noted as seen. Assumes nothing.
 use Prim.Native.Nat.{ℕ, _+_, _≤_, _<_}
 use mathlib.Core.Path.{_≡_, refl, ap, sym, _∙_}
-use mathlib.Core.Bool.{Bool, true, false, cond, not, _||_}
+use mathlib.Core.Bool.{Bool, true, false, not, _||_}
 use mathlib.Core.List.{List}
 use native.Mathlib.Decide.{ℕ-discrete, decLt}
 use native.Mathlib.Numerals.{add-one}
@@ -13,7 +13,6 @@ use Rattle.base.specs.Below.{some, number}
 use Rattle.base.proofs.Below.{number-stays, number-ext}
 use Rattle.base.proofs.Choice.{or-no, or-three, or-right-true}
 use Rattle.encoder_size.specs.Seen.{isSeen, Notes}
-use Rattle.encoder_size.proofs.Sums.{total-ext, total-number}
 
 -- ---- one checkpoint after the other
 

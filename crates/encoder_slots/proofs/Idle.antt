@@ -1,18 +1,18 @@
 -- Values that a statement does not have keep lying where their constant lies, whatever a step sets; to set one changes nothing. Assumes nothing.
 use Prim.Native.Nat.{ℕ, zero, suc, _+_}
 use mathlib.Core.Path.{_≡_, refl, ap, sym, _∙_, subst, fun-ext}
-use mathlib.Core.Bool.{Bool, true, false, cond, _&&_, _||_}
+use mathlib.Core.Bool.{Bool, true, false, cond, _||_}
 use mathlib.Core.List.{List, [], _∷_, _++_}
 use lib.Dec.{eqb}
 use lib.ListN.{replicate}
 use borrow.Author.Tests.{eqb-true}
-use Rattle.base.proofs.Choice.{passed, cond-both, and-left, and-right, or-false, refuted, clash}
+use Rattle.base.proofs.Choice.{passed, cond-both, or-false, refuted, clash}
 use Rattle.records.specs.Instructions.{ADD, ADDI, SUB, SUBI, MUL, MULI, CAS, JZ, JNZ, JS, JNS, JNZNS}
 use Rattle.records.specs.Sets.{Set}
 use Rattle.table.specs.Formulas.{writtenAt}
 use Rattle.table.specs.Programs.{ref, next, root, records, upto, Command, sets, needs, put, compiled, nextAfter, placesAfter}
 use Rattle.table.proofs.Sequences.{places-++}
-use Rattle.encoding.specs.Slots.{Kind, choice, active, opening, shut, barred, held, waits, mayExecute, none, permittedFirst, onePermitted, address, loaded, swaps, result, test, notTest, flushTo, writeTo, flushValue, writeValue, raised, exits, codes, sharedMemory, val, adr, mem, accu, full, halted, flag, mark, halts, ended, code, bitZero, bitOne, wordZero, wordOne, argument, Slot, slot, same, Term, kinds, kindAt, kindNumber}
+use Rattle.encoding.specs.Slots.{Kind, loaded, swaps, result, test, notTest, bitZero, wordZero, Slot, slot, same, Term, kindAt}
 use Rattle.encoding.proofs.KindNumbers.{same-slot}
 use Rattle.encoding.specs.Steps.{only, word0, loads, setsAccu, isConditional, shape, chain, tree, kept, columns, rows, entry, line, block, blocks, ruled, step}
 use Rattle.encoder_slots.specs.Places.{placeOf}

@@ -1,8 +1,8 @@
 -- Laws of the places kept in an array: what is read of it, and what a store into it changes. Assumes nothing.
-use Prim.Native.Nat.{ℕ, zero, suc, _+_, _-_, _≤_, _<_}
+use Prim.Native.Nat.{ℕ, _+_, _-_, _≤_, _<_}
 use mathlib.Core.Path.{_≡_, refl, ap, sym, _∙_, fun-ext}
 use mathlib.Core.Bool.{Bool, true, false, cond, _&&_}
-use mathlib.Core.List.{List, [], _∷_}
+use mathlib.Core.List.{List}
 use native.Mathlib.Omega.{arith}
 use lib.Dec.{eqb, ltb}
 use lib.ListN.{length, getD, set}
@@ -10,7 +10,7 @@ use lib.Seq.{getD-set-same, getD-set-other}
 use borrow.Author.Tests.{lt-ltb, le-ltb, ltb-true, eq-eqb, ne-eqb, eqb-true}
 use Rattle.base.proofs.Choice.{chosen, passed, and-true, and-false, and-right-false, and-left, and-right, clash}
 use Rattle.table.specs.Programs.{put}
-use Rattle.encoding.specs.Slots.{Kind, choice, kinds, kindAt, kindNumber, Slot, slot, same, startPlace, kindCount}
+use Rattle.encoding.specs.Slots.{kindAt, kindNumber, Slot, slot, same, startPlace, kindCount}
 use Rattle.encoding.proofs.KindNumbers.{kind-number}
 use Rattle.encoder_slots.specs.Places.{width, indexOf, fits, keptAt, placeFrom, placeOf}
 use Rattle.encoder_slots.proofs.Rows.{same-kind, same-row-number, same-column-number}

@@ -15,9 +15,9 @@ use Rattle.encoder_slots.specs.Places.{placeOf}
 use Rattle.encoder_slots.specs.Pieces.{Writes, Ready}
 use Rattle.encoder_slots.specs.Idle.{Idle}
 use Rattle.encoder_slots.proofs.Ready.{ready-entry}
-use Rattle.encoder_slots.proofs.Pieces.{writes-row, writes-more, below-after}
+use Rattle.encoder_slots.proofs.Pieces.{writes-row, writes-more}
 use Rattle.encoder_slots.proofs.Entries.{line-at, entry-apart}
-use Rattle.encoder_slots.proofs.Idle.{idle-entry, idle-written, no-load, no-swap, no-result, no-test, no-not-test}
+use Rattle.encoder_slots.proofs.Idle.{no-load, no-swap, no-result, no-test, no-not-test}
 use Rattle.encoder_slots.specs.Places.{ofStatement}
 use Rattle.set_index.specs.Members.{members, membersOf, Members, loadClass, casClass, accuClass, conditionalClass}
 use Rattle.set_index.proofs.Listed.{members-below, members-belong}

@@ -5,10 +5,9 @@ use mathlib.Core.Bool.{Bool, true, false, cond, not, _&&_, _||_}
 use mathlib.Core.List.{List, [], _∷_, _++_}
 use native.Mathlib.Omega.{arith}
 use native.Mathlib.Nat.{add-zero}
-use native.Mathlib.Decide.{ℕ-discrete}
 use lib.Dec.{eqb}
 use lib.ListN.{length, getD, length-append}
-use borrow.Author.Tests.{eqb-true, lt-ltb, eq-eqb, ne-eqb}
+use borrow.Author.Tests.{eqb-true, lt-ltb}
 use Rattle.base.specs.Below.{some, number}
 use Rattle.base.proofs.Below.{some-at, number-grows}
 use Rattle.base.proofs.Choice.{chosen, or-no, or-three, eqb-swap, clash}

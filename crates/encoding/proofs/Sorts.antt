@@ -7,8 +7,6 @@ use native.Mathlib.Omega.{arith}
 use borrow.Author.Tests.{eqb-true}
 use lib.Dec.{eqb, ltb}
 use lib.ListN.{getD}
-use Rattle.base.specs.Below.{every}
-use Rattle.base.proofs.Below.{every-at}
 use Rattle.base.proofs.Choice.{cond-both, and-left}
 use Rattle.records.specs.Instructions.{STORE, ADD, ADDI, SUB, SUBI, MUL, MULI, JZ, JNZ, JS, JNS, JNZNS, MEM, CAS, HALT, EXIT, CHECK}
 use Rattle.records.specs.Sets.{Set}
@@ -17,7 +15,7 @@ use Rattle.table.specs.Formulas.{noSort, bitSort, wordSort, memorySort}
 use Rattle.table.specs.Values.{changed}
 use Rattle.table.specs.Programs.{choiceBit, sets}
 use Rattle.table.proofs.Sorted.{LeafFits, Fits, ProgramFits, fits-upto}
-use Rattle.encoding.specs.Slots.{Kind, choice, active, opening, shut, barred, held, waits, mayExecute, none, permittedFirst, onePermitted, address, loaded, swaps, result, test, notTest, flushTo, writeTo, flushValue, writeValue, raised, exits, codes, sharedMemory, val, adr, mem, accu, full, halted, flag, mark, halts, ended, code, bitZero, bitOne, wordZero, wordOne, argument, Slot, slot, same, Term, kinds, kindAt, kindNumber, kindSort, startPlace, kindCount}
+use Rattle.encoding.specs.Slots.{Kind, choice, active, opening, shut, barred, held, waits, mayExecute, none, permittedFirst, onePermitted, address, loaded, swaps, result, test, notTest, flushTo, writeTo, flushValue, writeValue, raised, exits, codes, sharedMemory, val, adr, mem, accu, full, halted, flag, mark, halts, ended, code, bitZero, bitOne, wordZero, wordOne, argument, Slot, slot, same, Term, kindAt, kindNumber, kindSort, startPlace}
 use Rattle.encoding.proofs.KindNumbers.{kind-at}
 use Rattle.encoding.specs.Steps.{Link, skip, ifThen, andWith, orWith, linked, chain, only, loads, setsAccu, isConditional, isOneWay, isPlain, rests, shape, base, loadTree, resultTree, testTree, leads, link, links, tree, ifActive, kept, entry, line, block, rows, columns, ruled}
 

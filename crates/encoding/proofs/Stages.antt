@@ -4,17 +4,15 @@ use mathlib.Core.Path.{_≡_, refl, ap, sym, _∙_}
 use mathlib.Core.Bool.{Bool, true, false, _&&_, _||_}
 use mathlib.Core.List.{List}
 use native.Mathlib.Omega.{arith}
-use borrow.Author.Tests.{leb-true, ltb-true, eqb-true, ne-eqb}
-use lib.Dec.{eqb, ltb, leb}
-use Rattle.base.proofs.Below.{every-at}
+use borrow.Author.Tests.{leb-true, ltb-true, ne-eqb}
+use lib.Dec.{ltb, leb}
 use Rattle.base.proofs.Choice.{and-left, and-right}
-use Rattle.base.specs.Below.{every}
 use Rattle.records.specs.Sets.{Set, WellFormedSet, nothing}
 use Rattle.machine.specs.Machine.{State, permitted}
 use Rattle.machine.specs.declared.Choice.{Choice}
 use Rattle.table.specs.Programs.{treeValue, valuesAfter}
 use Rattle.table.specs.Values.{Assignment, Value}
-use Rattle.encoding.specs.Slots.{Kind, choice, active, opening, shut, barred, held, waits, mayExecute, none, permittedFirst, onePermitted, address, loaded, swaps, result, test, notTest, flushTo, writeTo, flushValue, writeValue, raised, exits, codes, sharedMemory, val, adr, mem, accu, full, halted, flag, mark, halts, ended, code, bitZero, bitOne, wordZero, wordOne, argument, Slot, slot, same, kindNumber, kindAt, kinds, kindCount}
+use Rattle.encoding.specs.Slots.{Kind, none, onePermitted, Slot, slot, same, kindNumber, kindAt}
 use Rattle.encoding.specs.Steps.{shape, tree, base, links, link, rows, columns, kept, block}
 use Rattle.encoding.proofs.KindNumbers.{kind-at, kind-number}
 use Rattle.encoding.proofs.Blocks.{linksValue, chain-value, others, through, through-none, through-next}

@@ -1,20 +1,19 @@
 -- A step's commands one after the other: what holds of each value's tree, given the slots that were set before it, holds along the step. Assumes nothing.
 use Prim.Native.Nat.{ℕ, zero, suc, _+_, _≤_, _<_}
 use mathlib.Core.Path.{_≡_, refl, ap, sym, _∙_, subst}
-use mathlib.Core.Bool.{Bool, true, false, cond, _&&_, _||_}
+use mathlib.Core.Bool.{Bool, true, false, cond, _||_}
 use mathlib.Core.List.{List, [], _∷_, _++_}
 use native.Mathlib.Omega.{arith}
 use native.Mathlib.Decide.{ℕ-discrete, decLt}
-use borrow.Author.Tests.{eqb-true, eq-eqb}
-use lib.Dec.{eqb}
-use Rattle.base.proofs.Choice.{and-true, and-left, and-right, or-true, or-right-true}
+use borrow.Author.Tests.{eq-eqb}
+use Rattle.base.proofs.Choice.{and-true, or-true, or-right-true}
 use Rattle.records.specs.Sets.{Set}
 use Rattle.table.specs.Programs.{upto, Command, sets, needs, aims}
 use Rattle.encoding.specs.Slots.{Kind, Slot, slot, same, Term, kindNumber, kindAt}
 use Rattle.encoding.specs.Steps.{shape, tree, rows, columns, kept, entry, line, block, blocks, ruled, step}
 use Rattle.table.proofs.Sequences.{upto-ext}
 use Rattle.encoding.proofs.Split.{rest}
-use Rattle.encoding.proofs.KindNumbers.{kind-at, kind-number, same-slot}
+use Rattle.encoding.proofs.KindNumbers.{kind-at, kind-number}
 
 -- ---- slots
 

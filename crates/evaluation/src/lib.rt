@@ -3,7 +3,6 @@ ghost use mathlib.Core.Path.{_≡_};
 ghost use mathlib.Core.Bool.{true, cond};
 ghost use Prim.Native.Nat.{_+_, _*_, _≤_, _<_};
 ghost use lib.ListN.{length};
-ghost use Rattle.base.specs.Bytes.{wordAt};
 ghost use Rattle.records.specs.Maps.{mapValue, mapAccepted, runCells};
 ghost use Rattle.table.specs.Formulas.{longAt};
 ghost use Rattle.decoding.specs.Models.{assigned, workLength};

@@ -13,7 +13,7 @@ use Rattle.records.specs.Sets.{Set, setOf}
 use Rattle.machine.proofs.Runs.{AllTaken}
 use Rattle.machine.specs.Machine.{step, written}
 use Rattle.machine.specs.Maps.{Held, begin, outcome, advanced, onOutcome, follow}
-use Rattle.machine.specs.Runs.{choiceOf, choices, after, endOf}
+use Rattle.machine.specs.Runs.{choices, after, endOf}
 use Rattle.machine.specs.Traces.{traceStep, trace, longestTrace}
 use Rattle.machine.specs.declared.RunAnswer.the-variants.{Ran}
 use Rattle.machine.specs.declared.Choice.{Choice}

@@ -2,13 +2,13 @@
 -- nothing.
 use Prim.Native.Nat.{ℕ, zero, suc, _+_, _-_, _*_, _/_, _%_, _≤_, _<_}
 use mathlib.Core.Path.{_≡_}
-use mathlib.Core.Bool.{Bool, true, cond, not, _&&_, _||_}
+use mathlib.Core.Bool.{Bool, true, cond, not, _&&_}
 use mathlib.Core.List.{List, [], _∷_}
 use lib.Dec.{eqb, ltb, leb}
 use lib.ListN.{length, getD}
 use Rattle.base.specs.Below.{every, some, number}
 use Rattle.base.specs.Bytes.{wordAt}
-use Rattle.records.specs.Instructions.{FENCE, HALT, CHECK, instructions, isMemory, isJump, isBare, isLast}
+use Rattle.records.specs.Instructions.{CHECK, instructions, isMemory, isJump, isBare, isLast}
 use Rattle.records.specs.declared.Statement.{Statement}
 use Rattle.records.specs.declared.Layout.{Layout}
 

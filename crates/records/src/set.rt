@@ -4,7 +4,7 @@ ghost use mathlib.Core.Bool.{_&&_};
 ghost use Prim.Native.Nat.{_≤_, _<_};
 ghost use lib.Dec.{leb};
 ghost use Rattle.base.specs.Below.{every, some, number};
-ghost use Rattle.records.specs.Sets.{records, argumentAt, threadAt, countOf, follows, argumentFits, recordFits, checksAt, opensAt, setAccepted, countsOf, layoutOf, mostCheckpoints, mostRecords};
+ghost use Rattle.records.specs.Sets.{records, threadAt, countOf, follows, argumentFits, recordFits, checksAt, opensAt, setAccepted, countsOf, layoutOf, mostCheckpoints, mostRecords};
 use crate::Layout;
 use crate::Statement;
 use crate::instructions::CHECK;

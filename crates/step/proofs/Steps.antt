@@ -24,9 +24,9 @@ use Rattle.step.proofs.Settled.{outcome-by, written-by, shown-by, state
 use Rattle.machine.specs.Held.{stateOf, memoryOf, knownOf, heldOf}
 use Rattle.step.specs.Acting.{canStep, waits, statementBy, threadBy, writtenBy, outcomeBy, quiet, marksSettled, threadsSettled, Advances}
 use Rattle.step.specs.Step.{onTaken}
-use Rattle.machine.specs.Machine.{State, fresh, unmarked, actor, start, step, written, noWrite, memoryAfter, reads}
-use Rattle.machine.specs.Maps.{Held, begin, outcome, advanced, knowsAll, knownAfter, onOutcome, follow}
-use Rattle.machine.specs.Runs.{choiceOf, choices, takes, somePermitted, endOf}
+use Rattle.machine.specs.Machine.{State, fresh, unmarked, actor, start, step, written, noWrite, memoryAfter}
+use Rattle.machine.specs.Maps.{Held, begin, outcome, advanced, knownAfter, onOutcome, follow}
+use Rattle.machine.specs.Runs.{choiceOf, choices, somePermitted, endOf}
 use Rattle.machine.specs.Traces.{stepBytes, traceStep, trace}
 use Rattle.machine.specs.declared.RunAnswer.{RunAnswer}
 use Rattle.machine.specs.declared.RunAnswer.the-variants.{Refused}

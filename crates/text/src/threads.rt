@@ -2,7 +2,7 @@
 ghost use mathlib.Core.Path.{_≡_};
 ghost use Prim.Native.Nat.{ℕ, _+_, _*_, _≤_, _<_};
 ghost use mathlib.Core.List.{_++_};
-ghost use lib.ListN.{length, drop, take, getD};
+ghost use lib.ListN.{length, take, getD};
 ghost use Rattle.base.specs.Below.{least};
 ghost use Rattle.base.specs.Bytes.{same};
 ghost use Rattle.text.specs.Answers.{doubledAt, targetFits, threadFits, labelsFit, checkpointsFit};

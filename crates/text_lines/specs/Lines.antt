@@ -1,13 +1,13 @@
 -- The lines of a set text, and what each may hold (document 01, "Set text"). A reader of the calls believes this. Assumes nothing.
-use Prim.Native.Nat.{ℕ, zero, suc, _+_}
-use mathlib.Core.Bool.{Bool, true, false, cond, not, _&&_, _||_}
+use Prim.Native.Nat.{ℕ}
+use mathlib.Core.Bool.{Bool, cond, not, _&&_, _||_}
 use mathlib.Core.List.{List, [], _∷_}
 use lib.Dec.{eqb, ltb, leb}
-use lib.ListN.{length, getD, take, drop}
+use lib.ListN.{length, take, drop}
 use Rattle.base.specs.Below.{least}
 use Rattle.base.specs.Bytes.{same, over}
 use Rattle.records.specs.Instructions.{instructions, isMemory, isJump, isBare, wordOf}
-use Rattle.text_lines.specs.Characters.{allowedByte, isBlank, isDigit, isCode, isInLine, run, blanks, digits, skip, onlyBlanks, name, pastName, pastDigits, value, first, endsWith}
+use Rattle.text_lines.specs.Characters.{allowedByte, isBlank, isDigit, isCode, isInLine, run, digits, skip, onlyBlanks, name, pastName, pastDigits, value, first, endsWith}
 use Rattle.text_lines.specs.declared.Form.{Form}
 use Rattle.text_lines.specs.declared.Form.the-variants.{Empty, Malformed, Large, Good}
 use Rattle.text_lines.specs.declared.Stated.{Stated}
