@@ -2,5 +2,4 @@
 pub mod Cells
 pub mod Lacking
 pub mod Order
-pub mod Records
 pub mod Turns

@@ -47,7 +47,8 @@ fn accepted(set: &[u8], layout: Layout, map: &[u8], schedule: &[u8], trace: &mut
     }
     // The run is judged before a byte goes to the output.
     let mut bytes = [0u8; Machine::TRACE];
-    let answer = step::follow(set, layout, map, schedule, &mut bytes);
+    let walk = step::follow(set, layout, map, schedule, &mut bytes);
+    let answer = walk.answer;
     let size = bytes_out(answer, Machine::STEP * n);
     base::place(trace, 0, &bytes[..size]);
     answer

@@ -9,3 +9,4 @@ pub mod Settled
 pub mod Steps
 pub mod Taken
 pub mod Tests
+mod Unknown

@@ -22,9 +22,10 @@ use Rattle.machine.specs.declared.Outcome.the-variants.{Taken, NotPermitted, La
 use Rattle.machine.specs.declared.RunAnswer.{RunAnswer}
 use Rattle.machine.specs.declared.RunAnswer.the-variants.{Refused}
 use Rattle.machine.specs.declared.Written.{Written}
-use Rattle.step.specs.Runs.{limits, followed, retraced}
-use Rattle.step.specs.Walks.{stepRefusal, onRefusal, walked, walkedOver}
-use Rattle.step.proofs.Steps.{follow-next}
+use Rattle.step.specs.Runs.{limits, followed, retraced, unknown, lacked}
+use Rattle.step.specs.Step.{onTaken}
+use Rattle.step.specs.Walks.{stepRefusal, onRefusal, walked, walkedLacks, walkedOver}
+use Rattle.step.proofs.Steps.{next-choice, follow-next}
 
 -- ---- a whole schedule
 
@@ -47,6 +48,21 @@ walked-follow S schedule h w i (suc n) e =
     agreed-outcome (outcome S h c) i (walked S false schedule (advanced S h c) (written S (h .state) c) (suc i) n)
     ∙ ap (onOutcome (outcome S h c) i) (walked-follow S schedule (advanced S h c) (written S (h .state) c) (suc i) n p ∙ ap (λ (k : ℕ). follow S (advanced S h c) k (choices (drop k schedule))) (sym (add-one i)))
     ∙ sym (follow-next S schedule i l c refl h)
+
+-- and lacks the cell that they lack
+pub walked-lacked : (S : Set) (schedule : List ℕ) (h : Held) (i n : ℕ) → i + n ≡ length schedule →
+    walkedLacks S false schedule h i n ≡ lacked S h (choices (drop i schedule))
+unfolding walkedLacks lacked choices
+walked-lacked S schedule h i zero e =
+    let l : length schedule ≤ i = omega arith in
+    sym (ap (λ (ks : List ℕ). lacked S h (choices ks)) (drop-of-length-le schedule l))
+walked-lacked S schedule h i (suc n) e =
+    let c = choiceOf (getD schedule i 0) in
+    let l : i < length schedule = omega arith in
+    let p : suc i + n ≡ length schedule = omega arith in
+    ap (λ (k : ℕ). onTaken (outcome S h c) k (unknown (h .known) (reads S (h .state) c)))
+    (walked-lacked S schedule (advanced S h c) (suc i) n p ∙ ap (λ (k : ℕ). lacked S (advanced S h c) (choices (drop k schedule))) (sym (add-one i)))
+    ∙ sym (ap (lacked S h) (next-choice S schedule i l c refl))
 
 -- ---- a whole trace
 

@@ -2,7 +2,7 @@
 use Prim.Native.Nat.{ℕ, zero, suc, _≤_, _<_}
 use native.Mathlib.Omega.{arith}
 use mathlib.Core.Path.{_≡_, refl, ap, ap₂, sym, _∙_, fun-ext, subst⁻¹}
-use mathlib.Core.List.{List}
+use mathlib.Core.List.{List, []}
 use mathlib.Core.Bool.{Bool, true, false, cond, not, _&&_, _||_}
 use borrow.Author.Tests.{eq-eqb, not-true}
 use lib.Dec.{eqb, ltb}
@@ -14,7 +14,7 @@ use Rattle.records.specs.Instructions.{CHECK, EXIT}
 use Rattle.records.specs.Sets.{Set}
 use Rattle.records.specs.declared.Statement.{Statement}
 use Rattle.machine.proofs.Permitted.{permitted-is}
-use Rattle.machine.specs.Held.{stateOf, memoryOf, knownOf, permittedBy}
+use Rattle.machine.specs.Held.{stateOf, memoryOf, knownOf, permittedBy, cellsOf}
 use Rattle.machine.specs.Maps.{knowsAll, outcome}
 use Rattle.machine.specs.Machine.{State, actor, reads, unmarked, fresh, withPc, nextPc, row, flushed, executed, current, opened, cleared, waiting, written, memoryAfter, acted, leavesMark, step}
 use Rattle.machine.specs.Traces.{shown}
@@ -24,8 +24,9 @@ use Rattle.machine.specs.declared.Machine.{Machine}
 use Rattle.machine.specs.declared.Mark.{Mark}
 use Rattle.machine.specs.declared.Outcome.{Outcome}
 use Rattle.machine.specs.declared.Outcome.the-variants.{Taken, NotPermitted, Lacking}
+use Rattle.machine.specs.declared.Read.{Read}
 use Rattle.machine.specs.declared.Thread.{Thread}
-use Rattle.step.specs.Acting.{marksGiven, marksSettled, threadsSettled, waits, threadBy, threadFrom, Operands, statementBy, writtenBy, readsBy, outcomeBy, quiet, notTaken, Advances}
+use Rattle.step.specs.Acting.{marksGiven, marksSettled, threadsSettled, waits, threadBy, threadFrom, Operands, statementBy, writtenBy, readsBy, outcomeBy, quiet, notTaken, Advances, onPermitted}
 use Rattle.step.specs.Step.{onTaken}
 use Rattle.step.specs.declared.acting.Stepped.{Stepped}
 
@@ -172,14 +173,16 @@ module _ (S : Set) (m : Machine) (memory : ℕ → ℕ) where
 -- ---- a step that is not taken
 
 module _ (can : Bool) (c : Choice) (i : Statement) (x : Thread) (waiting : Bool) (addresses values : List ℕ) (filled : ℕ) (r : Stepped) where
-  pub unmoved : (o : Outcome) (j : Statement) → onTaken o false true ≡ true → r ≡ notTaken o j filled → j ≡ i →
+  pub unmoved : (o : Outcome) (j : Statement) (read : Read) → onTaken o false true ≡ true → r ≡ notTaken o j filled read → j ≡ i →
+      cellsOf read ≡ onPermitted o (readsBy c i x (memoryOf addresses values filled)) [] →
       o ≡ outcomeBy can c i x waiting (memoryOf addresses values filled) (knownOf addresses filled) →
       Advances can c i x waiting (memoryOf addresses values filled) (knownOf addresses filled) filled r (memoryOf addresses values (r .filled)) (knownOf addresses (r .filled))
-  unmoved o j n e s q =
-      subst⁻¹ (λ (z : Stepped). Advances can c i x waiting (memoryOf addresses values filled) (knownOf addresses filled) filled z (memoryOf addresses values (z .filled)) (knownOf addresses (z .filled))) e (go o n q)
+  unmoved o j read n e s cells q =
+      subst⁻¹ (λ (z : Stepped). Advances can c i x waiting (memoryOf addresses values filled) (knownOf addresses filled) filled z (memoryOf addresses values (z .filled)) (knownOf addresses (z .filled))) e (go o n cells q)
     where
-      go : (o : Outcome) → onTaken o false true ≡ true → o ≡ outcomeBy can c i x waiting (memoryOf addresses values filled) (knownOf addresses filled) →
-          Advances can c i x waiting (memoryOf addresses values filled) (knownOf addresses filled) filled (notTaken o j filled) (memoryOf addresses values filled) (knownOf addresses filled)
-      go Taken n q = clash n refl
-      go NotPermitted n q = record { came = q; stated = s; thread = refl; memory-is = refl; known-is = refl; wrote = refl; read = refl; more = omega arith }
-      go Lacking n q = record { came = q; stated = s; thread = refl; memory-is = refl; known-is = refl; wrote = refl; read = refl; more = omega arith }
+      go : (o : Outcome) → onTaken o false true ≡ true → cellsOf read ≡ onPermitted o (readsBy c i x (memoryOf addresses values filled)) [] →
+          o ≡ outcomeBy can c i x waiting (memoryOf addresses values filled) (knownOf addresses filled) →
+          Advances can c i x waiting (memoryOf addresses values filled) (knownOf addresses filled) filled (notTaken o j filled read) (memoryOf addresses values filled) (knownOf addresses filled)
+      go Taken n cells q = clash n refl
+      go NotPermitted n cells q = record { came = q; stated = s; thread = refl; memory-is = refl; known-is = refl; wrote = refl; read = cells; more = omega arith }
+      go Lacking n cells q = record { came = q; stated = s; thread = refl; memory-is = refl; known-is = refl; wrote = refl; read = cells; more = omega arith }

@@ -5,14 +5,14 @@ use mathlib.Core.Bool.{Bool, true, false, cond, not, _&&_, _||_}
 use mathlib.Core.List.{List, [], _∷_, _++_, append-assoc}
 use native.Mathlib.Numerals.{add-one}
 use native.Mathlib.Omega.{arith}
-use borrow.Author.Tests.{le-leb, lt-ltb, ltb-true, eqb-true}
+use borrow.Author.Tests.{le-leb, lt-ltb, ltb-true}
 use lib.Dec.{eqb, leb, ltb}
 use lib.ListN.{length, getD, set, take, drop}
-use lib.Seq.{drop-cons, take-at, take-nil, length-take-le}
+use lib.Seq.{drop-cons}
 use Rattle.base.specs.Below.{every}
-use Rattle.base.specs.Bytes.{placed, same}
+use Rattle.base.specs.Bytes.{placed}
 use Rattle.base.proofs.Bytes.{take-placed}
-use Rattle.base.proofs.Choice.{chosen, passed, and-true, and-right}
+use Rattle.base.proofs.Choice.{chosen, and-true, and-right}
 use Rattle.records.specs.Instructions.{EXIT}
 use Rattle.records.specs.Maps.{cells, addressAt, valueAt, holds, content}
 use Rattle.records.specs.Sets.{Set}
@@ -21,13 +21,13 @@ use Rattle.records.specs.declared.Statement.{Statement}
 use Rattle.machine.proofs.Four.{stored}
 use Rattle.machine.proofs.Runs.{length-traceStep, takes-actor, taken-takes, lacking-takes}
 use Rattle.step.proofs.Checks.{Contains, MayCheck, may-check, given-settled}
-use Rattle.step.proofs.Settled.{outcome-by, written-by, shown-by, stateBy, stepped, quiet-state}
-use Rattle.machine.specs.Held.{stateOf, memoryOf, knownOf, heldOf, permittedBy}
-use Rattle.step.specs.Acting.{canStep, waits, statementBy, threadBy, writtenBy, readsBy, outcomeBy, quiet, marksGiven, marksSettled, threadsSettled, Advances}
+use Rattle.step.proofs.Settled.{outcome-by, written-by, shown-by, stateBy, stepped, quiet-state, reads-by}
+use Rattle.machine.specs.Held.{stateOf, memoryOf, knownOf, heldOf, permittedBy, cellsOf}
+use Rattle.step.specs.Acting.{canStep, waits, statementBy, threadBy, writtenBy, readsBy, outcomeBy, quiet, marksGiven, marksSettled, threadsSettled, Advances, onPermitted}
 use Rattle.step.specs.Step.{onTaken}
 use Rattle.machine.specs.Machine.{State, fresh, unmarked, markedAt, actor, start, step, written, noWrite, memoryAfter, reads}
 use Rattle.machine.specs.Maps.{Held, begin, outcome, advanced, knowsAll, knownAfter, onOutcome, follow}
-use Rattle.machine.specs.Runs.{choiceOf, choices, takes, somePermitted, endOf}
+use Rattle.machine.specs.Runs.{choiceOf, choices, somePermitted, endOf}
 use Rattle.machine.specs.Traces.{stepBytes, traceStep, trace}
 use Rattle.machine.specs.declared.RunAnswer.{RunAnswer}
 use Rattle.machine.specs.declared.RunAnswer.the-variants.{Refused}
@@ -41,8 +41,8 @@ use Rattle.machine.specs.declared.Thread.{Thread}
 use Rattle.machine.specs.declared.Written.{Written}
 use Rattle.machine.specs.declared.End.the-variants.{Code, Stuck, Open}
 use Rattle.step.specs.Ends.{endFor}
-use Rattle.step.specs.Runs.{Begins}
-use Rattle.step.specs.Walks.{made, agrees, stepRefusal, onRefusal, walked}
+use Rattle.step.specs.Runs.{Begins, unknown}
+use Rattle.step.specs.Walks.{made, agrees, stepRefusal, onRefusal, walked, walkedLacks}
 
 -- ---- refusals
 
@@ -50,30 +50,13 @@ pub on-refused : (n i : ℕ) (rest : RunAnswer) → (n ≡ 0 → ⊥) → onRefu
 on-refused zero i rest f = absurd (f refl)
 on-refused (suc n) i rest f = refl
 
--- nothing is asked of the bytes of a refused run, 14 apart
-pub refused-begins : (a : RunAnswer) (number place : ℕ) (trace bytes : List ℕ) → a ≡ Refused number place →
-    (number ≡ 14 → take (length (take (24 * suc place) trace)) bytes ≡ take (24 * suc place) trace) → Begins a trace bytes
-refused-begins a number place trace bytes e lacking = subst⁻¹ (λ (z : RunAnswer). Begins z trace bytes) e (go (eqb number 14) refl)
-  where
-    go : (b : Bool) → eqb number 14 ≡ b → Begins (Refused number place) trace bytes
-    go true p = subst⁻¹ (λ (xs : List ℕ). take (length xs) bytes ≡ xs) (chosen (take (24 * suc place) trace) [] p) (lacking (eqb-true number 14 p))
-    go false p = subst⁻¹ (λ (xs : List ℕ). take (length xs) bytes ≡ xs) (passed (take (24 * suc place) trace) [] p) refl
+-- refusals that are the same have one number
+pub refused-number : {n m i j : ℕ} → Refused n i ≡ Refused m j → n ≡ m
+refused-number e = cc
 
--- a trace that a part of the bytes begins
-pub begins-part : (n m : ℕ) (trace bytes more : List ℕ) → n ≡ m → n ≤ length bytes → trace ≡ take m bytes ++ more → take (length (take n trace)) bytes ≡ take n trace
-begins-part n m trace bytes more p h e =
-    let long = length-take-le n bytes h in
-    let same : take n trace ≡ take n bytes = ap (take n) (e ∙ ap (λ (k : ℕ). take k bytes ++ more) (sym p)) ∙ take-at (take n bytes) more n long in
-    ap (λ (k : ℕ). take k bytes) (ap length same ∙ long) ∙ sym same
-
-begins-none : (n : ℕ) (bytes : List ℕ) → take (length {A = ℕ} (take n [])) bytes ≡ take n []
-begins-none n bytes = subst⁻¹ (λ (xs : List ℕ). take (length xs) bytes ≡ xs) (take-nil n) refl
-
--- what a refused run leaves of a schedule's trace; none is asked where one is replayed
-pub begins-traced : (replaying : Bool) (n : ℕ) (bytes trace : List ℕ) → (replaying ≡ false → take (length (take n trace)) bytes ≡ take n trace) →
-    take (length (take n (cond replaying [] trace))) bytes ≡ take n (cond replaying [] trace)
-begins-traced true n bytes trace f = begins-none n bytes
-begins-traced false n bytes trace f = f refl
+-- nothing is asked of the bytes of a refused run
+pub refused-begins : (a : RunAnswer) (number place : ℕ) (trace bytes : List ℕ) → a ≡ Refused number place → Begins a trace bytes
+refused-begins a number place trace bytes e = subst⁻¹ (λ (z : RunAnswer). Begins z trace bytes) e tt
 
 -- a step refused for a first cell could be taken
 pub lacks : (o : Outcome) (agreed : Bool) → stepRefusal o agreed ≡ 14 → o ≡ Lacking
@@ -102,6 +85,15 @@ module _ (S : Set) (replaying : Bool) (input : List ℕ) (h : Held) (w : Written
   walked-next (suc n) l =
       let m : suc n - 1 ≡ n = omega arith in
       ap (λ (k : Choice). onRefusal (stepRefusal (outcome S h k) (agrees replaying input i (traceStep S (h .state) w k))) i (walked S replaying input (advanced S h k) (written S (h .state) k) (suc i) n)) (sym e)
+      ∙ rw (← add-one i, m) refl
+
+  pub lacks-next : (n : ℕ) → 0 < n →
+      walkedLacks S replaying input h i n ≡ onTaken (outcome S h c) (walkedLacks S replaying input (advanced S h c) (i + 1) (n - 1)) (unknown (h .known) (reads S (h .state) c))
+  unfolding walkedLacks
+  lacks-next zero l = absurd (omega arith)
+  lacks-next (suc n) l =
+      let m : suc n - 1 ≡ n = omega arith in
+      ap (λ (k : Choice). onTaken (outcome S h k) (walkedLacks S replaying input (advanced S h k) (suc i) n) (unknown (h .known) (reads S (h .state) k))) (sym e)
       ∙ rw (← add-one i, m) refl
 
 -- ---- a step that was made: the acting thread is found by its number modulo 4
@@ -164,6 +156,13 @@ module _ (S : Set) (m : Machine) (memory : ℕ → ℕ) (known : ℕ → Bool) (
 
     pub lacking-acts : r .outcome ≡ Lacking → actor c < S .threads
     lacking-acts e = takes-actor S (stateOf m memory) c (lacking-takes S held c (sym came-out ∙ e))
+
+    -- the cell that it lacks
+    pub lacks-cell : r .outcome ≡ Lacking → unknown knows (cellsOf (r .read)) ≡ unknown known (reads S (stateOf m memory) c)
+    lacks-cell e =
+        let told = subst (λ (k : ℕ). Told can k filled r later knows) (slot-is (lacking-acts e)) a in
+        let cells = told .read ∙ ap (λ (o : Outcome). onPermitted o (readsBy c (statementBy S c (getD (m .threads) (actor c) fresh)) (getD (m .threads) (actor c) fresh) memory) []) e ∙ sym (reads-by S m memory c) in
+        ap₂ {C = ℕ} unknown (told .known-is ∙ ap {B = ℕ → Bool} (λ (o : Outcome). onTaken o (knownAfter (writtenBy c (statementBy S c (getD (m .threads) (actor c) fresh)) (getD (m .threads) (actor c) fresh) memory) known) known) e) cells
 
     -- ---- where it was taken
 
@@ -261,7 +260,7 @@ end-is layout S s p = ap (λ (b : Bool). cond (s .ended) (Code (s .code)) (cond 
 -- ---- a schedule's next step
 
 module _ (S : Set) (schedule : List ℕ) (i : ℕ) (l : i < length schedule) (c : Choice) (e : c ≡ choiceOf (getD schedule i 0)) where
-  next-choice : choices (drop i schedule) ≡ c ∷ choices (drop (i + 1) schedule)
+  pub next-choice : choices (drop i schedule) ≡ c ∷ choices (drop (i + 1) schedule)
   unfolding choices
   next-choice = ap choices (drop-cons schedule i 0 l) ∙ rw (add-one, e)
 

@@ -8,7 +8,7 @@ use Rattle.records.specs.Instructions.{EXIT, CHECK, instructions}
 use Rattle.records.specs.Sets.{Set, nothing}
 use Rattle.records.specs.declared.Layout.{Layout}
 use Rattle.records.specs.declared.Statement.{Statement}
-use Rattle.machine.specs.Held.{permittedBy, cellsOf, noRead}
+use Rattle.machine.specs.Held.{permittedBy, cellsOf}
 use Rattle.machine.specs.Machine.{State, fresh, flushed, withPc, row, nextPc, current, address, wordTaken, cellsRead, executed, casMatches, actor, opened, cleared, memoryAfter, wrote, noWrite}
 use Rattle.machine.specs.Maps.{knowsAll, knownAfter}
 use Rattle.machine.specs.declared.Choice.{Choice}
@@ -16,6 +16,7 @@ use Rattle.machine.specs.declared.Choice.the-variants.{Execute, Flush}
 use Rattle.machine.specs.declared.Mark.{Mark}
 use Rattle.machine.specs.declared.Outcome.{Outcome}
 use Rattle.machine.specs.declared.Outcome.the-variants.{Taken, NotPermitted, Lacking}
+use Rattle.machine.specs.declared.Read.{Read}
 use Rattle.machine.specs.declared.Thread.{Thread}
 use Rattle.machine.specs.declared.Written.{Written}
 use Rattle.step.specs.Step.{onTaken}
@@ -100,8 +101,14 @@ Operands S s (Flush t) i addressed taken = Unit {0}
 -- ---- what a call that takes a step gives
 
 -- a step that is not taken gives no registers
-abbrev pub notTaken : Outcome → Statement → ℕ → Stepped
-notTaken o i filled = record { outcome = o; statement = i; thread = fresh; filled = filled; wrote = noWrite; read = noRead }
+abbrev pub notTaken : Outcome → Statement → ℕ → Read → Stepped
+notTaken o i filled read = record { outcome = o; statement = i; thread = fresh; filled = filled; wrote = noWrite; read = read }
+
+-- x where the step was permitted, else y
+abbrev pub onPermitted : {A : Type 0} → Outcome → A → A → A
+onPermitted Taken x y = x
+onPermitted NotPermitted x y = y
+onPermitted Lacking x y = x
 
 -- what a call that takes a step promises of its answer r and of the memory and the cells known afterwards
 pub record Advances (can : Bool) (c : Choice) (i : Statement) (x : Thread) (waiting : Bool) (memory : ℕ → ℕ) (known : ℕ → Bool) (filled : ℕ)
@@ -112,5 +119,5 @@ pub record Advances (can : Bool) (c : Choice) (i : Statement) (x : Thread) (wait
   pub memory-is : later ≡ onTaken (r .outcome) (memoryAfter (writtenBy c i x memory) memory) memory
   pub known-is : knows ≡ onTaken (r .outcome) (knownAfter (writtenBy c i x memory) known) known
   pub wrote : r .wrote ≡ onTaken (r .outcome) (writtenBy c i x memory) noWrite
-  pub read : cellsOf (r .read) ≡ onTaken (r .outcome) (readsBy c i x memory) []
+  pub read : cellsOf (r .read) ≡ onPermitted (r .outcome) (readsBy c i x memory) []
   pub more : r .filled ≤ filled + 1

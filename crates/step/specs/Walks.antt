@@ -6,7 +6,7 @@ use lib.Dec.{leb}
 use lib.ListN.{length, getD, take, drop}
 use Rattle.base.specs.Bytes.{same}
 use Rattle.records.specs.Sets.{Set}
-use Rattle.machine.specs.Machine.{State, written, noWrite}
+use Rattle.machine.specs.Machine.{State, written, noWrite, reads}
 use Rattle.machine.specs.Maps.{Held, begin, outcome, advanced}
 use Rattle.machine.specs.Runs.{choiceOf, choices, endOf}
 use Rattle.machine.specs.Traces.{stepLength, traceStep, trace, stepChoice}
@@ -16,7 +16,8 @@ use Rattle.machine.specs.declared.Choice.{Choice}
 use Rattle.machine.specs.declared.Outcome.{Outcome}
 use Rattle.machine.specs.declared.Outcome.the-variants.{Taken, NotPermitted, Lacking}
 use Rattle.machine.specs.declared.Written.{Written}
-use Rattle.step.specs.Runs.{limits}
+use Rattle.step.specs.Runs.{limits, unknown}
+use Rattle.step.specs.Step.{onTaken}
 
 -- ---- the input: a trace where it is replayed, else a schedule
 
@@ -52,6 +53,13 @@ walked S replaying input h w i (suc k) =
     let c = made replaying input i in
     onRefusal (stepRefusal (outcome S h c) (agrees replaying input i (traceStep S (h .state) w c))) i
     (walked S replaying input (advanced S h c) (written S (h .state) c) (suc i) k)
+
+-- the cell that they lack: the first that is not known of those that the first step that is not taken reads
+unfoldable pub walkedLacks : Set → Bool → List ℕ → Held → ℕ → ℕ → ℕ
+walkedLacks S replaying input h i zero = 0
+walkedLacks S replaying input h i (suc k) =
+    let c = made replaying input i in
+    onTaken (outcome S h c) (walkedLacks S replaying input (advanced S h c) (suc i) k) (unknown (h .known) (reads S (h .state) c))
 
 -- ---- the call
 

@@ -323,20 +323,14 @@ fn statement_of(set: &[u8], layout: Layout, x: Thread, choice: Choice) -> Statem
 }
 
 // A step that is not taken.
-fn not_taken(outcome: Outcome, statement: Statement, filled: usize) -> Stepped
-    ensures { λ r. ⌜ r ≡ notTaken outcome statement filled ⌝ }
+fn not_taken(outcome: Outcome, statement: Statement, filled: usize, read: Read) -> Stepped
+    ensures { λ r. ⌜ r ≡ notTaken outcome statement filled read ⌝ }
 {
     let thread = Thread::fresh();
     let wrote = Written {
         done: false,
         address: 0,
         value: 0,
-    };
-    let read = Read {
-        argument: false,
-        first: 0,
-        word: false,
-        second: 0,
     };
     Stepped {
         outcome,
@@ -346,6 +340,19 @@ fn not_taken(outcome: Outcome, statement: Statement, filled: usize) -> Stepped
         wrote,
         read,
     }
+}
+
+// A step that is not permitted: it reads nothing.
+fn not_permitted(statement: Statement, filled: usize) -> Stepped
+    ensures { λ r. ⌜ r ≡ notTaken Outcome.NotPermitted statement filled noRead ⌝ }
+{
+    let read = Read {
+        argument: false,
+        first: 0,
+        word: false,
+        second: 0,
+    };
+    not_taken(Outcome::NotPermitted, statement, filled, read)
 }
 
 // One step of the acting thread over a sparse memory: x are its registers, mark its mark. Where it is not taken the memory is as it was.
@@ -388,9 +395,10 @@ pub fn advance(
                     read,
                 };
             }
-            return not_taken(Outcome::Lacking, i, filled);
+            let read = e.read;
+            return not_taken(Outcome::Lacking, i, filled, read);
         }
-        return not_taken(Outcome::NotPermitted, i, filled);
+        return not_permitted(i, filled);
     }
-    not_taken(Outcome::NotPermitted, i, filled)
+    not_permitted(i, filled)
 }

@@ -4,14 +4,16 @@ mod walks;
 
 ghost use mathlib.Core.Path.{_≡_};
 ghost use mathlib.Core.Bool.{true, false};
+ghost use Prim.Native.Nat.{ℕ};
 ghost use lib.ListN.{length};
 ghost use Rattle.records.specs.Maps.{mapValue};
 ghost use Rattle.records.specs.Sets.{setBy};
 ghost use Rattle.machine.specs.Held.{heldOf};
 ghost use Rattle.machine.specs.Machine.{start, noWrite};
+ghost use Rattle.machine.specs.Maps.{begin};
 ghost use Rattle.machine.specs.Runs.{choices};
 ghost use Rattle.machine.specs.Traces.{trace as traceOf};
-ghost use Rattle.step.specs.Runs.{followed, retraced, Begins};
+ghost use Rattle.step.specs.Runs.{followed, retraced, lacked, Begins};
 ghost use Rattle.step.specs.Step.{hasRoom, onTaken, TakesStep};
 use machine::Choice;
 use machine::Machine;
@@ -102,16 +104,17 @@ pub fn take(
     }
 }
 
+// What a run over a map gives: its answer, and the cell that it lacks where 14 refuses it.
+pub struct Walk {
+    pub answer: RunAnswer,
+    pub lacking: u16,
+}
+
 // Runs a schedule over a map, and puts its trace into the lent bytes; 17 past the limits of a run or of those bytes.
-pub fn follow(
-    set: &[u8],
-    layout: Layout,
-    map: &[u8],
-    schedule: &[u8],
-    trace: &mut [u8],
-) -> RunAnswer
-    ensures { λ r. ⌜ (r ≡ followed (setBy (now (set .entry)) layout) (now (map .entry)) (now (schedule .entry)) (length (now (trace .entry))))
-        × Begins r (traceOf (setBy (now (set .entry)) layout) (start (mapValue (now (map .entry)))) noWrite (choices (now (schedule .entry)))) (now (trace .exit)) ⌝ }
+pub fn follow(set: &[u8], layout: Layout, map: &[u8], schedule: &[u8], trace: &mut [u8]) -> Walk
+    ensures { λ r. ⌜ (r .answer ≡ followed (setBy (now (set .entry)) layout) (now (map .entry)) (now (schedule .entry)) (length (now (trace .entry))))
+        × ((place : ℕ) → r .answer ≡ RunAnswer.Refused 14 place → r .lacking ≡ lacked (setBy (now (set .entry)) layout) (begin (now (map .entry))) (choices (now (schedule .entry))))
+        × Begins (r .answer) (traceOf (setBy (now (set .entry)) layout) (start (mapValue (now (map .entry)))) noWrite (choices (now (schedule .entry)))) (now (trace .exit)) ⌝ }
 {
     walks::walk(set, layout, map, false, schedule, trace)
 }
@@ -122,5 +125,6 @@ pub fn retrace(set: &[u8], layout: Layout, map: &[u8], trace: &[u8]) -> RunAnswe
 {
     // The records of its steps are compared and written nowhere.
     let mut nowhere = [0u8; 1];
-    walks::walk(set, layout, map, true, trace, &mut nowhere)
+    let walk = walks::walk(set, layout, map, true, trace, &mut nowhere);
+    walk.answer
 }

@@ -6,22 +6,26 @@ ghost use lib.Dec.{leb};
 ghost use lib.ListN.{length};
 ghost use Rattle.records.specs.Maps.{cells, addressAt, valueAt, holds, content, mapValue};
 ghost use Rattle.records.specs.Sets.{setBy, mostThreads};
-ghost use Rattle.machine.specs.Held.{stateOf, heldOf, memoryOf, knownOf};
+ghost use Rattle.machine.specs.Held.{stateOf, heldOf, memoryOf, knownOf, knownIn, cellsOf};
 ghost use Rattle.machine.specs.Machine.{start, noWrite};
+ghost use Rattle.machine.specs.Maps.{begin as beginOf};
 ghost use Rattle.machine.specs.Runs.{choiceOf, canAct, mostSteps};
 ghost use Rattle.machine.specs.Traces.{bit, stepBytes, stepLength};
 ghost use Rattle.step.specs.Ends.{endFor};
-ghost use Rattle.step.specs.Runs.{Begins};
-ghost use Rattle.step.specs.Walks.{stepsOf, made as madeOf, agrees as agreesOf, stepRefusal, walked, walkedOver, traced};
+ghost use Rattle.step.specs.Runs.{Begins, unknown as unknownOf};
+ghost use Rattle.step.specs.Walks.{stepsOf, made as madeOf, agrees as agreesOf, stepRefusal, walked, walkedLacks, walkedOver, traced};
+use crate::Walk;
 use crate::acting;
 use machine::Choice;
 use machine::End;
 use machine::Machine;
 use machine::Mark;
 use machine::Outcome;
+use machine::Read;
 use machine::RunAnswer;
 use machine::Thread;
 use machine::Written;
+use machine::memory;
 use records::Layout;
 use records::Statement;
 use records::refusals;
@@ -203,6 +207,26 @@ fn refusal_of(outcome: Outcome, agreed: bool) -> u8
     }
 }
 
+// Whether the cell at address a is among these.
+fn knows(addresses: &[u16], a: u16) -> bool
+    ensures { λ r. ⌜ r ≡ knownIn (now (addresses .entry)) a ⌝ }
+{
+    memory::cell_at(addresses, a) < addresses.len()
+}
+
+// The first of the cells read that is not known; 0 where all are.
+fn unknown(addresses: &[u16], read: Read) -> u16
+    ensures { λ r. ⌜ r ≡ unknownOf (knownIn (now (addresses .entry))) (cellsOf read) ⌝ }
+{
+    if read.argument & !knows(addresses, read.first) {
+        return read.first;
+    }
+    if read.word & !knows(addresses, read.second) {
+        return read.second;
+    }
+    0
+}
+
 // A refusal at a step.
 fn refused(number: u8, step: usize) -> RunAnswer
     requires { ⌜ step ≤ mostSteps ⌝ }
@@ -227,11 +251,13 @@ fn run(
     values: &mut [u16],
     cells: usize,
     trace: &mut [u8],
-) -> RunAnswer
+) -> Walk
     requires { ⌜ (layout .threads ≤ mostThreads) × (count ≤ mostSteps) × (count ≡ stepsOf replaying (length (now input)))
         × ((cells + count ≤ length (now addresses)) × (cells + count ≤ length (now values))) × (replaying ≡ false → stepLength * count ≤ length (now trace)) ⌝ }
-    ensures { λ r. ⌜ (r ≡ walked (setBy (now (set .entry)) layout) replaying (now (input .entry)) (heldOf first (now (addresses .entry)) (now (values .entry)) cells) noWrite 0 count)
-        × Begins r (traced (setBy (now (set .entry)) layout) replaying (stateOf first (memoryOf (now (addresses .entry)) (now (values .entry)) cells)) (now (input .entry))) (now (trace .exit)) ⌝ }
+    ensures { λ r. ⌜ (r .answer ≡ walked (setBy (now (set .entry)) layout) replaying (now (input .entry)) (heldOf first (now (addresses .entry)) (now (values .entry)) cells) noWrite 0 count)
+        × ((place : ℕ) → r .answer ≡ RunAnswer.Refused 14 place
+        → r .lacking ≡ walkedLacks (setBy (now (set .entry)) layout) replaying (now (input .entry)) (heldOf first (now (addresses .entry)) (now (values .entry)) cells) 0 count)
+        × Begins (r .answer) (traced (setBy (now (set .entry)) layout) replaying (stateOf first (memoryOf (now (addresses .entry)) (now (values .entry)) cells)) (now (input .entry))) (now (trace .exit)) ⌝ }
 {
     let mut m = first;
     let mut filled = cells;
@@ -268,7 +294,9 @@ fn run(
         base::place(trace, Machine::STEP * steps, &bytes);
         let refusal = refusal_of(outcome, agrees(replaying, input, steps, bytes));
         if refusal != 0 {
-            return refused(refusal, steps);
+            let lacking = unknown(&addresses[..s.filled], s.read);
+            let answer = refused(refusal, steps);
+            return Walk { answer, lacking };
         }
         m.threads[at] = y;
         filled = s.filled;
@@ -284,10 +312,11 @@ fn run(
         }
     }
     let end = end_of(set, layout, m);
-    RunAnswer::Ran {
+    let answer = RunAnswer::Ran {
         steps: steps as u16,
         end,
-    }
+    };
+    Walk { answer, lacking: 0 }
 }
 
 // Runs a schedule over a map, or along a trace, and puts a schedule's trace into the lent bytes; 17 past the limits of a run.
@@ -298,9 +327,11 @@ pub fn walk(
     replaying: bool,
     input: &[u8],
     trace: &mut [u8],
-) -> RunAnswer
-    ensures { λ r. ⌜ (r ≡ walkedOver (setBy (now (set .entry)) layout) (now (map .entry)) replaying (now (input .entry)) (length (now (trace .entry))))
-        × Begins r (traced (setBy (now (set .entry)) layout) replaying (start (mapValue (now (map .entry)))) (now (input .entry))) (now (trace .exit)) ⌝ }
+) -> Walk
+    ensures { λ r. ⌜ (r .answer ≡ walkedOver (setBy (now (set .entry)) layout) (now (map .entry)) replaying (now (input .entry)) (length (now (trace .entry))))
+        × ((place : ℕ) → r .answer ≡ RunAnswer.Refused 14 place
+        → r .lacking ≡ walkedLacks (setBy (now (set .entry)) layout) replaying (now (input .entry)) (beginOf (now (map .entry))) 0 (stepsOf replaying (length (now (input .entry)))))
+        × Begins (r .answer) (traced (setBy (now (set .entry)) layout) replaying (start (mapValue (now (map .entry)))) (now (input .entry))) (now (trace .exit)) ⌝ }
 {
     let count = count_of(replaying, input.len());
     let room = replaying | (count <= trace.len() / Machine::STEP);
@@ -326,5 +357,6 @@ pub fn walk(
             trace,
         );
     }
-    refused(refusals::LENGTH, 0)
+    let answer = refused(refusals::LENGTH, 0);
+    Walk { answer, lacking: 0 }
 }

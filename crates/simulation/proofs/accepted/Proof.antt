@@ -51,7 +51,7 @@ short : (r : tie.After-follow) → length (schedule-of r) ≤ 64
 short r = r .before .before .before .if1 .left
 
 -- past the refusals the run decides
-decided : (r : tie.After-follow) → limited (set-of r) (map-of r) (schedule-of r) (length (out-of r)) ≡ r .follow .result
+decided : (r : tie.After-follow) → limited (set-of r) (map-of r) (schedule-of r) (length (out-of r)) ≡ r .follow .result .answer
 unfolding limited
 decided r =
     passed _ _ (le-ltb _ _ (short r)) ∙ passed _ _ (le-ltb _ _ (r .before .before .if2 .left))
@@ -66,7 +66,7 @@ output-length r = length-trace (set-of r) _ noWrite (choices (schedule-of r)) �
 
 -- what is written lies within the bytes
 sized : (c : tie.After-bytes-out) → let r = c .before .before in c .bytes-out .result ≤ 24 * length (schedule-of r)
-sized c = let r = c .before .before in omega (arith, c .bytes-out .ensures, out-most (r .follow .result) (24 * length (schedule-of r)))
+sized c = let r = c .before .before in omega (arith, c .bytes-out .ensures, out-most (r .follow .result .answer) (24 * length (schedule-of r)))
 
 returns : tie.Need-returns
 unfolding limited
@@ -113,7 +113,7 @@ returns-3 c =
       sym (decided r),
       c .before .before .place .ensures
           ∙ ap (λ (k : ℕ). placed (out-of r) 0 (take k (bytes-of r))) (o .bytes-out .ensures)
-          ∙ put-out (r .follow .result) (bytes-of r) (output-of r) (out-of r) (24 * length (schedule-of r)) (output-length r) (r .before .before .if2 .left) (r .follow .ensures .1),
+          ∙ put-out (r .follow .result .answer) (bytes-of r) (output-of r) (out-of r) (24 * length (schedule-of r)) (output-length r) (r .before .before .if2 .left) (r .follow .ensures .2),
     )
 
 pub accepted-spec : {M : Type 1} → statement M

@@ -13,7 +13,7 @@ use Rattle.base.proofs.Choice.{chosen, passed, and-true, and-false, and-left, a
 use Rattle.records.specs.Sets.{Set, setBy, statementAt, nothing}
 use Rattle.records.specs.declared.Layout.{Layout}
 use Rattle.records.specs.declared.Statement.{Statement}
-use Rattle.machine.specs.Held.{memoryOf, memoryIn, knownOf, knownIn, permittedBy}
+use Rattle.machine.specs.Held.{memoryOf, memoryIn, knownOf, knownIn, permittedBy, cellsOf}
 use Rattle.step.specs.Acting.{canStep, waits, threadBy, statementBy, writtenBy, readsBy, outcomeBy}
 use Rattle.machine.specs.Machine.{unmarked, actor, memoryAfter}
 use Rattle.machine.specs.Maps.{knowsAll, knownAfter}
@@ -31,6 +31,7 @@ use Rattle.step.proofs.acting.advance.Tie as tie
 use Rattle.step.proofs.acting.advance.Reads as reads
 use Rattle.step.proofs.acting.advance.Lts as lts
 use Rattle.step.proofs.acting.effect_of.Reads as effect-of-reads
+use Rattle.step.proofs.acting.not_permitted.Reads as not-permitted-reads
 use Rattle.step.proofs.acting.not_taken.Reads as not-taken-reads
 use Rattle.step.proofs.acting.statement_of.Reads as statement-of-reads
 use Rattle.step.proofs.acting.write.Reads as write-reads
@@ -157,6 +158,13 @@ wrote-is c =
     let s = start-of (c .before .before .before .before .before) in
     c .effect-of .ensures .2 ∙ given c (λ k i mem. writtenBy (s .args .choice) i (s .args .x) mem)
 
+read-is : (c : tie.After-effect-of) →
+    let s = start-of (c .before .before .before .before .before) in
+    cellsOf (c .effect-of .result .read) ≡ readsBy (s .args .choice) (statement-by s) (s .args .x) (memory-of s)
+read-is c =
+    let s = start-of (c .before .before .before .before .before) in
+    c .effect-of .ensures .3 ∙ given c (λ k i mem. readsBy (s .args .choice) i (s .args .x) mem)
+
 actor-requires : tie.Need-actor-requires
 actor-requires c κs = search needs
 
@@ -208,7 +216,7 @@ returns c =
       memory-is = w .write .ensures .0 ∙ ap {B = ℕ → ℕ} (λ (z : Written). memoryAfter z (memory-of s)) (wrote-is e);
       known-is = w .write .ensures .1 ∙ ap {B = ℕ → Bool} (λ (z : Written). knownAfter z (known-of s)) (wrote-is e);
       wrote = wrote-is e;
-      read = e .effect-of .ensures .3 ∙ given e (λ n i mem. readsBy (a .choice) i (a .x) mem);
+      read = read-is e;
       more = w .write .ensures .2;
     }
 
@@ -223,15 +231,16 @@ same-length-4 c = search needs
 
 returns-2 : tie.Need-returns-2
 returns-2 c =
-    let e = c .before .before in
+    let e = c .before .before .before in
     let f = e .before .before .before .before .before in
     let s = start-of f in
     let a = s .args in
-    unmoved (can-of s) (a .choice) (statement-by s) (a .x) (waiting-of s) (now (a .addresses)) (now (a .values)) (a .filled) (c .not-taken .result) Lacking (f .before .before .statement-of .result) refl (c .not-taken .ensures) (stated f)
-    (sym (taking (e .before .before .before) ∙ passed _ _ (sym (knows e) ∙ c .before .if3 .left)))
+    let l = taking (e .before .before .before) ∙ passed _ _ (sym (knows e) ∙ c .before .before .if3 .left) in
+    unmoved (can-of s) (a .choice) (statement-by s) (a .x) (waiting-of s) (now (a .addresses)) (now (a .values)) (a .filled) (c .not-taken .result) Lacking (f .before .before .statement-of .result) _ refl (c .not-taken .ensures) (stated f)
+    (read-is e) (sym l)
 
-not-taken-requires-2 : tie.Need-not-taken-requires-2
-not-taken-requires-2 c κs = search needs
+not-permitted-requires : tie.Need-not-permitted-requires
+not-permitted-requires c κs = search needs
 
 returns-3 : tie.Need-returns-3
 returns-3 c =
@@ -239,19 +248,19 @@ returns-3 c =
     let f = p .before in
     let s = start-of f in
     let a = s .args in
-    unmoved (can-of s) (a .choice) (statement-by s) (a .x) (waiting-of s) (now (a .addresses)) (now (a .values)) (a .filled) (c .not-taken2 .result) NotPermitted (f .before .before .statement-of .result) refl (c .not-taken2 .ensures) (stated f)
-    (sym (passed _ _ (and-right-false (can-of s) (sym (permits p) ∙ c .before .if2 .left))))
+    unmoved (can-of s) (a .choice) (statement-by s) (a .x) (waiting-of s) (now (a .addresses)) (now (a .values)) (a .filled) (c .not-permitted .result) NotPermitted (f .before .before .statement-of .result) _ refl (c .not-permitted .ensures) (stated f)
+    refl (sym (passed _ _ (and-right-false (can-of s) (sym (permits p) ∙ c .before .if2 .left))))
 
-not-taken-requires-3 : tie.Need-not-taken-requires-3
-not-taken-requires-3 c κs = search needs
+not-permitted-requires-2 : tie.Need-not-permitted-requires-2
+not-permitted-requires-2 c κs = search needs
 
 returns-4 : tie.Need-returns-4
 returns-4 c =
     let k = c .before .before in
     let s = k .before .before .before .before .before .before in
     let a = s .args in
-    unmoved (can-of s) (a .choice) (statement-by s) (a .x) (waiting-of s) (now (a .addresses)) (now (a .values)) (a .filled) (c .not-taken3 .result) NotPermitted (k .before .statement-of .result) refl (c .not-taken3 .ensures) (k .before .statement-of .ensures)
-    (sym (passed _ _ (and-false (permittedBy (a .choice) (statement-by s) (a .x) (waiting-of s)) (tested k ∙ c .before .if1 .left))))
+    unmoved (can-of s) (a .choice) (statement-by s) (a .x) (waiting-of s) (now (a .addresses)) (now (a .values)) (a .filled) (c .not-permitted2 .result) NotPermitted (k .before .statement-of .result) _ refl (c .not-permitted2 .ensures) (k .before .statement-of .ensures)
+    refl (sym (passed _ _ (and-false (permittedBy (a .choice) (statement-by s) (a .x) (waiting-of s)) (tested k ∙ c .before .if1 .left))))
 
 pub advance-spec : {M : Type 1} → statement M
 advance-spec =
@@ -273,7 +282,7 @@ advance-spec =
     same-length-3
     same-length-4
     returns-2
-    not-taken-requires-2
+    not-permitted-requires
     returns-3
-    not-taken-requires-3
+    not-permitted-requires-2
     returns-4)

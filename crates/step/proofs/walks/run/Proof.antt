@@ -1,5 +1,5 @@
 -- `step::walks::run` meets its contract. Assumes nothing.
-use Prim.Native.Nat.{ℕ, suc, _+_, _-_, _*_, _%_, _≤_, _<_}
+use Prim.Native.Nat.{ℕ, _+_, _-_, _*_, _%_, _≤_, _<_}
 use mathlib.Core.Bool.{Bool, true, false, cond, not, _&&_}
 use mathlib.Core.List.{List, [], _++_, append-nil}
 use mathlib.Core.Path.{_≡_, refl, ap, ap₂, sym, subst, _∙_}
@@ -13,9 +13,9 @@ use lib.Seq.{length-take-le}
 use Rattle.base.specs.Bytes.{placed}
 use Rattle.base.proofs.Choice.{chosen, passed}
 use Rattle.records.specs.Sets.{Set, setBy}
-use Rattle.machine.specs.Held.{stateOf, memoryOf, knownOf, heldOf}
+use Rattle.machine.specs.Held.{stateOf, memoryOf, knownOf, heldOf, cellsOf}
 use Rattle.step.specs.Acting.{canStep, marksGiven}
-use Rattle.machine.specs.Machine.{State, fresh, unmarked, markedAt, noWrite, actor, step, written}
+use Rattle.machine.specs.Machine.{State, fresh, unmarked, markedAt, noWrite, actor, step, written, reads}
 use Rattle.machine.specs.Maps.{Held, outcome, advanced}
 use Rattle.machine.specs.Runs.{choices}
 use Rattle.machine.specs.Traces.{stepBytes, traceStep, trace}
@@ -24,13 +24,18 @@ use Rattle.machine.specs.declared.RunAnswer.the-variants.{Ran}
 use Rattle.machine.specs.declared.Choice.{Choice}
 use Rattle.machine.specs.declared.Machine.{Machine}
 use Rattle.machine.specs.declared.Mark.{Mark}
+use Rattle.machine.specs.declared.Outcome.{Outcome}
 use Rattle.machine.specs.declared.Outcome.the-variants.{Taken}
 use Rattle.step.specs.declared.acting.Stepped.{Stepped}
 use Rattle.machine.specs.declared.Written.{Written}
-use Rattle.step.specs.Walks.{stepsOf, agrees, stepRefusal, onRefusal, walked, traced}
+use Rattle.step.specs.Runs.{unknown}
+use Rattle.step.specs.Step.{onTaken}
+use Rattle.step.specs.Walks.{stepsOf, agrees, stepRefusal, onRefusal, walked, walkedLacks}
+use Rattle.machine.proofs.Runs.{refused-ran}
 use Rattle.step.proofs.Arrays.{four-threads, four-marks}
 use Rattle.step.proofs.Checks.{contains-own}
-use Rattle.step.proofs.Steps.{on-refused, refused-begins, stands, lacks, begins-traced, begins-part, rest, walked-next, Told, refused-so, shown-bytes, lacking-acts, acting, wrote-so, quiet-held, loud-held, has-room, end-is, trace-more}
+use Rattle.step.proofs.Steps.{on-refused, refused-begins, stands, lacks, rest, walked-next, Told, refused-so, shown-bytes, acting, wrote-so, quiet-held, loud-held, has-room, end-is, trace-more, refused-number, lacks-next, came-out, lacks-cell}
+use Rattle.step.proofs.Cells.{prefix-known}
 use Rattle.step.proofs.walks.run.Statement.{statement}
 use Rattle.step.proofs.walks.run.Tie as tie
 use Rattle.step.proofs.walks.run.Reads as reads
@@ -47,6 +52,7 @@ use Rattle.step.proofs.acting.marks_after.Reads as marks-after-reads
 use Rattle.step.proofs.acting.ended_after.Reads as ended-after-reads
 use Rattle.step.proofs.acting.quiet.Reads as quiet-reads
 use Rattle.step.proofs.walks.refused.Reads as refused-reads
+use Rattle.step.proofs.walks.unknown.Reads as unknown-reads
 use Rattle.machine.proofs.choices.actor.Reads as actor-reads
 
 -- what the loop keeps: the steps that are left give the rest of the answer, and a schedule's bytes so far begin its trace
@@ -60,6 +66,7 @@ Running S replaying input count h₀ bytes m addresses values filled wrote steps
     × (trace S (h₀ .state) noWrite (choices input) ≡ take (24 * steps) bytes ++ trace S (stateOf m (memoryOf addresses values filled)) wrote (choices (drop steps input))))
     × (length (m .threads) ≡ 4)
     × (length (m .marks) ≡ 4)
+    × (walkedLacks S replaying input h₀ 0 count ≡ walkedLacks S replaying input (heldOf m addresses values filled) steps budget)
 
 abbrev Inv-loop : tie.InvT-loop
 Inv-loop set layout replaying input count addresses₀ values₀ cells trace₀ m₀ filled₀ wrote₀ steps₀ budget₀ addresses values trace m filled wrote steps budget =
@@ -205,19 +212,19 @@ module _ (x : Turn) (acts : actor (choice-of x) < set-of x .threads) where
 
 -- ---- a turn that lacks a first cell
 
-left-of : (x : Turn) → x .refusal-of .result ≡ 14 →
+abbrev lacks-of : Turn → ℕ
+lacks-of x = walkedLacks (set-of x) (replaying-of x) (input-of x) (advanced (set-of x) (held-of x) (choice-of x)) (steps-of x + 1) (loop-at x .loop .budget - 1)
+
+lacked : (x : Turn) →
     let a = start-of x .args in
-    let shown = take (24 * suc (steps-of x)) (traced (set-of x) (replaying-of x) (stateOf (a .first) (memoryOf (now (a .addresses)) (now (a .values)) (a .cells))) (input-of x)) in
-    take (length shown) (place-at x .place .last .0) ≡ shown
-left-of x e =
+    walkedLacks (set-of x) (replaying-of x) (input-of x) (heldOf (a .first) (now (a .addresses)) (now (a .values)) (a .cells)) 0 (a .count)
+    ≡ onTaken (result-of x .outcome) (lacks-of x) (unknown (known-of x) (reads (set-of x) (held-of x .state) (choice-of x)))
+lacked x =
     let l = loop-at x .loop in
-    let lacking = lacks (result-of x .outcome) (x .before .agrees .result) (sym (x .refusal-of .ensures) ∙ e) in
-    let acts = lacking-acts (set-of x) (machine-of x) (memory-of x) (known-of x) (choice-of x) (few x) (told x) (room x) lacking in
-    let bytes = place-at x .place .last .0 in
-    let one : 24 * suc (steps-of x) ≡ 24 * (steps-of x + 1) = omega arith in
-    begins-traced (replaying-of x) (24 * suc (steps-of x)) bytes _
-    (λ f. let t = traced-on x acts f in
-    begins-part (24 * suc (steps-of x)) (24 * (steps-of x + 1)) _ bytes _ one (omega (arith, t .0, goes x, l .inv .6 .0)) (t .1))
+    l .inv .6 .7
+    ∙ lacks-next (set-of x) (replaying-of x) (input-of x) (held-of x) (wrote-of x) (steps-of x) (choice-of x) (made-at x .made .ensures) (l .budget) (goes x)
+    ∙ ap (λ (o : Outcome). onTaken o (lacks-of x) (unknown (known-of x) (reads (set-of x) (held-of x .state) (choice-of x))))
+    (sym (came-out (set-of x) (machine-of x) (memory-of x) (known-of x) (choice-of x) (few x) (told x) (room x)))
 
 -- ---- a turn that is not refused
 
@@ -246,6 +253,8 @@ module _ (x : Turn) (zero : x .refusal-of .result ≡ 0) where
             (t .0, t .1 ∙ ap₂ (λ (s : State) (w : Written). take (24 * (i + 1)) (place-at x .place .last .0) ++ trace (set-of x) s w (choices (drop (i + 1) (input-of x)))) (ap (λ (k : Held). k .state) (sym h)) (sym w)),
         threads,
         marks,
+        lacked x ∙ ap (λ (o : Outcome). onTaken o (lacks-of x) (unknown (known-of x) (reads (set-of x) (held-of x .state) (choice-of x)))) taken
+            ∙ ap (λ (k : Held). walkedLacks (set-of x) (replaying-of x) (input-of x) k (i + 1) (l .budget - 1)) (sym h),
       )
 
 marks-made : (c : tie.After-marks-after Inv-loop μ-loop) → length (c .marks-after .result) ≡ 4
@@ -261,7 +270,7 @@ loop-holds c =
     let s = c .before .before .before .before .before in
     let p = s .pre in
     let is = s .good .1 .1 .0 in
-    (p .0, p .1, p .2, refl, refl, refl, (omega arith, p .3 .0, p .3 .1, refl, λ f. (p .4 f, refl), four-threads (s .args .first) is, four-marks (s .args .first) is))
+    (p .0, p .1, p .2, refl, refl, refl, (omega arith, p .3 .0, p .3 .1, refl, λ f. (p .4 f, refl), four-threads (s .args .first) is, four-marks (s .args .first) is, refl))
 
 made-requires : tie.Need-made-requires Inv-loop μ-loop
 made-requires c κs = let l = c .before .loop in omega (arith, c .loop-test .taken, l .inv .6 .0, l .inv .1)
@@ -308,22 +317,57 @@ agrees-requires c κs =
 refusal-of-requires : tie.Need-refusal-of-requires Inv-loop μ-loop
 refusal-of-requires c κs = search needs
 
+-- the cells are those of the step
+fits : (x : Turn) → result-of x .filled ≤ length (step-at x .advance .last .1 .1 .1 .1 .1 .1 .0)
+fits x =
+    let l = loop-at x .loop in
+    omega (arith, goes x, l .inv .6 .1, step-at x .advance .kept .1 .1 .1 .1 .1 .1 .0, step-at x .advance .ensures .more)
+
+slice-reshare-prefix-unknown : tie.Need-slice-reshare-prefix-unknown Inv-loop μ-loop
+slice-reshare-prefix-unknown c = fits (c .before)
+
+slice-aggregate-unknown : tie.Need-slice-aggregate-unknown Inv-loop μ-loop
+slice-aggregate-unknown c = sym (length-take-le _ _ (fits (c .before .before)))
+
+unknown-requires : tie.Need-unknown-requires Inv-loop μ-loop
+unknown-requires c κs = search needs
+
+abbrev turn-of : tie.After-unknown Inv-loop μ-loop → Turn
+turn-of c = c .before .before .before
+
 refused-requires : tie.Need-refused-requires Inv-loop μ-loop
-refused-requires c κs = let x = c .before in let l = loop-at x .loop in omega (arith, goes x, l .inv .6 .0, l .inv .1)
+refused-requires c κs = let x = turn-of c in let l = loop-at x .loop in omega (arith, goes x, l .inv .6 .0, l .inv .1)
 
 same-length : tie.Need-same-length Inv-loop μ-loop
-same-length c = let x = c .before .before in step-at x .advance .kept .1 .1 .1 .1 .1 .1 .0 ∙ loop-at x .loop .inv .3
+same-length c = let x = turn-of (c .before) in step-at x .advance .kept .1 .1 .1 .1 .1 .1 .0 ∙ loop-at x .loop .inv .3
 
 same-length-2 : tie.Need-same-length-2 Inv-loop μ-loop
-same-length-2 c = let x = c .before .before in step-at x .advance .kept .1 .1 .1 .1 .1 .1 .1 .0 ∙ loop-at x .loop .inv .4
+same-length-2 c = let x = turn-of (c .before) in step-at x .advance .kept .1 .1 .1 .1 .1 .1 .1 .0 ∙ loop-at x .loop .inv .4
 
 same-length-3 : tie.Need-same-length-3 Inv-loop μ-loop
-same-length-3 c = let x = c .before .before in place-at x .place .kept .0 ∙ loop-at x .loop .inv .5
+same-length-3 c = let x = turn-of (c .before) in place-at x .place .kept .0 ∙ loop-at x .loop .inv .5
+
+-- the cell that the step lacks, where 14 refuses it
+lacking-is : (c : tie.After-unknown Inv-loop μ-loop) → let x = turn-of c in
+    x .refusal-of .result ≡ 14 →
+    let a = start-of x .args in
+    c .unknown .result ≡ walkedLacks (set-of x) (replaying-of x) (input-of x) (heldOf (a .first) (now (a .addresses)) (now (a .values)) (a .cells)) 0 (a .count)
+lacking-is c e =
+    let x = turn-of c in
+    let o = lacks (result-of x .outcome) (x .before .agrees .result) (sym (x .refusal-of .ensures) ∙ e) in
+    c .unknown .ensures
+    ∙ ap (λ (k : ℕ → Bool). unknown k (cellsOf (result-of x .read))) (prefix-known (step-at x .advance .last .1 .1 .1 .1 .1 .1 .0) (step-at x .advance .last .1 .1 .1 .1 .1 .1 .1 .0) (result-of x .filled) (fits x))
+    ∙ lacks-cell (set-of x) (machine-of x) (memory-of x) (known-of x) (choice-of x) (few x) (told x) (room x) o
+    ∙ sym (lacked x ∙ ap (λ (z : Outcome). onTaken z (lacks-of x) (unknown (known-of x) (reads (set-of x) (held-of x .state) (choice-of x)))) o)
 
 returns : tie.Need-returns Inv-loop μ-loop
 returns c =
-    let x = c .before .before in
-    (c .refused .ensures ∙ sym (judged x ∙ on-refused _ _ _ (c .before .if1 .taken)), refused-begins _ _ _ _ _ (c .refused .ensures) (left-of x))
+    let u = c .before in
+    let x = turn-of u in (
+      c .refused .ensures ∙ sym (judged x ∙ on-refused _ _ _ (u .before .before .if1 .taken)),
+      λ place e. lacking-is u (refused-number (sym (c .refused .ensures) ∙ e)),
+      refused-begins _ _ _ _ _ (c .refused .ensures),
+    )
 
 mul-y : tie.Need-mul-y Inv-loop μ-loop
 mul-y c = search needs
@@ -400,8 +444,8 @@ loop-again-2 c =
 end-of-requires : tie.Need-end-of-requires Inv-loop μ-loop
 end-of-requires c κs = search needs
 
-cast-t58 : tie.Need-cast-t58 Inv-loop μ-loop
-cast-t58 c = search needs
+cast-t63 : tie.Need-cast-t63 Inv-loop μ-loop
+cast-t63 c = search needs
 
 same-length-4 : tie.Need-same-length-4 Inv-loop μ-loop
 same-length-4 c = search needs
@@ -422,6 +466,7 @@ returns-2 c =
     let z : l .budget ≡ 0 = omega (arith, c .before .loop-test .left) in (
       sym (l .inv .6 .3 ∙ ap (λ (n : ℕ). walked S (a .replaying) (now (a .input)) (heldOf (l .m) (l .addresses) (l .values) (l .filled)) (l .wrote) (l .steps) n) z
           ∙ ap (Ran (l .steps)) (sym (c .end-of .ensures memory ∙ end-is (a .layout) S (stateOf (l .m) memory) (l .inv .0)))),
+      λ place e. refused-ran (sym e),
       ended-so (a .replaying) (l .trace) (trace S (stateOf (a .first) (memoryOf (now (a .addresses)) (now (a .values)) (a .cells))) noWrite (choices (now (a .input))))
           (λ f.
           let n = l .inv .2 ∙ passed _ _ f in
@@ -453,6 +498,9 @@ run-spec =
     place-requires
     agrees-requires
     refusal-of-requires
+    slice-reshare-prefix-unknown
+    slice-aggregate-unknown
+    unknown-requires
     refused-requires
     same-length
     same-length-2
@@ -471,7 +519,7 @@ run-spec =
     loop-less-2
     loop-again-2
     end-of-requires
-    cast-t58
+    cast-t63
     same-length-4
     same-length-5
     same-length-6

@@ -16,8 +16,8 @@ use Rattle.machine.specs.Held.{stateOf, memoryOf, heldOf}
 use Rattle.machine.specs.Machine.{State, start, noWrite}
 use Rattle.machine.specs.Maps.{Held, begin}
 use Rattle.step.specs.Runs.{Begins}
-use Rattle.step.specs.Walks.{stepsOf, walked, walkedOver, within, traced}
-use Rattle.step.proofs.Steps.{refused-begins, begun, all-cells}
+use Rattle.step.specs.Walks.{stepsOf, walked, walkedOver, within, traced, walkedLacks}
+use Rattle.step.proofs.Steps.{refused-begins, begun, all-cells, refused-number}
 use Rattle.step.proofs.walks.walk.Statement.{statement}
 use Rattle.step.proofs.walks.walk.Tie as tie
 use Rattle.step.proofs.walks.walk.Reads as reads
@@ -146,7 +146,10 @@ returns c =
       r .run .ensures .0
           ∙ ap₂ (λ (h : Held) (n : ℕ). walked S (a .replaying) (now (a .input)) h noWrite 0 n) (starts r) (t .before .before .count-of .ensures)
           ∙ sym (chosen _ _ (tested (t .before) ∙ t .if1 .taken)),
-      subst (λ (s : State). Begins (r .run .result) (traced S (a .replaying) s (now (a .input))) (r .run .last .1 .1 .1 .1 .1 .1 .1 .1 .1 .0)) (first-state r) (r .run .ensures .1),
+      λ place e.
+          r .run .ensures .1 place e
+          ∙ ap₂ (λ (h : Held) (n : ℕ). walkedLacks S (a .replaying) (now (a .input)) h 0 n) (starts r) (t .before .before .count-of .ensures),
+      subst (λ (s : State). Begins (r .run .result .answer) (traced S (a .replaying) s (now (a .input))) (r .run .last .1 .1 .1 .1 .1 .1 .1 .1 .1 .0)) (first-state r) (r .run .ensures .2),
     )
 
 refused-requires : tie.Need-refused-requires
@@ -154,7 +157,11 @@ refused-requires c κs = search needs
 
 returns-2 : tie.Need-returns-2
 unfolding walkedOver
-returns-2 c = (c .refused .ensures ∙ sym (passed _ _ (tested (c .before .before) ∙ c .before .if1 .left)), refused-begins _ _ _ _ _ (c .refused .ensures) (λ (e : _≡_ {A = ℕ} 17 14). absurd (omega arith)))
+returns-2 c = (
+  c .refused .ensures ∙ sym (passed _ _ (tested (c .before .before) ∙ c .before .if1 .left)),
+  λ place e. let z : _≡_ {A = ℕ} 17 14 = refused-number (sym (c .refused .ensures) ∙ e) in absurd (omega arith),
+  refused-begins _ _ _ _ _ (c .refused .ensures),
+)
 
 pub walk-spec : {M : Type 1} → statement M
 walk-spec =
