@@ -27,7 +27,7 @@ struct Replacement {
 #[derive(Default)]
 struct Answer {
     name: String,
-    refused: usize,
+    refused: Vec<String>,
     replacements: Vec<Replacement>,
 }
 
@@ -128,7 +128,7 @@ fn edit(path: PathBuf) -> Edit {
                 name: rest.to_string(),
                 ..Answer::default()
             }),
-            "refused" => answer.refused += 1,
+            "refused" => answer.refused.push(rest.to_string()),
             "file" => file = rest.to_string(),
             "old" => old = rest.to_string(),
             "new" => answer.replacements.push(Replacement {
@@ -229,13 +229,30 @@ fn each_wrong_answer_says_where_it_is_refused() {
         let mut names = BTreeSet::new();
         for answer in edits_of(&folder).into_iter().flat_map(|edit| edit.answers) {
             let name = format!("{}/{}", stem(&folder), answer.name);
-            assert_eq!(answer.refused, 1, "{name}");
+            assert_eq!(answer.refused.len(), 1, "{name}");
             assert!(names.insert(answer.name), "{name} is there twice");
             counted += 1;
         }
     }
     println!("{counted} wrong answers");
     assert!(counted > 0);
+}
+
+/// Where two wrong answers of one edit name one declaration, its refusal may be of either.
+#[test]
+fn each_wrong_answer_of_an_edit_has_a_place_of_its_own() {
+    for folder in crates() {
+        for edit in edits_of(&folder) {
+            let mut places = BTreeSet::new();
+            for place in edit.answers.into_iter().flat_map(|answer| answer.refused) {
+                assert!(
+                    places.insert(place.clone()),
+                    "{}: {place}",
+                    edit.path.display()
+                );
+            }
+        }
+    }
 }
 
 /// `rt` takes the replacements of an edit one after the other, each text once in its file.
