@@ -18,7 +18,7 @@ use Rattle.records.proofs.Sets.{well-formed}
 use Rattle.machine.specs.Machine.{State, start, noWrite}
 use Rattle.machine.specs.Maps.{begin, retrace}
 use Rattle.machine.specs.Runs.{after, somePermitted, endOf}
-use Rattle.machine.specs.Traces.{trace}
+use Rattle.machine.specs.Traces.{trace, stepLength}
 use Rattle.machine.specs.declared.RunAnswer.the-variants.{Ran}
 use Rattle.machine.specs.declared.Choice.{Choice}
 use Rattle.machine.specs.declared.Choice.the-variants.{Execute}
@@ -171,7 +171,7 @@ module _ (set map : List ℕ) (bound : ℕ) (accepted : setAccepted set ≡ true
         let bytes = trace S first noWrite run in
         let long = length-trace S first noWrite run in
         let bounded = fails .bounded in
-        let steps : length bytes / 24 ≡ length run = omega arith in
+        let steps : length bytes / stepLength ≡ length run = omega arith in
         ran-replayed set (decodedMap set map bound g) bytes (length run) (Code (after S first run .code)) (record {
           accepted = and-true accepted map-accepted;
           whole = omega arith;
@@ -215,7 +215,7 @@ module _ (set map : List ℕ) (bound : ℕ) (accepted : setAccepted set ≡ true
 
     -- the run that it shows
     abbrev shownRun : List Choice
-    shownRun = stepChoices (length bytes / 24) bytes
+    shownRun = stepChoices (length bytes / stepLength) bytes
 
     pub record Shown : Type 0 where
       pub failure : Failure set map bound (mapValue other) shownRun
@@ -225,7 +225,7 @@ module _ (set map : List ℕ) (bound : ℕ) (accepted : setAccepted set ≡ true
     unfolding begin
     shown-run =
         let r = replayed-ran set other bytes (to .steps) (Code (to .code)) (to .replays) in
-        let retraced = retrace-ran S (begin other) noWrite 0 (length bytes / 24) bytes (to .steps) (Code (to .code)) (r .whole) (r .retraced) in
+        let retraced = retrace-ran S (begin other) noWrite 0 (length bytes / stepLength) bytes (to .steps) (Code (to .code)) (r .whole) (r .retraced) in
         let followed = follow-ran S (begin other) 0 shownRun (to .steps) (Code (to .code)) (retraced .0) in
         let permitted = taken-run S (begin other) shownRun (followed .taken) in
         let s = start (mapValue other) in

@@ -15,7 +15,7 @@ use Rattle.records.specs.Sets.{Set, setOf, setAccepted, WellFormedSet}
 use Rattle.machine.specs.Machine.{State, start, actor, step, written, noWrite}
 use Rattle.machine.specs.Runs.{choices, takes, isRun}
 use Rattle.machine.specs.Maps.{Held, begin, outcome, advanced, onOutcome, follow, retrace}
-use Rattle.machine.specs.Traces.{traceStep, trace, stepChoice}
+use Rattle.machine.specs.Traces.{traceStep, trace, stepChoice, stepLength}
 use Rattle.machine.specs.declared.RunAnswer.{RunAnswer}
 use Rattle.machine.specs.declared.RunAnswer.the-variants.{Ran, Refused}
 use Rattle.machine.specs.declared.Choice.{Choice}
@@ -39,8 +39,8 @@ use Rattle.claims.specs.Runs.{AreBytes, Simulates, ReplayAcceptsWhatSimu
 abbrev retraceBy : Set → Held → Written → ℕ → ℕ → List ℕ → Choice → RunAnswer
 retraceBy S h w i n bytes c =
     cond (takes S (h .state) c)
-    (cond (same (take 24 bytes) (traceStep S (h .state) w c))
-    (onOutcome (outcome S h c) i (retrace S (advanced S h c) (written S (h .state) c) (suc i) n (drop 24 bytes)))
+    (cond (same (take stepLength bytes) (traceStep S (h .state) w c))
+    (onOutcome (outcome S h c) i (retrace S (advanced S h c) (written S (h .state) c) (suc i) n (drop stepLength bytes)))
     (Refused 13 i))
     (Refused 12 i)
 
@@ -65,7 +65,7 @@ none-left [] e = refl
 none-left (b ∷ bytes) e = absurd (omega arith)
 
 -- what is retraced to an end is the trace of the run that its steps show, and that run is followed to that end
-pub retrace-ran : (S : Set) (h : Held) (w : Written) (i n : ℕ) (bytes : List ℕ) (m : ℕ) (e : End) → length bytes ≡ 24 * n →
+pub retrace-ran : (S : Set) (h : Held) (w : Written) (i n : ℕ) (bytes : List ℕ) (m : ℕ) (e : End) → length bytes ≡ stepLength * n →
     retrace S h w i n bytes ≡ Ran m e →
     (follow S h i (stepChoices n bytes) ≡ Ran m e) × (bytes ≡ trace S (h .state) w (stepChoices n bytes))
 unfolding retrace follow advanced stepChoices trace
@@ -73,12 +73,12 @@ retrace-ran S h w i zero bytes m e l p = (p, none-left bytes (omega arith))
 retrace-ran S h w i (suc n) bytes m e l p =
     let c = stepChoice bytes in
     let (t, p₁) = ran-where (takes S (h .state) c) 12 i p in
-    let (s, p₂) = ran-where (same (take 24 bytes) (traceStep S (h .state) w c)) 13 i p₁ in
+    let (s, p₂) = ran-where (same (take stepLength bytes) (traceStep S (h .state) w c)) 13 i p₁ in
     let (o, p₃) = ran-taken (outcome S h c) i p₂ in
-    let l₁ : length (drop 24 bytes) ≡ 24 * n = simp length-drop (omega arith) in
-    let (f, q) = retrace-ran S (advanced S h c) (written S (h .state) c) (suc i) n (drop 24 bytes) m e l₁ p₃ in (
-      ap (λ x. onOutcome x i (follow S (advanced S h c) (suc i) (stepChoices n (drop 24 bytes)))) o ∙ f,
-      sym (take-append-drop 24 bytes) ∙ ap₂ _++_ (same-equal (take 24 bytes) (traceStep S (h .state) w c) s) q,
+    let l₁ : length (drop stepLength bytes) ≡ stepLength * n = simp length-drop (omega arith) in
+    let (f, q) = retrace-ran S (advanced S h c) (written S (h .state) c) (suc i) n (drop stepLength bytes) m e l₁ p₃ in (
+      ap (λ x. onOutcome x i (follow S (advanced S h c) (suc i) (stepChoices n (drop stepLength bytes)))) o ∙ f,
+      sym (take-append-drop stepLength bytes) ∙ ap₂ _++_ (same-equal (take stepLength bytes) (traceStep S (h .state) w c) s) q,
     )
 
 -- ---- calls that are not refused
@@ -95,32 +95,32 @@ unfolding simulated limited
 simulated-ran set map schedule room n e p =
     let (a, p₁) = ran-where (setAccepted set && mapAccepted runCells map) 9 0 p in
     let (b, p₂) = ran-after (ltb 64 (length schedule)) 17 0 p₁ in
-    let (c, p₃) = ran-after (ltb room (24 * length schedule)) 11 0 p₂ in
+    let (c, p₃) = ran-after (ltb room (stepLength * length schedule)) 11 0 p₂ in
     record { accepted = a; few = ltb-false 64 (length schedule) b; followed = p₃ }
 
 pub ran-simulated : (set map schedule : List ℕ) (n : ℕ) (e : End) → SimulatedTo set map schedule n e →
-    simulated set map schedule (24 * length schedule) ≡ Ran n e
+    simulated set map schedule (stepLength * length schedule) ≡ Ran n e
 unfolding simulated limited
 ran-simulated set map schedule n e s =
     chosen _ _ (s .accepted)
     ∙ passed _ _ (le-ltb 64 (length schedule) (s .few))
-    ∙ passed _ _ (le-ltb (24 * length schedule) (24 * length schedule) (omega arith))
+    ∙ passed _ _ (le-ltb (stepLength * length schedule) (stepLength * length schedule) (omega arith))
     ∙ s .followed
 
 -- the set and the map are accepted, and the whole records of a trace are retraced over the map, n steps to the end e
 pub record ReplayedTo (set map bytes : List ℕ) (n : ℕ) (e : End) : Type 0 where
   pub accepted : (setAccepted set && mapAccepted runCells map) ≡ true
-  pub whole : length bytes ≡ 24 * (length bytes / 24)
-  pub few : length bytes / 24 ≤ 64
-  pub retraced : retrace (setOf set) (begin map) noWrite 0 (length bytes / 24) bytes ≡ Ran n e
+  pub whole : length bytes ≡ stepLength * (length bytes / stepLength)
+  pub few : length bytes / stepLength ≤ 64
+  pub retraced : retrace (setOf set) (begin map) noWrite 0 (length bytes / stepLength) bytes ≡ Ran n e
 
 pub replayed-ran : (set map bytes : List ℕ) (n : ℕ) (e : End) → replayed set map bytes ≡ Ran n e → ReplayedTo set map bytes n e
 unfolding replayed limitedTrace
 replayed-ran set map bytes n e p =
     let (a, p₁) = ran-where (setAccepted set && mapAccepted runCells map) 9 0 p in
-    let (b, p₂) = ran-where (eqb (length bytes % 24) 0 && leb (length bytes / 24) 64) 17 0 p₁ in
-    let z = eqb-true (length bytes % 24) 0 (and-left (eqb (length bytes % 24) 0) (leb (length bytes / 24) 64) b) in
-    let few = leb-true (length bytes / 24) 64 (and-right (eqb (length bytes % 24) 0) (leb (length bytes / 24) 64) b) in
+    let (b, p₂) = ran-where (eqb (length bytes % stepLength) 0 && leb (length bytes / stepLength) 64) 17 0 p₁ in
+    let z = eqb-true (length bytes % stepLength) 0 (and-left (eqb (length bytes % stepLength) 0) (leb (length bytes / stepLength) 64) b) in
+    let few = leb-true (length bytes / stepLength) 64 (and-right (eqb (length bytes % stepLength) 0) (leb (length bytes / stepLength) 64) b) in
     record { accepted = a; whole = omega arith; few = few; retraced = p₂ }
 
 pub ran-replayed : (set map bytes : List ℕ) (n : ℕ) (e : End) → ReplayedTo set map bytes n e → replayed set map bytes ≡ Ran n e
@@ -128,7 +128,7 @@ unfolding replayed limitedTrace
 ran-replayed set map bytes n e r =
     let whole = r .whole in
     chosen _ _ (r .accepted)
-    ∙ chosen _ _ (and-true (eq-eqb (length bytes % 24) 0 (omega arith)) (le-leb (length bytes / 24) 64 (r .few)))
+    ∙ chosen _ _ (and-true (eq-eqb (length bytes % stepLength) 0 (omega arith)) (le-leb (length bytes / stepLength) 64 (r .few)))
     ∙ r .retraced
 
 -- a run's schedule is made of bytes
@@ -163,9 +163,9 @@ schedule-shown : (set map bytes : List ℕ) (n : ℕ) (e : End) (out : List ℕ)
 unfolding scheduleTrace
 schedule-shown set map bytes n e out s =
     let S = setOf set in
-    let sim = simulated-ran set map bytes (24 * length bytes) n e (s .answer) in
+    let sim = simulated-ran set map bytes (stepLength * length bytes) n e (s .answer) in
     let well = well-set set map (sim .accepted) in
-    let r = simulation-runs set map bytes (24 * length bytes) n e (s .answer) in
+    let r = simulation-runs set map bytes (stepLength * length bytes) n e (s .answer) in
     let shown = stepChoices-trace S (start (mapValue map)) noWrite (choices bytes) well (inside-start S well (mapValue map)) (r .run) in
     sym (schedule-choices bytes)
     ∙ ap schedule (sym shown ∙ ap₂ stepChoices (length-choices bytes ∙ sym (r .steps)) (s .writes))
@@ -182,8 +182,8 @@ simulation-writes set map bytes n e p =
     let S = setOf set in
     let r = replayed-ran set map bytes n e p in
     let well = well-set set map (r .accepted) in
-    let run = stepChoices (length bytes / 24) bytes in
-    let (f, t) = retrace-ran S (begin map) noWrite 0 (length bytes / 24) bytes n e (r .whole) (r .retraced) in
+    let run = stepChoices (length bytes / stepLength) bytes in
+    let (f, t) = retrace-ran S (begin map) noWrite 0 (length bytes / stepLength) bytes n e (r .whole) (r .retraced) in
     let four = well .fourThreads in
     let q = taken-run S (begin map) run (follow-ran S (begin map) 0 run n e f .taken) in
     let back = choices-schedule S (start (mapValue map)) run (omega arith) q in
@@ -193,7 +193,7 @@ simulation-writes set map bytes n e p =
       record {
         answer = ran-simulated set map (schedule run) n e (record {
           accepted = r .accepted;
-          few = omega (arith, length-schedule run, length-stepChoices (length bytes / 24) bytes);
+          few = omega (arith, length-schedule run, length-stepChoices (length bytes / stepLength) bytes);
           followed = ap (follow S (begin map) 0) back ∙ f;
         });
         writes = ap (trace S (start (mapValue map)) noWrite) back ∙ sym t;
@@ -205,12 +205,12 @@ replay-accepts : (set map bytes schedule : List ℕ) (n : ℕ) (e : End) → Sim
 unfolding begin scheduleTrace
 replay-accepts set map bytes schedule n e s =
     let S = setOf set in
-    let sim = simulated-ran set map schedule (24 * length schedule) n e (s .answer) in
+    let sim = simulated-ran set map schedule (stepLength * length schedule) n e (s .answer) in
     let well = well-set set map (sim .accepted) in
     let run = choices schedule in
     let taken = follow-ran S (begin map) 0 run n e (sim .followed) .taken in
-    let long : length bytes ≡ 24 * length run = ap length (sym (s .writes)) ∙ length-trace S (start (mapValue map)) noWrite run in
-    let steps : length bytes / 24 ≡ length run = omega arith in
+    let long : length bytes ≡ stepLength * length run = ap length (sym (s .writes)) ∙ length-trace S (start (mapValue map)) noWrite run in
+    let steps : length bytes / stepLength ≡ length run = omega arith in
     let few = sim .few in
     ran-replayed set map bytes n e (record {
       accepted = sim .accepted;

@@ -13,7 +13,7 @@ use Rattle.records.specs.Maps.{mapAccepted, setCells}
 use Rattle.records.specs.Sets.{Set}
 use Rattle.machine.specs.Machine.{start, noWrite}
 use Rattle.machine.specs.Runs.{choices, isRun}
-use Rattle.machine.specs.Traces.{trace}
+use Rattle.machine.specs.Traces.{trace, stepLength}
 use Rattle.decoding.specs.Decodings.{cellsBelow, longestMap}
 use Rattle.first_cells.specs.Firsts.{firstCell, fits, foundBy, writtenBy}
 use Rattle.first_cells.specs.declared.Found.{Found}
@@ -33,12 +33,12 @@ pub record Given (S : Set) (map : List ℕ) (first : ℕ → ℕ) (schedule befo
   pub found : cellsAfter ≡ over (cellsBelow (firstCell S map first schedule) first 65536) cellsBefore
 
 module _ (S : Set) (map : List ℕ) (first : ℕ → ℕ) (schedule before after cellsBefore cellsAfter : List ℕ) (r : Found)
-    (asked : Asked S map first schedule) (room : 24 * length schedule ≤ length before) (mapRoom : longestMap ≤ length cellsBefore) where
+    (asked : Asked S map first schedule) (room : stepLength * length schedule ≤ length before) (mapRoom : longestMap ≤ length cellsBefore) where
   ran : (fits S map schedule (length before) (length cellsBefore) && isRun S (start first) (choices schedule)) ≡ true
   ran =
-      let few : length schedule ≤ length before / 24 = omega arith in
+      let few : length schedule ≤ length before / stepLength = omega arith in
       and-true (and-true (and-true (and-true (and-true (le-leb (S .threads) 4 (asked .fewThreads)) (asked .accepted))
-      (le-leb (length schedule) 64 (asked .fewSteps))) (le-leb (length schedule) (length before / 24) few)) (le-leb longestMap (length cellsBefore) mapRoom)) (asked .runs)
+      (le-leb (length schedule) 64 (asked .fewSteps))) (le-leb (length schedule) (length before / stepLength) few)) (le-leb longestMap (length cellsBefore) mapRoom)) (asked .runs)
 
   abbrev whole : Found
   whole = record { ran = true; steps = length schedule; cells = number 65536 (firstCell S map first schedule) }

@@ -30,6 +30,7 @@ use Rattle.decoder.specs.declared.DecodeAnswer.{DecodeAnswer}
 use Rattle.decoder.specs.declared.DecodeAnswer.the-variants.{Refused as Undecoded}
 use Rattle.decoder.proofs.Sized.{Sized, sized}
 use Rattle.decoding.specs.Decodings.{longestMap}
+use Rattle.machine.specs.Traces.{stepLength}
 
 -- a model that fits has all its bits
 pub model-bits : (threads bound : ℕ) (model : List ℕ) → modelFits threads bound model ≡ true → bits threads bound ≤ length model
@@ -136,13 +137,13 @@ module _ (size bound room traceRoom mapRoom : ℕ) (h : tooShort size bound room
   work = ltb room (32 * size)
 
   abbrev outputs : Bool
-  outputs = ltb traceRoom (24 * bound)
+  outputs = ltb traceRoom (stepLength * bound)
 
   pub work-room : 32 * size ≤ room
   work-room = ltb-false room (32 * size) (or-left work outputs (or-left (work || outputs) (ltb mapRoom longestMap) h))
 
-  pub trace-room : 24 * bound ≤ traceRoom
-  trace-room = ltb-false traceRoom (24 * bound) (or-right work outputs (or-left (work || outputs) (ltb mapRoom longestMap) h))
+  pub trace-room : stepLength * bound ≤ traceRoom
+  trace-room = ltb-false traceRoom (stepLength * bound) (or-right work outputs (or-left (work || outputs) (ltb mapRoom longestMap) h))
 
   pub map-room : longestMap ≤ mapRoom
   map-room = ltb-false mapRoom longestMap (or-right (work || outputs) (ltb mapRoom longestMap) h)

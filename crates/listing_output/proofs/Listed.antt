@@ -17,7 +17,7 @@ use Rattle.machine.proofs.Runs.{AllTaken, follow-taken, length-choices, length-
 use Rattle.machine.specs.Machine.{State, step, written, noWrite, reads}
 use Rattle.machine.specs.Maps.{Held, begin, knowsAll, outcome, advanced, onOutcome, follow}
 use Rattle.machine.specs.Runs.{choiceOf, choices, takes, endOf}
-use Rattle.machine.specs.Traces.{traceStep, trace, longestTrace}
+use Rattle.machine.specs.Traces.{traceStep, trace, longestTrace, stepLength}
 use Rattle.machine.specs.declared.RunAnswer.{RunAnswer}
 use Rattle.machine.specs.declared.RunAnswer.the-variants.{Ran, Refused}
 use Rattle.machine.specs.declared.Choice.{Choice}
@@ -202,7 +202,7 @@ module _ (set map : List ℕ) (a : accepts set map ≡ true) where
 
   -- the bytes of the step that was taken
   step-bytes : (bytes trace : List ℕ) (b : ℕ) →
-      take 24 (drop (24 * length bytes) (over (scheduleTrace set map (bytes ++ (b ∷ []))) trace)) ≡ traceStep (setOf set) (heldBy bytes .state) (wroteBy bytes) (choiceOf b)
+      take stepLength (drop (stepLength * length bytes) (over (scheduleTrace set map (bytes ++ (b ∷ []))) trace)) ≡ traceStep (setOf set) (heldBy bytes .state) (wroteBy bytes) (choiceOf b)
   unfolding over scheduleTrace begin
   step-bytes bytes out b =
       let S = setOf set in
@@ -211,15 +211,15 @@ module _ (set map : List ℕ) (a : accepts set map ≡ true) where
       let all = trace S (begin map .state) noWrite (choices (bytes ++ (b ∷ []))) in
       let more = drop (length all) out in
       let e : all ≡ first ++ last = ap (trace S (begin map .state) noWrite) (choices-more bytes b) ∙ trace-more S (choiceOf b) (begin map) noWrite (choices bytes) in
-      let n : length first ≡ 24 * length bytes = length-trace S (begin map .state) noWrite (choices bytes) ∙ ap (λ (k : ℕ). 24 * k) (length-choices bytes) in
-      ap (λ (xs : List ℕ). take 24 (drop (24 * length bytes) (xs ++ more))) e
-      ∙ ap (λ (xs : List ℕ). take 24 (drop (24 * length bytes) xs)) (append-assoc first last more)
-      ∙ ap (take 24) (drop-at first (last ++ more) (24 * length bytes) n)
-      ∙ take-at last more 24 (length-traceStep S (heldBy bytes .state) (wroteBy bytes) (choiceOf b))
+      let n : length first ≡ stepLength * length bytes = length-trace S (begin map .state) noWrite (choices bytes) ∙ ap (λ (k : ℕ). stepLength * k) (length-choices bytes) in
+      ap (λ (xs : List ℕ). take stepLength (drop (stepLength * length bytes) (xs ++ more))) e
+      ∙ ap (λ (xs : List ℕ). take stepLength (drop (stepLength * length bytes) xs)) (append-assoc first last more)
+      ∙ ap (take stepLength) (drop-at first (last ++ more) (stepLength * length bytes) n)
+      ∙ take-at last more stepLength (length-traceStep S (heldBy bytes .state) (wroteBy bytes) (choiceOf b))
 
   -- its line after the lines before it
   pub line-printed : (bytes trace : List ℕ) (b : ℕ) →
-      linesOf (setOf set) (begin map) noWrite (choices bytes) ++ lineAt (take 24 (drop (24 * length bytes) (over (scheduleTrace set map (bytes ++ (b ∷ []))) trace)))
+      linesOf (setOf set) (begin map) noWrite (choices bytes) ++ lineAt (take stepLength (drop (stepLength * length bytes) (over (scheduleTrace set map (bytes ++ (b ∷ []))) trace)))
       ≡ linesOf (setOf set) (begin map) noWrite (choices (bytes ++ (b ∷ [])))
   line-printed bytes trace b =
       let S = setOf set in

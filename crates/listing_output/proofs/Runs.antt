@@ -14,7 +14,7 @@ use Rattle.machine.proofs.Runs.{AllTaken}
 use Rattle.machine.specs.Machine.{step, written}
 use Rattle.machine.specs.Maps.{Held, begin, outcome, advanced, onOutcome, follow}
 use Rattle.machine.specs.Runs.{choices, after, endOf}
-use Rattle.machine.specs.Traces.{traceStep, trace, longestTrace}
+use Rattle.machine.specs.Traces.{traceStep, trace, longestTrace, stepLength}
 use Rattle.machine.specs.declared.RunAnswer.the-variants.{Ran}
 use Rattle.machine.specs.declared.Choice.{Choice}
 use Rattle.machine.specs.declared.Outcome.{Outcome}
@@ -94,7 +94,7 @@ pub simulated-runs : (set map schedule : List ℕ) → accepts set map ≡ true 
     simulated set map schedule longestTrace ≡ follow (setOf set) (begin map) 0 (choices schedule)
 unfolding simulated limited
 simulated-runs set map schedule a h =
-    chosen _ _ a ∙ passed _ _ (le-ltb 64 (length schedule) (omega arith)) ∙ passed _ _ (le-ltb longestTrace (24 * length schedule) (omega arith))
+    chosen _ _ a ∙ passed _ _ (le-ltb 64 (length schedule) (omega arith)) ∙ passed _ _ (le-ltb longestTrace (stepLength * length schedule) (omega arith))
 
 -- the first bytes of a schedule with a byte stored after them
 pub stored : (first bytes : List ℕ) (k b : ℕ) → take k bytes ≡ first → k < length bytes → take (k + 1) (set bytes k b) ≡ first ++ (b ∷ [])

@@ -16,7 +16,7 @@ use Rattle.records.specs.Sets.{Set, WellFormedSet}
 use Rattle.machine.specs.Machine.{State, start, current, jumps, nextPc, executed, permitted, actor, acted, written, reads, step}
 use Rattle.machine.specs.Runs.{flushByte, choiceOf, choices, takes, isRun, after, endOf}
 use Rattle.machine.specs.Maps.{Held, knowsAll, outcome, advanced, onOutcome, follow}
-use Rattle.machine.specs.Traces.{bit, shown, stepBytes, traceStep, trace, stepChoice}
+use Rattle.machine.specs.Traces.{bit, shown, stepBytes, traceStep, trace, stepChoice, stepLength}
 use Rattle.machine.specs.declared.RunAnswer.{RunAnswer}
 use Rattle.machine.specs.declared.RunAnswer.the-variants.{Ran, Refused}
 use Rattle.machine.specs.declared.Choice.{Choice}
@@ -275,11 +275,11 @@ follow-ran S h i (c ∷ run) n e p =
 
 -- ---- traces
 
-pub length-traceStep : (S : Set) (s : State) (w : Written) (c : Choice) → length (traceStep S s w c) ≡ 24
+pub length-traceStep : (S : Set) (s : State) (w : Written) (c : Choice) → length (traceStep S s w c) ≡ stepLength
 unfolding traceStep stepBytes
 length-traceStep S s w c = refl
 
-pub length-trace : (S : Set) (s : State) (w : Written) (run : List Choice) → length (trace S s w run) ≡ 24 * length run
+pub length-trace : (S : Set) (s : State) (w : Written) (run : List Choice) → length (trace S s w run) ≡ stepLength * length run
 unfolding trace
 length-trace S s w [] = omega arith
 length-trace S s w (c ∷ run) =
@@ -288,20 +288,20 @@ length-trace S s w (c ∷ run) =
 
 -- a trace's first step, and what follows it
 module _ (S : Set) (s : State) (w : Written) (c : Choice) where
-  pub take-trace : (run : List Choice) → take 24 (trace S s w (c ∷ run)) ≡ traceStep S s w c
+  pub take-trace : (run : List Choice) → take stepLength (trace S s w (c ∷ run)) ≡ traceStep S s w c
   unfolding trace
-  take-trace run = take-at (traceStep S s w c) (trace S (step S s c) (written S s c) run) 24 (length-traceStep S s w c)
+  take-trace run = take-at (traceStep S s w c) (trace S (step S s c) (written S s c) run) stepLength (length-traceStep S s w c)
 
-  pub drop-trace : (run : List Choice) → drop 24 (trace S s w (c ∷ run)) ≡ trace S (step S s c) (written S s c) run
+  pub drop-trace : (run : List Choice) → drop stepLength (trace S s w (c ∷ run)) ≡ trace S (step S s c) (written S s c) run
   unfolding trace
-  drop-trace run = drop-at (traceStep S s w c) (trace S (step S s c) (written S s c) run) 24 (length-traceStep S s w c)
+  drop-trace run = drop-at (traceStep S s w c) (trace S (step S s c) (written S s c) run) stepLength (length-traceStep S s w c)
 
 -- the choice of a step is read from its own record alone
-pub stepChoice-take : (bytes : List ℕ) → stepChoice (take 24 bytes) ≡ stepChoice bytes
+pub stepChoice-take : (bytes : List ℕ) → stepChoice (take stepLength bytes) ≡ stepChoice bytes
 unfolding stepChoice
 stepChoice-take bytes =
     ap₂ (λ (n t : ℕ). cond (eqb n instructions) (Flush t) (Execute t))
-    (getD-take 24 bytes 1 0 (omega arith)) (getD-take 24 bytes 0 0 (omega arith))
+    (getD-take stepLength bytes 1 0 (omega arith)) (getD-take stepLength bytes 0 0 (omega arith))
 
 module _ (S : Set) (s : State) (w : Written) where
   -- a step's record shows its choice
@@ -325,12 +325,12 @@ module _ (S : Set) (s : State) (w : Written) where
 -- the choices that the first n steps of a trace show
 unfoldable pub stepChoices : ℕ → List ℕ → List Choice
 stepChoices zero bytes = []
-stepChoices (suc n) bytes = stepChoice bytes ∷ stepChoices n (drop 24 bytes)
+stepChoices (suc n) bytes = stepChoice bytes ∷ stepChoices n (drop stepLength bytes)
 
 pub length-stepChoices : (n : ℕ) (bytes : List ℕ) → length (stepChoices n bytes) ≡ n
 unfolding stepChoices
 length-stepChoices zero bytes = refl
-length-stepChoices (suc n) bytes = ap suc (length-stepChoices n (drop 24 bytes))
+length-stepChoices (suc n) bytes = ap suc (length-stepChoices n (drop stepLength bytes))
 
 -- a run's trace shows its choices
 pub stepChoices-trace : (S : Set) (s : State) (w : Written) (run : List Choice) → WellFormedSet S → Inside S (s .threads) →

@@ -16,7 +16,7 @@ use Rattle.records.specs.Sets.{Set}
 use Rattle.machine.specs.Machine.{noWrite, written, reads}
 use Rattle.machine.specs.Maps.{Held, begin, outcome, advanced, knowsAll, onOutcome, follow, retrace}
 use Rattle.machine.specs.Runs.{choiceOf, choices, takes}
-use Rattle.machine.specs.Traces.{traceStep, stepChoice}
+use Rattle.machine.specs.Traces.{traceStep, stepChoice, stepLength}
 use Rattle.machine.specs.declared.Outcome.{Outcome}
 use Rattle.machine.specs.declared.Outcome.the-variants.{Taken, NotPermitted, Lacking}
 use Rattle.machine.specs.declared.RunAnswer.{RunAnswer}
@@ -77,16 +77,16 @@ judged true false false i rest = refl
 judged false knows agreed i rest = refl
 
 -- the loop along a trace compares each step as the definition does
-walked-retrace : (S : Set) (trace : List ℕ) (h : Held) (w : Written) (i n : ℕ) → walked S true trace h w i n ≡ retrace S h w i n (drop (24 * i) trace)
+walked-retrace : (S : Set) (trace : List ℕ) (h : Held) (w : Written) (i n : ℕ) → walked S true trace h w i n ≡ retrace S h w i n (drop (stepLength * i) trace)
 unfolding walked retrace outcome
 walked-retrace S trace h w i zero = refl
 walked-retrace S trace h w i (suc n) =
-    let c = stepChoice (drop (24 * i) trace) in
-    let equal = same (take 24 (drop (24 * i) trace)) (traceStep S (h .state) w c) in
-    let p : 24 * i + 24 ≡ 24 * suc i = omega arith in
+    let c = stepChoice (drop (stepLength * i) trace) in
+    let equal = same (take stepLength (drop (stepLength * i) trace)) (traceStep S (h .state) w c) in
+    let p : stepLength * i + stepLength ≡ stepLength * suc i = omega arith in
     ap (onRefusal (stepRefusal (outcome S h c) equal) i) (walked-retrace S trace (advanced S h c) (written S (h .state) c) (suc i) n
-    ∙ ap (retrace S (advanced S h c) (written S (h .state) c) (suc i) n) (sym (drop-drop 24 (24 * i) trace ∙ ap (λ (k : ℕ). drop k trace) p)))
-    ∙ judged (takes S (h .state) c) (knowsAll (h .known) (reads S (h .state) c)) equal i (retrace S (advanced S h c) (written S (h .state) c) (suc i) n (drop 24 (drop (24 * i) trace)))
+    ∙ ap (retrace S (advanced S h c) (written S (h .state) c) (suc i) n) (sym (drop-drop stepLength (stepLength * i) trace ∙ ap (λ (k : ℕ). drop k trace) p)))
+    ∙ judged (takes S (h .state) c) (knowsAll (h .known) (reads S (h .state) c)) equal i (retrace S (advanced S h c) (written S (h .state) c) (suc i) n (drop stepLength (drop (stepLength * i) trace)))
 
 -- ---- the calls
 
@@ -94,15 +94,15 @@ walked-retrace S trace h w i (suc n) =
 pub over-followed : (S : Set) (map schedule : List ℕ) (room : ℕ) → walkedOver S map false schedule room ≡ followed S map schedule room
 unfolding walkedOver followed
 over-followed S map schedule room =
-    ap (λ (r : RunAnswer). cond (limits S map (length schedule) && leb (length schedule) (room / 24)) r (Refused 17 0))
+    ap (λ (r : RunAnswer). cond (limits S map (length schedule) && leb (length schedule) (room / stepLength)) r (Refused 17 0))
     (walked-follow S schedule (begin map) noWrite 0 (length schedule) (omega arith))
 
 -- and along a trace it retraces it
 pub over-retraced : (S : Set) (map trace : List ℕ) (room : ℕ) → walkedOver S map true trace room ≡ retraced S map trace
 unfolding walkedOver retraced
 over-retraced S map trace room =
-    ap₂ (λ (b : Bool) (r : RunAnswer). cond b r (Refused 17 0)) (and-yes (limits S map (length trace / 24)))
-    (walked-retrace S trace (begin map) noWrite 0 (length trace / 24))
+    ap₂ (λ (b : Bool) (r : RunAnswer). cond b r (Refused 17 0)) (and-yes (limits S map (length trace / stepLength)))
+    (walked-retrace S trace (begin map) noWrite 0 (length trace / stepLength))
   where
     and-yes : (b : Bool) → (b && true) ≡ b
     and-yes true = refl
@@ -110,10 +110,10 @@ over-retraced S map trace room =
 
 -- within the limits a run is what the definition says
 module _ (S : Set) (map : List ℕ) (few : S .threads ≤ 4) (cells-few : cells map ≤ 256) where
-  pub followed-within : (schedule : List ℕ) (room : ℕ) → length schedule ≤ 64 → length schedule ≤ room / 24 → followed S map schedule room ≡ follow S (begin map) 0 (choices schedule)
+  pub followed-within : (schedule : List ℕ) (room : ℕ) → length schedule ≤ 64 → length schedule ≤ room / stepLength → followed S map schedule room ≡ follow S (begin map) 0 (choices schedule)
   unfolding followed
-  followed-within schedule room short fits = chosen _ _ (and-true (and-true (and-true (le-leb _ _ few) (le-leb (cells map) 256 cells-few)) (le-leb _ _ short)) (le-leb (length schedule) (room / 24) fits))
+  followed-within schedule room short fits = chosen _ _ (and-true (and-true (and-true (le-leb _ _ few) (le-leb (cells map) 256 cells-few)) (le-leb _ _ short)) (le-leb (length schedule) (room / stepLength) fits))
 
-  pub retraced-within : (trace : List ℕ) → length trace / 24 ≤ 64 → retraced S map trace ≡ retrace S (begin map) noWrite 0 (length trace / 24) trace
+  pub retraced-within : (trace : List ℕ) → length trace / stepLength ≤ 64 → retraced S map trace ≡ retrace S (begin map) noWrite 0 (length trace / stepLength) trace
   unfolding retraced
-  retraced-within trace short = chosen _ _ (and-true (and-true (le-leb _ _ few) (le-leb (cells map) 256 cells-few)) (le-leb (length trace / 24) 64 short))
+  retraced-within trace short = chosen _ _ (and-true (and-true (le-leb _ _ few) (le-leb (cells map) 256 cells-few)) (le-leb (length trace / stepLength) 64 short))

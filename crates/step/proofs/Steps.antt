@@ -28,7 +28,7 @@ use Rattle.step.specs.Step.{onTaken}
 use Rattle.machine.specs.Machine.{State, fresh, unmarked, markedAt, actor, start, step, written, noWrite, memoryAfter, reads}
 use Rattle.machine.specs.Maps.{Held, begin, outcome, advanced, knowsAll, knownAfter, onOutcome, follow}
 use Rattle.machine.specs.Runs.{choiceOf, choices, somePermitted, endOf}
-use Rattle.machine.specs.Traces.{stepBytes, traceStep, trace}
+use Rattle.machine.specs.Traces.{stepBytes, traceStep, trace, stepLength}
 use Rattle.machine.specs.declared.RunAnswer.{RunAnswer}
 use Rattle.machine.specs.declared.RunAnswer.the-variants.{Refused}
 use Rattle.machine.specs.declared.Choice.{Choice}
@@ -273,16 +273,16 @@ module _ (S : Set) (schedule : List ℕ) (i : ℕ) (l : i < length schedule) (c 
   trace-next s w = ap (trace S s w) next-choice
 
   -- the trace so far, with one step more
-  pub trace-more : (s : State) (w : Written) (bytes : List ℕ) → 24 * i + 24 ≤ length bytes →
-      take (24 * i) bytes ++ trace S s w (choices (drop i schedule))
-      ≡ take (24 * (i + 1)) (placed bytes (24 * i) (traceStep S s w c)) ++ trace S (step S s c) (written S s c) (choices (drop (i + 1) schedule))
+  pub trace-more : (s : State) (w : Written) (bytes : List ℕ) → stepLength * i + stepLength ≤ length bytes →
+      take (stepLength * i) bytes ++ trace S s w (choices (drop i schedule))
+      ≡ take (stepLength * (i + 1)) (placed bytes (stepLength * i) (traceStep S s w c)) ++ trace S (step S s c) (written S s c) (choices (drop (i + 1) schedule))
   trace-more s w bytes h =
       let n = length-traceStep S s w c in
-      let m : 24 * i + length (traceStep S s w c) ≡ 24 * (i + 1) = omega arith in
-      ap (λ (t : List ℕ). take (24 * i) bytes ++ t) (trace-next s w)
-      ∙ sym (append-assoc (take (24 * i) bytes) (traceStep S s w c) _)
+      let m : stepLength * i + length (traceStep S s w c) ≡ stepLength * (i + 1) = omega arith in
+      ap (λ (t : List ℕ). take (stepLength * i) bytes ++ t) (trace-next s w)
+      ∙ sym (append-assoc (take (stepLength * i) bytes) (traceStep S s w c) _)
       ∙ ap (λ (t : List ℕ). t ++ trace S (step S s c) (written S s c) (choices (drop (i + 1) schedule)))
-      (sym (take-placed bytes (24 * i) (traceStep S s w c) (omega arith)) ∙ ap (λ (k : ℕ). take k (placed bytes (24 * i) (traceStep S s w c))) m)
+      (sym (take-placed bytes (stepLength * i) (traceStep S s w c) (omega arith)) ∙ ap (λ (k : ℕ). take k (placed bytes (stepLength * i) (traceStep S s w c))) m)
 
 -- ---- the start over a map
 

@@ -26,7 +26,7 @@ use Rattle.listing_output.proofs.Runs.{linesOf, stored}
 use Rattle.listing_output.proofs.Texts.{stands-as, stands-none}
 use Rattle.listing_output.proofs.run.Statement.{statement}
 use Rattle.listing_output.proofs.run.Tie as tie
-use Rattle.machine.specs.Traces.{longestTrace}
+use Rattle.machine.specs.Traces.{longestTrace, stepLength}
 
 abbrev Inv-loop : tie.InvT-loop
 Inv-loop set map out₀ schedule₀ trace₀ at₀ k₀ out schedule trace at k =
@@ -69,16 +69,16 @@ answered x = x .simulate .ensures .0 ∙ ap₂ (λ (run : List ℕ) (room : ℕ)
 
 -- the bytes of the step that was taken
 abbrev step-of : tie.After-simulate Inv-loop μ-loop → List ℕ
-step-of x = let k = x .before .before .before .before .before .loop .k in take (24 * k + 24 - 24 * k) (drop (24 * k) (x .simulate .last .1 .1 .1 .0))
+step-of x = let k = x .before .before .before .before .before .loop .k in take (stepLength * k + stepLength - stepLength * k) (drop (stepLength * k) (x .simulate .last .1 .1 .1 .0))
 
 step-written : (x : tie.After-simulate Inv-loop μ-loop) {m : ℕ} {e : End} → x .simulate .result ≡ Ran m e →
-    step-of x ≡ take 24 (drop (24 * length (bytes-of x)) (over (scheduleTrace (set-of x) (map-of x) (more-of x)) (x .before .before .before .before .before .loop .trace)))
+    step-of x ≡ take stepLength (drop (stepLength * length (bytes-of x)) (over (scheduleTrace (set-of x) (map-of x) (more-of x)) (x .before .before .before .before .before .loop .trace)))
 step-written x {m} {e} p =
     let k = x .before .before .before .before .before .loop .k in
     let out = x .simulate .ensures .1 ∙ ap₂ (λ (r : RunAnswer) (run : List ℕ). traceOutput r (set-of x) (map-of x) run (x .before .before .before .before .before .loop .trace)) p (grown x) in
-    let n : 24 * k + 24 - 24 * k ≡ 24 = omega arith in
-    ap₂ (λ (n : ℕ) (bytes : List ℕ). take n (drop (24 * k) bytes)) n out
-    ∙ ap (λ (i : ℕ). take 24 (drop (24 * i) (over (scheduleTrace (set-of x) (map-of x) (more-of x)) (x .before .before .before .before .before .loop .trace)))) (sym (bytes-length x))
+    let n : stepLength * k + stepLength - stepLength * k ≡ stepLength = omega arith in
+    ap₂ (λ (n : ℕ) (bytes : List ℕ). take n (drop (stepLength * k) bytes)) n out
+    ∙ ap (λ (i : ℕ). take stepLength (drop (stepLength * i) (over (scheduleTrace (set-of x) (map-of x) (more-of x)) (x .before .before .before .before .before .loop .trace)))) (sym (bytes-length x))
 
 -- a step is left
 left : (x : tie.After-simulate Inv-loop μ-loop) → 64 - x .before .before .before .before .before .loop .k ≡ suc (64 - (x .before .before .before .before .before .loop .k + 1))

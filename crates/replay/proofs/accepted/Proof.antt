@@ -16,6 +16,7 @@ use Rattle.replay.proofs.accepted.Reads as reads
 use Rattle.replay.proofs.accepted.Lts as lts
 use Rattle.replay.proofs.refused.Reads as refused-reads
 use Rattle.step.proofs.retrace.Reads as retrace-reads
+use Rattle.machine.specs.Traces.{stepLength}
 
 refused-requires : tie.Need-refused-requires
 refused-requires c κs = search needs
@@ -24,7 +25,7 @@ returns : tie.Need-returns
 unfolding limitedTrace
 returns c =
     let t = now (c .before .before .before .before .before .args .trace) in
-    c .refused .ensures ∙ sym (passed _ _ (and-false (leb (length t / 24) 64) (ne-eqb _ _ (c .before .if1 .taken))))
+    c .refused .ensures ∙ sym (passed _ _ (and-false (leb (length t / stepLength) 64) (ne-eqb _ _ (c .before .if1 .taken))))
 
 refused-requires-2 : tie.Need-refused-requires-2
 refused-requires-2 c κs = search needs
@@ -33,7 +34,7 @@ returns-2 : tie.Need-returns-2
 unfolding limitedTrace
 returns-2 c =
     let t = now (c .before .before .before .before .before .before .args .trace) in
-    c .refused2 .ensures ∙ sym (passed _ _ (and-right-false (eqb (length t % 24) 0) (lt-leb _ _ (c .before .if2 .taken))))
+    c .refused2 .ensures ∙ sym (passed _ _ (and-right-false (eqb (length t % stepLength) 0) (lt-leb _ _ (c .before .if2 .taken))))
 
 retrace-requires : tie.Need-retrace-requires
 retrace-requires c κs = search needs

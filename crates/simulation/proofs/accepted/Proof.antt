@@ -10,7 +10,7 @@ use borrow.Author.Needs.{needs}
 use borrow.Author.Tests.{lt-ltb, le-ltb}
 use Rattle.simulation.proofs.Written.{out-most, put-out}
 use Rattle.simulation.specs.Simulation.{limited}
-use Rattle.machine.specs.Traces.{trace, longestTrace}
+use Rattle.machine.specs.Traces.{trace, longestTrace, stepLength}
 use Rattle.machine.specs.Runs.{choices}
 use Rattle.machine.specs.Machine.{start, noWrite}
 use Rattle.machine.proofs.Runs.{length-trace, length-choices}
@@ -61,12 +61,12 @@ decided r =
 abbrev output-of : tie.After-follow → List ℕ
 output-of r = trace (set-of r) (start (mapValue (map-of r))) noWrite (choices (schedule-of r))
 
-output-length : (r : tie.After-follow) → length (output-of r) ≡ 24 * length (schedule-of r)
-output-length r = length-trace (set-of r) _ noWrite (choices (schedule-of r)) ∙ ap (λ (n : ℕ). 24 * n) (length-choices (schedule-of r))
+output-length : (r : tie.After-follow) → length (output-of r) ≡ stepLength * length (schedule-of r)
+output-length r = length-trace (set-of r) _ noWrite (choices (schedule-of r)) ∙ ap (λ (n : ℕ). stepLength * n) (length-choices (schedule-of r))
 
 -- what is written lies within the bytes
-sized : (c : tie.After-bytes-out) → let r = c .before .before in c .bytes-out .result ≤ 24 * length (schedule-of r)
-sized c = let r = c .before .before in omega (arith, c .bytes-out .ensures, out-most (r .follow .result .answer) (24 * length (schedule-of r)))
+sized : (c : tie.After-bytes-out) → let r = c .before .before in c .bytes-out .result ≤ stepLength * length (schedule-of r)
+sized c = let r = c .before .before in omega (arith, c .bytes-out .ensures, out-most (r .follow .result .answer) (stepLength * length (schedule-of r)))
 
 returns : tie.Need-returns
 unfolding limited
@@ -113,7 +113,7 @@ returns-3 c =
       sym (decided r),
       c .before .before .place .ensures
           ∙ ap (λ (k : ℕ). placed (out-of r) 0 (take k (bytes-of r))) (o .bytes-out .ensures)
-          ∙ put-out (r .follow .result .answer) (bytes-of r) (output-of r) (out-of r) (24 * length (schedule-of r)) (output-length r) (r .before .before .if2 .left) (r .follow .ensures .2),
+          ∙ put-out (r .follow .result .answer) (bytes-of r) (output-of r) (out-of r) (stepLength * length (schedule-of r)) (output-length r) (r .before .before .if2 .left) (r .follow .ensures .2),
     )
 
 pub accepted-spec : {M : Type 1} → statement M

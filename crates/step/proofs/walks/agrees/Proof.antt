@@ -12,6 +12,7 @@ use Rattle.step.proofs.walks.agrees.Tie as tie
 use Rattle.step.proofs.walks.agrees.Reads as reads
 use Rattle.step.proofs.walks.agrees.Lts as lts
 use Rattle.base.proofs.same.Reads as same-reads
+use Rattle.machine.specs.Traces.{stepLength}
 
 mul-at : tie.Need-mul-at
 mul-at c = search needs
@@ -38,8 +39,8 @@ returns : tie.Need-returns
 returns c =
     let s = c .before .before .before .before .before in
     let a = s .args in
-    let d : 24 * a .i + 24 - 24 * a .i ≡ 24 = omega arith in
-    c .same .ensures ∙ ap (λ (n : ℕ). same (take n (drop (24 * a .i) (now (a .input)))) (a .t4)) d ∙ sym (chosen _ _ (c .before .before .before .if1 .taken))
+    let d : stepLength * a .i + stepLength - stepLength * a .i ≡ stepLength = omega arith in
+    c .same .ensures ∙ ap (λ (n : ℕ). same (take n (drop (stepLength * a .i) (now (a .input)))) (a .t4)) d ∙ sym (chosen _ _ (c .before .before .before .if1 .taken))
 
 returns-2 : tie.Need-returns-2
 returns-2 c = search needs

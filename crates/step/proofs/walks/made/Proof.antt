@@ -1,6 +1,6 @@
 -- `step::walks::made` meets its contract. Assumes nothing.
 use Rattle.machine.specs.declared.Choice.the-variants.{Execute, Flush}
-use Rattle.machine.specs.Traces.{stepChoice}
+use Rattle.machine.specs.Traces.{stepChoice, stepLength}
 use Rattle.machine.specs.Runs.{choiceOf}
 use Rattle.base.proofs.Choice.{chosen, passed}
 use borrow.Author.Tests.{eq-eqb, ne-eqb}
@@ -44,14 +44,14 @@ returns c =
     let a = c .before .before .before .before .before .args in
     let n = c .before .byte-at2 .ensures in
     ap Flush (c .before .before .byte-at .ensures)
-    ∙ sym (chosen _ _ (c .before .before .before .if1 .taken) ∙ read (now (a .input)) (24 * a .i) ∙ chosen _ _ (sym (ap (λ (k : ℕ). eqb k 20) n) ∙ eq-eqb _ _ (c .if2 .taken)))
+    ∙ sym (chosen _ _ (c .before .before .before .if1 .taken) ∙ read (now (a .input)) (stepLength * a .i) ∙ chosen _ _ (sym (ap (λ (k : ℕ). eqb k 20) n) ∙ eq-eqb _ _ (c .if2 .taken)))
 
 returns-2 : tie.Need-returns-2
 returns-2 c =
     let a = c .before .before .before .before .before .args in
     let n = c .before .byte-at2 .ensures in
     ap Execute (c .before .before .byte-at .ensures)
-    ∙ sym (chosen _ _ (c .before .before .before .if1 .taken) ∙ read (now (a .input)) (24 * a .i) ∙ passed _ _ (sym (ap (λ (k : ℕ). eqb k 20) n) ∙ ne-eqb _ _ (c .if2 .left)))
+    ∙ sym (chosen _ _ (c .before .before .before .if1 .taken) ∙ read (now (a .input)) (stepLength * a .i) ∙ passed _ _ (sym (ap (λ (k : ℕ). eqb k 20) n) ∙ ne-eqb _ _ (c .if2 .left)))
 
 byte-at-requires-3 : tie.Need-byte-at-requires-3
 byte-at-requires-3 c κs = search needs

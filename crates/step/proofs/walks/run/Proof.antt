@@ -18,7 +18,7 @@ use Rattle.step.specs.Acting.{canStep, marksGiven}
 use Rattle.machine.specs.Machine.{State, fresh, unmarked, markedAt, noWrite, actor, step, written, reads}
 use Rattle.machine.specs.Maps.{Held, outcome, advanced}
 use Rattle.machine.specs.Runs.{choices}
-use Rattle.machine.specs.Traces.{stepBytes, traceStep, trace}
+use Rattle.machine.specs.Traces.{stepBytes, traceStep, trace, stepLength}
 use Rattle.machine.specs.declared.RunAnswer.{RunAnswer}
 use Rattle.machine.specs.declared.RunAnswer.the-variants.{Ran}
 use Rattle.machine.specs.declared.Choice.{Choice}
@@ -62,8 +62,8 @@ Running S replaying input count h₀ bytes m addresses values filled wrote steps
     × (filled + budget ≤ length addresses)
     × (filled + budget ≤ length values)
     × (walked S replaying input h₀ noWrite 0 count ≡ walked S replaying input (heldOf m addresses values filled) wrote steps budget)
-    × (replaying ≡ false → (24 * count ≤ length bytes)
-    × (trace S (h₀ .state) noWrite (choices input) ≡ take (24 * steps) bytes ++ trace S (stateOf m (memoryOf addresses values filled)) wrote (choices (drop steps input))))
+    × (replaying ≡ false → (stepLength * count ≤ length bytes)
+    × (trace S (h₀ .state) noWrite (choices input) ≡ take (stepLength * steps) bytes ++ trace S (stateOf m (memoryOf addresses values filled)) wrote (choices (drop steps input))))
     × (length (m .threads) ≡ 4)
     × (length (m .marks) ≡ 4)
     × (walkedLacks S replaying input h₀ 0 count ≡ walkedLacks S replaying input (heldOf m addresses values filled) steps budget)
@@ -193,9 +193,9 @@ module _ (x : Turn) (acts : actor (choice-of x) < set-of x .threads) where
   traced-on : replaying-of x ≡ false →
       let a = start-of x .args in
       let i = steps-of x in
-      (24 * a .count ≤ length (place-at x .place .last .0))
+      (stepLength * a .count ≤ length (place-at x .place .last .0))
       × (trace (set-of x) (stateOf (a .first) (memoryOf (now (a .addresses)) (now (a .values)) (a .cells))) noWrite (choices (input-of x))
-      ≡ take (24 * (i + 1)) (place-at x .place .last .0) ++ trace (set-of x) (step (set-of x) (held-of x .state) (choice-of x)) (written (set-of x) (held-of x .state) (choice-of x)) (choices (drop (i + 1) (input-of x))))
+      ≡ take (stepLength * (i + 1)) (place-at x .place .last .0) ++ trace (set-of x) (step (set-of x) (held-of x .state) (choice-of x)) (written (set-of x) (held-of x .state) (choice-of x)) (choices (drop (i + 1) (input-of x))))
   traced-on f =
       let l = loop-at x .loop in
       let i = steps-of x in
@@ -206,8 +206,8 @@ module _ (x : Turn) (acts : actor (choice-of x) < set-of x .threads) where
         omega (arith, more .0, place-at x .place .kept .0),
         more .1
             ∙ trace-more (set-of x) (input-of x) i left (choice-of x) (made-at x .made .ensures ∙ passed _ _ f) s (wrote-of x) (l .trace) (omega (arith, more .0, goes x, l .inv .6 .0))
-            ∙ ap (λ (bytes : List ℕ). take (24 * (i + 1)) bytes ++ trace (set-of x) (step (set-of x) s (choice-of x)) (written (set-of x) s (choice-of x)) (choices (drop (i + 1) (input-of x))))
-            (sym (place-at x .place .ensures ∙ ap (placed (l .trace) (24 * i)) (bytes-at x ∙ shown-bytes (set-of x) (machine-of x) (memory-of x) (known-of x) (choice-of x) (few x) (told x) (room x) acts (wrote-of x)))),
+            ∙ ap (λ (bytes : List ℕ). take (stepLength * (i + 1)) bytes ++ trace (set-of x) (step (set-of x) s (choice-of x)) (written (set-of x) s (choice-of x)) (choices (drop (i + 1) (input-of x))))
+            (sym (place-at x .place .ensures ∙ ap (placed (l .trace) (stepLength * i)) (bytes-at x ∙ shown-bytes (set-of x) (machine-of x) (memory-of x) (known-of x) (choice-of x) (few x) (told x) (room x) acts (wrote-of x)))),
       )
 
 -- ---- a turn that lacks a first cell
@@ -250,7 +250,7 @@ module _ (x : Turn) (zero : x .refusal-of .result ≡ 0) where
         judged x ∙ ap (λ (n : ℕ). onRefusal n i (rest-of x)) zero
             ∙ ap₂ (λ (k : Held) (w : Written). walked (set-of x) (replaying-of x) (input-of x) k w (i + 1) (l .budget - 1)) (sym h) (sym w),
         λ f. let t = traced-on x (acting (set-of x) (machine-of x) (memory-of x) (known-of x) (choice-of x) (few x) (told x) (room x) taken) f in
-            (t .0, t .1 ∙ ap₂ (λ (s : State) (w : Written). take (24 * (i + 1)) (place-at x .place .last .0) ++ trace (set-of x) s w (choices (drop (i + 1) (input-of x)))) (ap (λ (k : Held). k .state) (sym h)) (sym w)),
+            (t .0, t .1 ∙ ap₂ (λ (s : State) (w : Written). take (stepLength * (i + 1)) (place-at x .place .last .0) ++ trace (set-of x) s w (choices (drop (i + 1) (input-of x)))) (ap (λ (k : Held). k .state) (sym h)) (sym w)),
         threads,
         marks,
         lacked x ∙ ap (λ (o : Outcome). onTaken o (lacks-of x) (unknown (known-of x) (reads (set-of x) (held-of x .state) (choice-of x)))) taken
@@ -473,8 +473,8 @@ returns-2 c =
           let g : length (now (a .input)) ≤ l .steps = omega (arith, n, z, l .inv .6 .0) in
           let d : drop (l .steps) (now (a .input)) ≡ [] = drop-of-length-le (now (a .input)) g in
           let more = l .inv .6 .4 f in
-          let q = more .1 ∙ ap (λ (ks : List ℕ). take (24 * l .steps) (l .trace) ++ trace S (stateOf (l .m) memory) (l .wrote) (choices ks)) d ∙ append-nil (take (24 * l .steps) (l .trace)) in
-          ap (λ (n : ℕ). take n (l .trace)) (ap length q ∙ length-take-le (24 * l .steps) (l .trace) (omega (arith, more .0, l .inv .6 .0))) ∙ sym q),
+          let q = more .1 ∙ ap (λ (ks : List ℕ). take (stepLength * l .steps) (l .trace) ++ trace S (stateOf (l .m) memory) (l .wrote) (choices ks)) d ∙ append-nil (take (stepLength * l .steps) (l .trace)) in
+          ap (λ (n : ℕ). take n (l .trace)) (ap length q ∙ length-take-le (stepLength * l .steps) (l .trace) (omega (arith, more .0, l .inv .6 .0))) ∙ sym q),
     )
 
 pub run-spec : {M : Type 1} → statement M

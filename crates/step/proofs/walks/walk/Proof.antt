@@ -27,6 +27,7 @@ use Rattle.step.proofs.walks.count_of.Reads as count-of-reads
 use Rattle.step.proofs.walks.fresh_machine.Reads as fresh-machine-reads
 use Rattle.step.proofs.walks.refused.Reads as refused-reads
 use Rattle.step.proofs.walks.run.Reads as run-reads
+use Rattle.machine.specs.Traces.{stepLength}
 
 -- ---- the limits
 
@@ -43,7 +44,7 @@ abbrev count-test : tie.After-struct-known → Bool
 count-test k = leb (k .before .count-of .result) 64
 
 abbrev room-test : tie.After-struct-known → Bool
-room-test k = start-of k .args .replaying || leb (k .before .count-of .result) (length (now (start-of k .args .trace)) / 24)
+room-test k = start-of k .args .replaying || leb (k .before .count-of .result) (length (now (start-of k .args .trace)) / stepLength)
 
 tested : (k : tie.After-struct-known) →
     let a = start-of k .args in
@@ -51,7 +52,7 @@ tested : (k : tie.After-struct-known) →
     ≡ (threads-test k && cells-test k && count-test k && room-test k)
 tested k =
     let a = start-of k .args in
-    ap (λ (n : ℕ). threads-test k && cells-test k && leb n 64 && (a .replaying || leb n (length (now (a .trace)) / 24))) (sym (k .before .count-of .ensures))
+    ap (λ (n : ℕ). threads-test k && cells-test k && leb n 64 && (a .replaying || leb n (length (now (a .trace)) / stepLength))) (sym (k .before .count-of .ensures))
 
 module _ (c : tie.Then1) where
   abbrev k : tie.After-struct-known
@@ -69,9 +70,9 @@ module _ (c : tie.Then1) where
   few-steps : k .before .count-of .result ≤ 64
   few-steps = leb-true _ _ (and-right (threads-test k && cells-test k) (count-test k) three)
 
-  roomy : start-of k .args .replaying ≡ false → 24 * k .before .count-of .result ≤ length (now (start-of k .args .trace))
+  roomy : start-of k .args .replaying ≡ false → stepLength * k .before .count-of .result ≤ length (now (start-of k .args .trace))
   roomy f =
-      let n = length (now (start-of k .args .trace)) / 24 in
+      let n = length (now (start-of k .args .trace)) / stepLength in
       let q = ap (λ (r : Bool). r || leb (k .before .count-of .result) n) (sym f) ∙ and-right (threads-test k && cells-test k && count-test k) (room-test k) (c .if1 .taken) in
       let h = leb-true (k .before .count-of .result) n q in
       omega (arith, h)
