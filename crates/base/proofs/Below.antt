@@ -1,7 +1,7 @@
 -- Laws of tests over the numbers below a bound: what one turn of a loop over them needs. Assumes nothing.
 use Prim.Native.Nat.{ℕ, zero, suc, _+_, _≤_, _<_}
 use mathlib.Core.Path.{_≡_, refl, ap, ap₂, _∙_}
-use mathlib.Core.Bool.{Bool, true, false, cond, not}
+use mathlib.Core.Bool.{Bool, true, false, cond}
 use native.Mathlib.Omega.{arith}
 use native.Mathlib.Numerals.{add-one}
 use native.Mathlib.Decide.{ℕ-discrete, decLt}
@@ -194,3 +194,8 @@ least-none test zero f = refl
 least-none test (suc n) f =
     let before = least-none test n (λ i h. f i (omega arith)) in
     passed _ _ (le-ltb (least n test) n (omega arith)) ∙ passed _ _ (f n (omega arith))
+
+pub some-none : (test : ℕ → Bool) (n : ℕ) → ((i : ℕ) → i < n → test i ≡ false) → some n test ≡ false
+unfolding some
+some-none test zero f = refl
+some-none test (suc n) f = or-false (some-none test n (λ i h. f i (omega arith))) (f n (omega arith))

@@ -10,7 +10,7 @@ use lib.ListN.{length, drop}
 use borrow.Author.Tests.{eqb-true, ltb-true, ltb-false, leb-true, lt-ltb, le-leb, eq-eqb, ne-eqb, not-true}
 use Rattle.base.specs.Below.{some, number, least}
 use Rattle.base.specs.Bytes.{same}
-use Rattle.base.proofs.Below.{every-all, some-at, least-passes, number-no}
+use Rattle.base.proofs.Below.{every-all, some-at, some-none, least-passes, number-no}
 use Rattle.base.proofs.Bytes.{same-self, same-equal}
 use Rattle.base.proofs.Choice.{chosen, passed, and-true, and-left, and-right, refuted, clash}
 use Rattle.records.specs.Instructions.{CHECK, isJump}
@@ -24,7 +24,7 @@ use Rattle.text.specs.Sections.{Threads, dots}
 use Rattle.text.specs.Records.{isNamed, pcOf, argumentOf, setBytes, statementsBefore, mapCell}
 use Rattle.text.specs.Answers.{lineRefusal, refusalIn, threadsFit, statementsFit, doubledAt, targetFits, threadFits, labelsFit, checkpointsFit, addressDoubled, mapFits}
 use Rattle.text.proofs.Accepted.{plain-argument, target-below, statement-fits, counts-between}
-use Rattle.text.proofs.Below.{cond-where, between, some-found, some-none, least-found}
+use Rattle.text.proofs.Below.{cond-where, between, some-found, least-found}
 use Rattle.text.proofs.Sets.{records-set, place-below, number-set, argument-set, place}
 use Rattle.text.proofs.Statements.{Kept}
 use Rattle.claims.specs.Sections.{line, sections, sectionOf}

@@ -18,9 +18,13 @@ ofStatement kind =
 abbrev pub wide : ℕ → Bool
 wide kind = ofStatement kind || eqb kind (kindNumber flag)
 
--- the length of a kind's rows: the statements of a thread, else one more than there are choices
+-- the columns of a kind that is not of statements: one more than there are choices
+abbrev pub mostColumns : ℕ
+mostColumns = mostThreads + mostThreads + 1
+
+-- the length of a kind's rows
 abbrev pub width : ℕ → ℕ
-width kind = cond (wide kind) mostStatements (mostThreads + mostThreads + 1)
+width kind = cond (wide kind) mostStatements mostColumns
 
 -- where the rows of a kind begin: the kinds stand one after another
 unfoldable pub begin : ℕ → ℕ

@@ -4,7 +4,7 @@ use Prim.Native.Nat.{ℕ, _+_, _<_, _*_}
 use mathlib.Core.Path.{_≡_}
 use mathlib.Core.Bool.{true, false}
 use mathlib.Core.List.{List}
-use Rattle.records.specs.Sets.{Set, mostThreads}
+use Rattle.records.specs.Sets.{Set}
 use Rattle.encoding.specs.Slots.{kindAt, kindNumber, kindCount, flag}
 use Rattle.encoding.specs.Steps.{perThread, beforeThread, shape, link, links, kept}
 use Rattle.encoder_slots.specs.Places.{ofStatement}
@@ -14,10 +14,6 @@ use Rattle.encoder_slots.specs.Pieces.{blockRoom}
 -- the most records of a step: of the values of its kinds, and its constraint
 abbrev pub stepRoom : ℕ
 stepRoom = 36 * blockRoom + 2
-
--- the most columns of a kind that is not of statements: one more than there are choices
-abbrev pub mostColumns : ℕ
-mostColumns = mostThreads + mostThreads + 1
 
 -- the value of a kind for a and b is there, and has no links
 pub record BareEntry (S : Set) (cs : List ℕ) (kind a b : ℕ) : Type 0 where

@@ -11,9 +11,9 @@ ghost use Rattle.encoding.specs.Slots.{kindAt, kindNumber, kindCount, mayExecut
 ghost use Rattle.encoding.specs.Steps.{single, shape, rows as rowsOf, columns as columnsOf, entry as entryOf, block as blockOf, blocks as blocksOf, ruled, step as stepOf};
 ghost use Rattle.set_index.specs.Points.{listed};
 ghost use Rattle.encoder_slots.specs.Pieces.{Writes, Ready, treeRoom, entryRoom, blockRoom};
-ghost use Rattle.encoder_slots.specs.Places.{ofStatement};
+ghost use Rattle.encoder_slots.specs.Places.{ofStatement, mostColumns};
 ghost use Rattle.encoder_chains.specs.Chained.{chained};
-ghost use Rattle.encoder_step.specs.Entries.{stepRoom, mostColumns, BareEntry, GivenEntry, ByThread, AfterThread};
+ghost use Rattle.encoder_step.specs.Entries.{stepRoom, BareEntry, GivenEntry, ByThread, AfterThread};
 ghost use Rattle.table.specs.Repeats.{lastIndex};
 use encoder_slots::BLOCK;
 use encoder_slots::SIZE;

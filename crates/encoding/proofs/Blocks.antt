@@ -7,7 +7,7 @@ use native.Mathlib.Omega.{arith}
 use native.Mathlib.Decide.{ℕ-discrete, decLt}
 use borrow.Author.Tests.{lt-ltb, le-ltb, ltb-true, eqb-true, not-true, eq-eqb, ne-eqb}
 use lib.Dec.{eqb, ltb}
-use Rattle.base.proofs.Choice.{chosen, passed, and-true, and-left, and-right, and-false, and-right-false, clash}
+use Rattle.base.proofs.Choice.{chosen, passed, cond-both, and-true, and-left, and-right, and-false, and-right-false, clash}
 use Rattle.records.specs.Sets.{Set}
 use Rattle.table.proofs.Sequences.{values-++, upto-last, upto-none}
 use Rattle.table.specs.Programs.{ref, leaf, unary, binary, ternary, unaryValue, binaryValue, ternaryValue, treeValue, Command, sets, upto, valuesAfter}
@@ -24,6 +24,9 @@ refs test (leaf l) = true
 refs test (unary o a) = refs test a
 refs test (binary o a b) = refs test a && refs test b
 refs test (ternary o a b c) = refs test a && (refs test b && refs test c)
+
+pub refs-both : (test : Slot → Bool) (b : Bool) (t u : Term) → refs test t ≡ true → refs test u ≡ true → refs test (cond b t u) ≡ true
+refs-both test b t u = cond-both (λ (t : Term). refs test t ≡ true) b {x = t} {y = u}
 
 -- that a link names
 abbrev pub linkRefs : (Slot → Bool) → Link → Bool

@@ -15,7 +15,7 @@ use Rattle.table.specs.Programs.{ref, unary, binary, not1, and2, equal2, read2,
 use Rattle.table.specs.Values.{Assignment, Value}
 use Rattle.encoding.specs.Slots.{Kind, choice, active, opening, shut, barred, held, waits, mayExecute, none, permittedFirst, onePermitted, address, loaded, swaps, result, test, notTest, flushTo, writeTo, flushValue, writeValue, raised, exits, codes, sharedMemory, val, adr, mem, accu, full, halted, flag, mark, halts, ended, code, bitZero, bitOne, wordZero, wordOne, argument, Slot, slot, Term}
 use Rattle.encoding.specs.Steps.{Link, skip, ifThen, andWith, orWith, only, word0, shape, loads, setsAccu, isConditional, isOneWay, isPlain, rests, numberOf, argumentOf, checkpoint, has, loadTree, resultTree, testTree, base, leads, links, link, tree, rows, columns, kept, indirectTree, noneTree, leavingTree}
-use Rattle.encoding.proofs.Blocks.{refs, linkRefs, chain-refs, own, earlier, afterBlock, settled, scanned}
+use Rattle.encoding.proofs.Blocks.{refs, refs-both, linkRefs, chain-refs, own, earlier, afterBlock, settled, scanned}
 use Rattle.encoding.proofs.Results.{result-each, test-each}
 
 -- kinds whose trees name the slot before theirs
@@ -63,9 +63,6 @@ scans wordOne = false
 scans argument = false
 
 module _ (test : Slot → Bool) (b : Bool) where
-  tree-both : (u v : Term) → refs test u ≡ true → refs test v ≡ true → refs test (cond b u v) ≡ true
-  tree-both u v = cond-both (λ (v : Term). refs test v ≡ true) b {x = u} {y = v}
-
   link-both : (l m : Link) → linkRefs test l ≡ true → linkRefs test m ≡ true → linkRefs test (cond b l m) ≡ true
   link-both l m = cond-both (λ (l : Link). linkRefs test l ≡ true) b {x = l} {y = m}
 
@@ -133,12 +130,12 @@ module _ (S : Set) (cs : List ℕ) (k : ℕ) where
   base-own none e a b ha hb = clash refl e
   base-own permittedFirst e a b ha hb = (and-true (slot-both (own permittedFirst a b) (ltb b (S .threads)) (slot mayExecute b 0) (slot full (b - S .threads) 0) refl refl) refl)
   base-own onePermitted e a b ha hb = refl
-  base-own address e a b ha hb = (tree-both (own address a b) (eqb (S .statement a b .mode) 1) (indirectTree S cs k a b) (ref (slot argument a b)) refl refl)
-  base-own loaded e a b ha hb = (tree-both (own loaded a b) (loads (numberOf S cs k a b)) (loadTree S cs k a (slot address a b)) (ref word0) refl refl)
-  base-own swaps e a b ha hb = (tree-both (own swaps a b) (eqb (numberOf S cs k a b) CAS) (binary and2 (ref (slot active a b)) (binary equal2 (binary read2 (ref (only sharedMemory)) (ref (slot address a b))) (ref (slot mem a 0)))) (ref (only bitZero)) refl refl)
+  base-own address e a b ha hb = (refs-both (own address a b) (eqb (S .statement a b .mode) 1) (indirectTree S cs k a b) (ref (slot argument a b)) refl refl)
+  base-own loaded e a b ha hb = (refs-both (own loaded a b) (loads (numberOf S cs k a b)) (loadTree S cs k a (slot address a b)) (ref word0) refl refl)
+  base-own swaps e a b ha hb = (refs-both (own swaps a b) (eqb (numberOf S cs k a b) CAS) (binary and2 (ref (slot active a b)) (binary equal2 (binary read2 (ref (only sharedMemory)) (ref (slot address a b))) (ref (slot mem a 0)))) (ref (only bitZero)) refl refl)
   base-own result e a b ha hb = (result-own (numberOf S cs k a b) a b)
   base-own test e a b ha hb = (test-own (numberOf S cs k a b) a b)
-  base-own notTest e a b ha hb = (tree-both (own notTest a b) (isConditional (numberOf S cs k a b)) (unary not1 (ref (slot test a b))) (ref (only bitZero)) refl refl)
+  base-own notTest e a b ha hb = (refs-both (own notTest a b) (isConditional (numberOf S cs k a b)) (unary not1 (ref (slot test a b))) (ref (only bitZero)) refl refl)
   base-own flushTo e a b ha hb = refl
   base-own writeTo e a b ha hb = clash refl e
   base-own flushValue e a b ha hb = refl
@@ -153,7 +150,7 @@ module _ (S : Set) (cs : List ℕ) (k : ℕ) where
   base-own accu e a b ha hb = (at-row a b hb)
   base-own full e a b ha hb = (at-row a b hb)
   base-own halted e a b ha hb = (at-row a b hb)
-  base-own flag e a b ha hb = (tree-both (own flag a b) (rests (numberOf S cs k a b)) (ref (slot flag a b)) (leavingTree S cs k a b) (at-own a b) (at-own a b))
+  base-own flag e a b ha hb = (refs-both (own flag a b) (rests (numberOf S cs k a b)) (ref (slot flag a b)) (leavingTree S cs k a b) (at-own a b) (at-own a b))
   base-own mark e a b ha hb = refl
   base-own halts e a b ha hb = refl
   base-own ended e a b ha hb = refl

@@ -14,7 +14,7 @@ use Rattle.table.specs.Formulas.{bitSort, wordSort}
 use Rattle.table.specs.Programs.{ref, unary, binary, ternary, not1, and2, equal2, read2, if3}
 use Rattle.encoding.specs.Slots.{Kind, choice, active, opening, shut, barred, held, waits, mayExecute, none, permittedFirst, onePermitted, address, loaded, swaps, result, test, notTest, flushTo, writeTo, flushValue, writeValue, raised, exits, codes, sharedMemory, val, adr, mem, accu, full, halted, flag, mark, halts, ended, code, bitZero as bit0, bitOne as bit1, wordZero, wordOne, argument, Slot, slot, Term, kindNumber}
 use Rattle.encoding.specs.Steps.{Link, skip, ifThen, andWith, orWith, only, word0, loads, setsAccu, isConditional, isOneWay, isPlain, rests, numberOf, argumentOf, checkpoint, has, loadTree, indirectTree, resultTree, testTree, noneTree, leavingTree, base, leads, links, link, ruled, step}
-use Rattle.encoding.proofs.Blocks.{refs, linkRefs, chain-refs}
+use Rattle.encoding.proofs.Blocks.{refs, refs-both, linkRefs, chain-refs}
 use Rattle.encoding.proofs.Sources.{steady}
 use Rattle.encoding.proofs.Results.{result-each, test-each}
 use Rattle.encoding.proofs.Walks.{There, Below, SetBefore, Along, along-step}
@@ -24,9 +24,6 @@ module _ (S : Set) (cs : List ℕ) (done : Slot → Bool) where
   link-if : (b : Bool) (l : Link) → (b ≡ true → linkRefs done l ≡ true) → linkRefs done (cond b l skip) ≡ true
   link-if true l f = f refl
   link-if false l f = refl
-
-  either : (b : Bool) (t u : Term) → refs done t ≡ true → refs done u ≡ true → refs done (cond b t u) ≡ true
-  either b t u = cond-both (λ (t : Term). refs done t ≡ true) b {x = t} {y = u}
 
   result-known : (n t i : ℕ) → done (slot accu t 0) ≡ true → done (slot loaded t i) ≡ true → done (slot argument t i) ≡ true → (refs done (ternary (if3 wordSort) (ref (slot swaps t i)) (ref (only wordOne)) (ref word0))) ≡ true →
       refs done (resultTree S cs 0 n t i) ≡ true
@@ -122,12 +119,12 @@ module _ (S : Set) (cs : List ℕ) (done : Slot → Bool) where
   base-known none n a b h g = none-known a b h g
   base-known permittedFirst n a b h g = fit-known a b h g
   base-known onePermitted n a b h g = still onePermitted a b h g (only bit0) refl
-  base-known address n a b h g = either (eqb (S .statement a b .mode) 1) (indirectTree S cs 0 a b) (ref (slot argument a b)) (load-known address a b h g a (slot argument a b) (still address a b h g (slot argument a b) refl)) (still address a b h g (slot argument a b) refl)
-  base-known loaded n a b h g = either (loads (numberOf S cs 0 a b)) (loadTree S cs 0 a (slot address a b)) (ref word0) (load-known loaded a b h g a (slot address a b) (early loaded a b h g address a b (omega arith) (record { row = h .row; column = h .column; is = refl }))) (still loaded a b h g (word0) refl)
-  base-known swaps n a b h g = either (eqb (numberOf S cs 0 a b) CAS) (binary and2 (ref (slot active a b)) (binary equal2 (binary read2 (ref (only sharedMemory)) (ref (slot address a b))) (ref (slot mem a 0)))) (ref (only bit0)) (and-true (early swaps a b h g active a b (omega arith) (record { row = h .row; column = h .column; is = refl })) (and-true (and-true (still swaps a b h g (only sharedMemory) refl) (early swaps a b h g address a b (omega arith) (record { row = h .row; column = h .column; is = refl }))) (still swaps a b h g (slot mem a 0) refl))) (still swaps a b h g (only bit0) refl)
+  base-known address n a b h g = refs-both done (eqb (S .statement a b .mode) 1) (indirectTree S cs 0 a b) (ref (slot argument a b)) (load-known address a b h g a (slot argument a b) (still address a b h g (slot argument a b) refl)) (still address a b h g (slot argument a b) refl)
+  base-known loaded n a b h g = refs-both done (loads (numberOf S cs 0 a b)) (loadTree S cs 0 a (slot address a b)) (ref word0) (load-known loaded a b h g a (slot address a b) (early loaded a b h g address a b (omega arith) (record { row = h .row; column = h .column; is = refl }))) (still loaded a b h g (word0) refl)
+  base-known swaps n a b h g = refs-both done (eqb (numberOf S cs 0 a b) CAS) (binary and2 (ref (slot active a b)) (binary equal2 (binary read2 (ref (only sharedMemory)) (ref (slot address a b))) (ref (slot mem a 0)))) (ref (only bit0)) (and-true (early swaps a b h g active a b (omega arith) (record { row = h .row; column = h .column; is = refl })) (and-true (and-true (still swaps a b h g (only sharedMemory) refl) (early swaps a b h g address a b (omega arith) (record { row = h .row; column = h .column; is = refl }))) (still swaps a b h g (slot mem a 0) refl))) (still swaps a b h g (only bit0) refl)
   base-known result n a b h g = result-known (numberOf S cs 0 a b) a b (still result a b h g (slot accu a 0) refl) (early result a b h g loaded a b (omega arith) (record { row = h .row; column = h .column; is = refl })) (still result a b h g (slot argument a b) refl) (and-true (early result a b h g swaps a b (omega arith) (record { row = h .row; column = h .column; is = refl })) (and-true (still result a b h g (only wordOne) refl) (still result a b h g (word0) refl)))
   base-known test n a b h g = test-known (numberOf S cs 0 a b) a (still test a b h g (slot accu a 0) refl) (still test a b h g (word0) refl) (still test a b h g (only bit0) refl)
-  base-known notTest n a b h g = either (isConditional (numberOf S cs 0 a b)) (unary not1 (ref (slot test a b))) (ref (only bit0)) (early notTest a b h g test a b (omega arith) (record { row = h .row; column = h .column; is = refl })) (still notTest a b h g (only bit0) refl)
+  base-known notTest n a b h g = refs-both done (isConditional (numberOf S cs 0 a b)) (unary not1 (ref (slot test a b))) (ref (only bit0)) (early notTest a b h g test a b (omega arith) (record { row = h .row; column = h .column; is = refl })) (still notTest a b h g (only bit0) refl)
   base-known flushTo n a b h g = still flushTo a b h g (word0) refl
   base-known writeTo n a b h g = scan writeTo a b h g writeTo (only flushTo) (h .row) (early writeTo a b h g flushTo 0 0 (omega arith) (record { row = omega arith; column = omega arith; is = refl })) (λ d l. g .rowBefore d l refl)
   base-known flushValue n a b h g = and-true (still flushValue a b h g (only sharedMemory) refl) (early flushValue a b h g writeTo 0 (S .threads) (omega arith) (record { row = omega arith; column = omega arith; is = refl }))
@@ -142,7 +139,7 @@ module _ (S : Set) (cs : List ℕ) (done : Slot → Bool) where
   base-known accu n a b h g = still accu a b h g (slot accu a 0) refl
   base-known full n a b h g = and-true (let l = h .row in choice-known full a b h g (S .threads + a) (omega arith) (omega arith)) (and-true (still full a b h g (only bit0) refl) (still full a b h g (slot full a 0) refl))
   base-known halted n a b h g = still halted a b h g (slot halted a 0) refl
-  base-known flag n a b h g = either (rests (numberOf S cs 0 a b)) (ref (slot flag a b)) (leavingTree S cs 0 a b) (still flag a b h g (slot flag a b) refl) (and-true (let l = h .row in choice-known flag a b h g a (omega arith) (omega arith)) (and-true (still flag a b h g (only bit0) refl) (still flag a b h g (slot flag a b) refl)))
+  base-known flag n a b h g = refs-both done (rests (numberOf S cs 0 a b)) (ref (slot flag a b)) (leavingTree S cs 0 a b) (still flag a b h g (slot flag a b) refl) (and-true (let l = h .row in choice-known flag a b h g a (omega arith) (omega arith)) (and-true (still flag a b h g (only bit0) refl) (still flag a b h g (slot flag a b) refl)))
   base-known mark n a b h g = and-true (early mark a b h g shut 0 b (omega arith) (record { row = omega arith; column = h .column; is = refl })) (early mark a b h g raised a b (omega arith) (record { row = h .row; column = h .column; is = h .is }))
   base-known halts n a b h g = still halts a b h g (only bit1) refl
   base-known ended n a b h g = and-true (early ended a b h g halts 0 0 (omega arith) (record { row = omega arith; column = omega arith; is = refl })) (early ended a b h g exits 0 (S .threads) (omega arith) (record { row = omega arith; column = omega arith; is = refl }))

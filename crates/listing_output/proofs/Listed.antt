@@ -13,7 +13,7 @@ use Rattle.base.specs.Bytes.{over}
 use Rattle.records.proofs.Sets.{four-threads}
 use Rattle.records.specs.Maps.{mapAccepted, runCells}
 use Rattle.records.specs.Sets.{Set, setOf, setAccepted}
-use Rattle.machine.proofs.Runs.{AllTaken, follow-taken, length-choices, length-trace, length-traceStep, ran-taken, ran-where, refused-ran, taken-takes, lacking-takes, choices-more}
+use Rattle.machine.proofs.Runs.{AllTaken, follow-taken, length-choices, length-trace, length-traceStep, ran-taken, ran-where, refused-ran, taken-takes, lacking-takes, not-permitted-takes, choices-more}
 use Rattle.machine.specs.Machine.{State, step, written, noWrite, reads}
 use Rattle.machine.specs.Maps.{Held, begin, knowsAll, outcome, advanced, onOutcome, follow}
 use Rattle.machine.specs.Runs.{choiceOf, choices, takes, endOf}
@@ -36,15 +36,6 @@ use Rattle.listing_output.proofs.StepLines.{line-of-step}
 -- ---- outcomes
 
 module _ (S : Set) (h : Held) (c : Choice) where
-  not-permitted-takes : outcome S h c ≡ NotPermitted → takes S (h .state) c ≡ false
-  unfolding outcome
-  not-permitted-takes = go (takes S (h .state) c) (knowsAll (h .known) (reads S (h .state) c))
-    where
-      go : (a b : Bool) → cond a (cond b Taken Lacking) NotPermitted ≡ NotPermitted → a ≡ false
-      go true true e = cc
-      go true false e = cc
-      go false b e = refl
-
   takes-not : takes S (h .state) c ≡ false → outcome S h c ≡ NotPermitted
   unfolding outcome
   takes-not e = passed _ _ e

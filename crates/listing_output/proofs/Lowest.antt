@@ -6,7 +6,7 @@ use native.Mathlib.Decide.{decLt, ℕ-discrete}
 use native.Mathlib.Omega.{arith}
 use lib.Dec.{ltb}
 use borrow.Author.Tests.{lt-ltb, le-ltb, ltb-false}
-use Rattle.base.proofs.Below.{least-below, least-hit, least-passes}
+use Rattle.base.proofs.Below.{least-below, least-hit, least-none, least-passes}
 use Rattle.base.proofs.Choice.{chosen, passed, and-right, clash}
 use Rattle.base.specs.Below.{least}
 use Rattle.records.specs.Sets.{Set}
@@ -41,13 +41,8 @@ module _ (test : ℕ → Bool) where
             ih (omega arith)
       ]
 
-  least-none : (n : ℕ) → ((k : ℕ) → k < n → test k ≡ false) → least n test ≡ n
-  unfolding least
-  least-none zero f = refl
-  least-none (suc n) f = ap (λ (i : ℕ). cond (ltb i n) i (cond (test n) n (suc n))) (least-none n (λ k h. f k (omega arith))) ∙ passed _ _ (le-ltb n n (omega arith)) ∙ passed _ _ (f n (omega arith))
-
   least-is : (n i : ℕ) → ((k : ℕ) → k < i → test k ≡ false) → test i ≡ true → i < n → least n test ≡ i
-  least-is n i f e h = least-hit test n i (least-none i f) e h
+  least-is n i f e h = least-hit test n i (least-none test i f) e h
 
 -- ---- the candidates
 

@@ -361,6 +361,16 @@ module _ (S : Set) (h : Held) (c : Choice) where
       go true true e = cc
       go false true e = cc
 
+-- one that is not permitted cannot
+pub not-permitted-takes : (S : Set) (h : Held) (c : Choice) → outcome S h c ≡ NotPermitted → takes S (h .state) c ≡ false
+unfolding outcome
+not-permitted-takes S h c = go (takes S (h .state) c) (knowsAll (h .known) (reads S (h .state) c))
+  where
+    go : (a b : Bool) → cond a (cond b Taken Lacking) NotPermitted ≡ NotPermitted → a ≡ false
+    go false b e = refl
+    go true true e = cc
+    go true false e = cc
+
 -- a bit as a number is 1 where it holds
 pub bit-is : (b : Bool) → eqb (bit b) 1 ≡ b
 bit-is true = refl

@@ -1,17 +1,17 @@
--- What acceptance says of a map: few cells, whose addresses strictly ascend. Assumes nothing.
+-- What acceptance says of a map: few cells, whose addresses strictly ascend; and cells by address. Assumes nothing.
 use Prim.Native.Nat.{ℕ, zero, suc, _-_, _%_, _≤_, _<_}
-use mathlib.Core.Path.{_≡_, sym, _∙_}
-use mathlib.Core.Bool.{true, _&&_}
+use mathlib.Core.Path.{_≡_, refl, ap, sym, _∙_}
+use mathlib.Core.Bool.{Bool, true, false, cond, _&&_}
 use mathlib.Core.List.{List}
 use native.Mathlib.Omega.{arith}
 use native.Mathlib.Decide.{ℕ-discrete}
-use lib.Dec.{eqb, leb}
+use lib.Dec.{eqb, leb, ltb}
 use lib.ListN.{length}
 use borrow.Author.Tests.{eqb-true, ltb-true, leb-true, ne-eqb}
 use Rattle.base.specs.Below.{every}
 use Rattle.base.proofs.Choice.{passed, and-left, and-right}
-use Rattle.base.proofs.Below.{every-at}
-use Rattle.records.specs.Maps.{cells, addressAt, ascendsAt, mapAccepted}
+use Rattle.base.proofs.Below.{every-at, least-ext}
+use Rattle.records.specs.Maps.{cells, addressAt, ascendsAt, mapAccepted, cellAt, holds, content}
 
 step : (bytes : List ℕ) (k : ℕ) → ascendsAt bytes (suc k) ≡ true → addressAt bytes k < addressAt bytes (suc k)
 unfolding ascendsAt
@@ -41,3 +41,18 @@ module _ (limit : ℕ) (bytes : List ℕ) (ok : mapAccepted limit bytes ≡ true
         | yes e ↦ rw e next
         | no f ↦ omega (arith, next, ascending j k (omega arith) (omega arith))
       ]
+
+-- cells go by the addresses and values below the count alone
+module _ (f g : ℕ → ℕ) (n a : ℕ) (e : (k : ℕ) → k < n → f k ≡ g k) where
+  same-cell : cellAt f n a ≡ cellAt g n a
+  same-cell = least-ext _ _ n (λ k h. ap (λ (x : ℕ). eqb x a) (e k h))
+
+  pub holds-same : holds f n a ≡ holds g n a
+  holds-same = ap (λ (i : ℕ). ltb i n) same-cell
+
+  pub content-same : (v w : ℕ → ℕ) → ((k : ℕ) → k < n → v k ≡ w k) → content f v n a ≡ content g w n a
+  content-same v w d = ap (λ (i : ℕ). cond (ltb i n) (v i) 0) same-cell ∙ go (holds g n a) refl
+    where
+      go : (b : Bool) → holds g n a ≡ b → cond (holds g n a) (v (cellAt g n a)) 0 ≡ cond (holds g n a) (w (cellAt g n a)) 0
+      go true p = ap (λ (x : ℕ). cond (holds g n a) x 0) (d (cellAt g n a) (ltb-true (cellAt g n a) n p))
+      go false p = passed _ _ p ∙ sym (passed _ _ p)

@@ -1,18 +1,10 @@
 -- Whether a thread contains a checkpoint, by what its statements are. Assumes nothing.
-use Prim.Native.Nat.{ℕ, zero, suc, _<_}
-use mathlib.Core.Path.{_≡_, refl}
-use mathlib.Core.Bool.{Bool, true, false}
-use native.Mathlib.Omega.{arith}
-use Rattle.base.specs.Below.{some}
-use Rattle.base.proofs.Below.{some-at}
-use Rattle.base.proofs.Choice.{or-false}
+use Prim.Native.Nat.{ℕ, _<_}
+use mathlib.Core.Path.{_≡_}
+use mathlib.Core.Bool.{true, false}
+use Rattle.base.proofs.Below.{some-at, some-none}
 use Rattle.records.specs.Sets.{Set}
 use Rattle.machine.specs.Machine.{isCheck, contains}
-
-some-none : (test : ℕ → Bool) (n : ℕ) → ((i : ℕ) → i < n → test i ≡ false) → some n test ≡ false
-unfolding some
-some-none test zero none = refl
-some-none test (suc n) none = or-false (some-none test n (λ i h. none i (omega arith))) (none n (omega arith))
 
 module _ (S : Set) (t c : ℕ) where
   pub contains-at : (x : ℕ) → x < S .count t → isCheck S t c x ≡ true → contains S t c ≡ true

@@ -1,34 +1,20 @@
--- Cells by address go by the addresses and values below the count alone. Assumes nothing.
+-- All cells by address go by the addresses and values below the count alone. Assumes nothing.
 use Prim.Native.Nat.{ℕ, _+_, _<_}
-use mathlib.Core.Path.{_≡_, refl, ap, sym, _∙_, fun-ext}
-use mathlib.Core.Bool.{Bool, true, false, cond}
+use mathlib.Core.Path.{_≡_, ap, sym, _∙_, fun-ext}
 use mathlib.Core.List.{List}
 use native.Mathlib.Omega.{arith}
 use native.Mathlib.Decide.{ℕ-discrete}
-use borrow.Author.Tests.{ltb-true}
-use lib.Dec.{eqb, ltb}
 use lib.ListN.{length, getD, set}
 use lib.Seq.{getD-set-same, getD-set-other}
-use Rattle.base.proofs.Below.{least-ext}
-use Rattle.base.proofs.Choice.{passed}
-use Rattle.records.specs.Maps.{cellAt, holds, content}
+use Rattle.records.proofs.Maps.{holds-same, content-same}
+use Rattle.records.specs.Maps.{holds, content}
 
 module _ (f g : ℕ → ℕ) (n : ℕ) (e : (k : ℕ) → k < n → f k ≡ g k) where
-  cell-same : (a : ℕ) → cellAt f n a ≡ cellAt g n a
-  cell-same a = least-ext _ _ n (λ k h. ap (λ (x : ℕ). eqb x a) (e k h))
+  pub all-held : holds f n ≡ holds g n
+  all-held = fun-ext (λ a. holds-same f g n a e)
 
-  pub holds-same : holds f n ≡ holds g n
-  holds-same = fun-ext (λ a. ap (λ (i : ℕ). ltb i n) (cell-same a))
-
-  pub content-same : (v w : ℕ → ℕ) → ((k : ℕ) → k < n → v k ≡ w k) → content f v n ≡ content g w n
-  content-same v w d = fun-ext at
-    where
-      at : (a : ℕ) → content f v n a ≡ content g w n a
-      at a = ap (λ (i : ℕ). cond (ltb i n) (v i) 0) (cell-same a) ∙ go (ltb (cellAt g n a) n) refl
-        where
-          go : (b : Bool) → ltb (cellAt g n a) n ≡ b → cond (ltb (cellAt g n a) n) (v (cellAt g n a)) 0 ≡ cond (ltb (cellAt g n a) n) (w (cellAt g n a)) 0
-          go true p = ap (λ (x : ℕ). cond (ltb (cellAt g n a) n) x 0) (d _ (ltb-true _ _ p))
-          go false p = passed _ _ p ∙ sym (passed _ _ p)
+  pub all-content : (v w : ℕ → ℕ) → ((k : ℕ) → k < n → v k ≡ w k) → content f v n ≡ content g w n
+  all-content v w d = fun-ext (λ a. content-same f g n a e v w d)
 
 -- one element more is as it should be
 pub stored-more : (xs : List ℕ) (k v : ℕ) (g : ℕ → ℕ) → k < length xs → ((j : ℕ) → j < k → getD xs j 0 ≡ g j) → v ≡ g k →

@@ -11,7 +11,7 @@ use lib.Dec.{ltb, leb}
 use borrow.Author.Tests.{ltb-true, ltb-false, leb-true, lt-ltb, le-leb}
 use Rattle.base.specs.Below.{every, some, number, least}
 use Rattle.base.proofs.Below.{number-more, number-same, number-below, number-none}
-use Rattle.base.proofs.Choice.{chosen, and-true, and-left, and-right, or-false, refuted, clash}
+use Rattle.base.proofs.Choice.{chosen, and-true, and-left, and-right, refuted, clash}
 
 -- what holds on either side of a test
 pub cond-where : {A : Type 0} (P : A → Type 0) (b : Bool) {x y : A} → (b ≡ true → P x) → (b ≡ false → P y) → P (cond b x y)
@@ -35,11 +35,6 @@ module _ (test : ℕ → Bool) where
       go : (every n test ≡ false → (i : ℕ) × (i < n) × (test i ≡ false)) → (b : Bool) → every n test ≡ b → (i : ℕ) × (i < suc n) × (test i ≡ false)
       go before true q = (n, omega arith, sym (ap (λ (b : Bool). b && test n) q) ∙ e)
       go before false q = let r = before q in (r .0, omega (arith, r .1), r .2)
-
-  pub some-none : (n : ℕ) → ((i : ℕ) → i < n → test i ≡ false) → some n test ≡ false
-  unfolding some
-  some-none zero f = refl
-  some-none (suc n) f = or-false (some-none n (λ i h. f i (omega arith))) (f n (omega arith))
 
   -- what passes where some number does
   pub some-found : (n : ℕ) → some n test ≡ true → (i : ℕ) × (i < n) × (test i ≡ true)

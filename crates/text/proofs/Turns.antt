@@ -11,7 +11,6 @@ use lib.ListN.{getD}
 use borrow.Author.Tests.{eq-eqb, lt-ltb, ltb-true, ltb-false}
 use Rattle.base.proofs.Choice.{chosen, passed, and-left, and-right, or-true, or-right-true, or-left, or-right, clash}
 use Rattle.text_lines.specs.Lines.{isDot, statementLine, mapLine}
-use Rattle.text_lines.specs.declared.Stated.{Stated}
 use Rattle.records.specs.Instructions.{isLast}
 use Rattle.text.specs.Answers.{lineRefusal}
 use Rattle.text_drafts.specs.Blocks.{blockAt}
@@ -20,16 +19,13 @@ use Rattle.text.specs.Readings.{threadsKept, cellsKept, openCount, Close
 use Rattle.text.specs.Sections.{Threads, halt, isGood, added, isComplete, gained, closed, lineAdded, cellAdded}
 use Rattle.text.specs.declared.Reading.{Reading}
 use Rattle.text.proofs.Kept.{complete}
+use Rattle.text.proofs.Statements.{added-count}
 
 -- r with a refusal and a line number of its own
 abbrev pub numbered : ℕ → ℕ → Reading → Reading
 numbered refusal line r = record { fits = r .fits; ended = r .ended; counts = r .counts; cells = r .cells; refusal = refusal; line = line }
 
 -- ---- how many statements the open section has
-
-pub added-open : (x : Stated) (T : Threads) → added x T .count (T .ended) ≡ T .count (T .ended) + 1
-unfolding added
-added-open x T = chosen _ _ (eq-eqb (T .ended) (T .ended) refl)
 
 -- what holds of a section without and with the HALT it gains holds of its end
 closed-open : (T : Threads) → closed T .count (T .ended) ≡ cond (isComplete T) (T .count (T .ended)) (T .count (T .ended) + 1)
@@ -38,7 +34,7 @@ closed-open T = go (isComplete T) refl
   where
     go : (b : Bool) → isComplete T ≡ b → cond (isComplete T) T (added halt T) .count (T .ended) ≡ cond (isComplete T) (T .count (T .ended)) (T .count (T .ended) + 1)
     go true e = ap (λ (U : Threads). U .count (T .ended)) (chosen T (added halt T) e) ∙ sym (chosen _ _ e)
-    go false e = ap (λ (U : Threads). U .count (T .ended)) (passed T (added halt T) e) ∙ added-open halt T ∙ sym (passed _ _ e)
+    go false e = ap (λ (U : Threads). U .count (T .ended)) (passed T (added halt T) e) ∙ added-count halt T ∙ sym (passed _ _ e)
 
 -- the end of a section that does not fit
 closed-misfits : (r : Reading) (draft : List ℕ) →
@@ -130,6 +126,6 @@ module _ (l : List ℕ) (left : ℕ) (r : Reading) (draft keys : List ℕ) where
           let none : ltb (openCount r) 32 ≡ false = sym (ap₂ (λ (a b : Bool). a && b && ltb (openCount r) 32) f (lt-ltb (r .ended) 4 four)) ∙ sym (chosen _ _ e) ∙ u in
           let h : 32 ≤ openCount r = ltb-false (openCount r) 32 none in
           ap (λ (T : Threads). misfits false (T .count (r .ended))) (chosen (added (statementLine l) (threadsKept r draft)) (threadsKept r draft) e)
-          ∙ ap (misfits false) (added-open (statementLine l) (threadsKept r draft))
+          ∙ ap (misfits false) (added-count (statementLine l) (threadsKept r draft))
           ∙ or-true _ (lt-ltb 32 (openCount r + 1) (omega arith))
       full false e f four u = clash f (sym (passed _ _ e) ∙ u)

@@ -10,7 +10,7 @@ use borrow.Author.Needs.{needs}
 use Rattle.records.specs.Maps.{cells, addressAt, valueAt}
 use Rattle.base.proofs.Choice.{chosen, passed, and-true, and-false, and-right-false}
 use Rattle.base.specs.Below.{least}
-use Rattle.step.proofs.MapCells.{holds-same, content-same, stored-more}
+use Rattle.step.proofs.MapCells.{all-held, all-content, stored-more}
 use Rattle.step.proofs.walks.begin.Statement.{statement}
 use Rattle.step.proofs.walks.begin.Tie as tie
 use Rattle.step.proofs.walks.begin.Reads as reads
@@ -99,8 +99,8 @@ returns-3 c =
     let a = c .before .before .before .before .before .before .before .args in
     let e : l .k ≡ cells (now (a .map)) = omega arith in (
       sym (chosen _ _ (and-true (le-leb (cells (now (a .map))) (length (now (a .addresses))) (omega arith)) (le-leb (cells (now (a .map))) (length (now (a .values))) (omega arith)))),
-      content-same (λ k. getD (l .addresses) k 0) (addressAt (now (a .map))) (cells (now (a .map))) (λ k h. l .inv .6 k (omega arith)) (λ k. getD (l .values) k 0) (valueAt (now (a .map))) (λ k h. l .inv .7 k (omega arith)),
-      holds-same (λ k. getD (l .addresses) k 0) (addressAt (now (a .map))) (cells (now (a .map))) (λ k h. l .inv .6 k (omega arith)),
+      all-content (λ k. getD (l .addresses) k 0) (addressAt (now (a .map))) (cells (now (a .map))) (λ k h. l .inv .6 k (omega arith)) (λ k. getD (l .values) k 0) (valueAt (now (a .map))) (λ k h. l .inv .7 k (omega arith)),
+      all-held (λ k. getD (l .addresses) k 0) (addressAt (now (a .map))) (cells (now (a .map))) (λ k h. l .inv .6 k (omega arith)),
     )
 
 pub begin-spec : {M : Type 1} → statement M
