@@ -1,3 +1,4 @@
--- The calls of the encoder: their answers, and the lent output afterwards. A reader of the calls believes Answers; Repeating serves the code.
+-- The calls of the encoder: their answers, and the lent output afterwards. A reader of the calls believes Answers; the others serve the code.
 pub mod Answers
+pub mod Refusals
 pub mod Repeating

@@ -1,12 +1,12 @@
 // The encoder: the size of a table, and its bytes.
 ghost use mathlib.Core.Path.{_≡_};
-ghost use mathlib.Core.Bool.{true, cond};
+ghost use mathlib.Core.Bool.{cond};
 ghost use mathlib.Core.List.{List, [], _∷_, _++_};
 ghost use Prim.Native.Nat.{ℕ, _+_, _-_, _*_, _≤_, _<_};
 ghost use lib.Dec.{ltb};
 ghost use lib.ListN.{length};
-ghost use Rattle.records.specs.Maps.{cells, mapAccepted, setCells};
-ghost use Rattle.records.specs.Sets.{Set, setBy, setAccepted, layoutOf, mostThreads};
+ghost use Rattle.records.specs.Maps.{cells, setCells};
+ghost use Rattle.records.specs.Sets.{Set, setBy, layoutOf, mostThreads};
 ghost use Rattle.table.specs.Formulas.{writtenAt, formulaLength};
 ghost use Rattle.table.specs.Repeats.{movedBy, lastIndex};
 ghost use Rattle.table.specs.Programs.{leafFormula, choiceBit, aims, upto, compiled, nextAfter};
@@ -18,6 +18,7 @@ ghost use Rattle.set_index.specs.Points.{listed};
 ghost use Rattle.set_index.specs.ListTables.{Distinct};
 ghost use Rattle.encoder.specs.Answers.{sizeAnswer, encodeAnswer, tableOutput};
 ghost use Rattle.encoder_slots.specs.Pieces.{Writes, Ready};
+ghost use Rattle.encoder.specs.Refusals.{early};
 ghost use Rattle.encoder.specs.Repeating.{Started, Stepped, Ended, earlyRoom, stepsRoom};
 ghost use Rattle.encoder_size.specs.Sizes.{Limits};
 ghost use Rattle.machine.specs.Runs.{mostSteps};
@@ -454,22 +455,33 @@ fn write(set: &[u8], layout: Layout, points: Points, map: &[u8], bound: u8, tabl
 
 // ---- the calls
 
-// The size once set and map are accepted.
-fn accepted_size(set: &[u8], layout: Layout, map: &[u8], bound: u64) -> TableAnswer
-    requires { ⌜ (setAccepted (now set) ≡ true) × (mapAccepted setCells (now map) ≡ true) × (layout ≡ layoutOf (now set)) ⌝ }
-    ensures { λ r. ⌜ r ≡ sizeAnswer (now (set .entry)) (now (map .entry)) bound ⌝ }
+// What refuses both calls: 9, then 10; 0 where neither does.
+fn refusal_of(layout: Layout, map: &[u8], bound: u64) -> u8
+    ensures { λ r. ⌜ ((set : List ℕ) → layout ≡ layoutOf set → r ≡ early set (now (map .entry)) bound) ⌝ }
 {
+    if layout.threads == 0 {
+        return refusals::RECORDS;
+    }
+    if !records::map::map_accepted(map, Layout::MAP_CELLS) {
+        return refusals::RECORDS;
+    }
     if bound == 0 {
-        return TableAnswer::Refused {
-            number: refusals::BOUND,
-            place: 0,
-        };
+        return refusals::BOUND;
     }
     if STEPS < bound {
-        return TableAnswer::Refused {
-            number: refusals::BOUND,
-            place: 0,
-        };
+        return refusals::BOUND;
+    }
+    0
+}
+
+// How many records the table of a set, a map and a bound has.
+pub fn table_size(set: &[u8], map: &[u8], bound: u64) -> TableAnswer
+    ensures { λ r. ⌜ r ≡ sizeAnswer (now (set .entry)) (now (map .entry)) bound ⌝ }
+{
+    let layout = records::set::layout(set);
+    let number = refusal_of(layout, map, bound);
+    if number != 0 {
+        return TableAnswer::Refused { number, place: 0 };
     }
     let points = set_index::points::of_set(set, layout);
     let records = encoder_size::table_records(set, layout, points, map, bound as u8);
@@ -478,29 +490,15 @@ fn accepted_size(set: &[u8], layout: Layout, map: &[u8], bound: u64) -> TableAns
     }
 }
 
-// The table once set and map are accepted.
-fn accepted_encode(
-    set: &[u8],
-    layout: Layout,
-    map: &[u8],
-    bound: u64,
-    table: &mut [u8],
-) -> TableAnswer
-    requires { ⌜ (setAccepted (now set) ≡ true) × (mapAccepted setCells (now map) ≡ true) × (layout ≡ layoutOf (now set)) ⌝ }
+// Writes the table of a set, a map and a bound.
+pub fn encode(set: &[u8], map: &[u8], bound: u64, table: &mut [u8]) -> TableAnswer
     ensures { λ r. ⌜ (r ≡ encodeAnswer (now (set .entry)) (now (map .entry)) bound (length (now (table .entry))))
         × (now (table .exit) ≡ tableOutput r (now (set .entry)) (now (map .entry)) bound (now (table .entry))) ⌝ }
 {
-    if bound == 0 {
-        return TableAnswer::Refused {
-            number: refusals::BOUND,
-            place: 0,
-        };
-    }
-    if STEPS < bound {
-        return TableAnswer::Refused {
-            number: refusals::BOUND,
-            place: 0,
-        };
+    let layout = records::set::layout(set);
+    let number = refusal_of(layout, map, bound);
+    if number != 0 {
+        return TableAnswer::Refused { number, place: 0 };
     }
     let points = set_index::points::of_set(set, layout);
     let steps = bound as u8;
@@ -514,46 +512,5 @@ fn accepted_encode(
     write(set, layout, points, map, steps, table);
     TableAnswer::Encoded {
         records: records as u32,
-    }
-}
-
-// How many records the table of a set, a map and a bound has.
-pub fn table_size(set: &[u8], map: &[u8], bound: u64) -> TableAnswer
-    ensures { λ r. ⌜ r ≡ sizeAnswer (now (set .entry)) (now (map .entry)) bound ⌝ }
-{
-    let layout = records::set::layout(set);
-    if layout.threads == 0 {
-        return TableAnswer::Refused {
-            number: refusals::RECORDS,
-            place: 0,
-        };
-    }
-    if records::map::map_accepted(map, Layout::MAP_CELLS) {
-        return accepted_size(set, layout, map, bound);
-    }
-    TableAnswer::Refused {
-        number: refusals::RECORDS,
-        place: 0,
-    }
-}
-
-// Writes the table of a set, a map and a bound.
-pub fn encode(set: &[u8], map: &[u8], bound: u64, table: &mut [u8]) -> TableAnswer
-    ensures { λ r. ⌜ (r ≡ encodeAnswer (now (set .entry)) (now (map .entry)) bound (length (now (table .entry))))
-        × (now (table .exit) ≡ tableOutput r (now (set .entry)) (now (map .entry)) bound (now (table .entry))) ⌝ }
-{
-    let layout = records::set::layout(set);
-    if layout.threads == 0 {
-        return TableAnswer::Refused {
-            number: refusals::RECORDS,
-            place: 0,
-        };
-    }
-    if records::map::map_accepted(map, Layout::MAP_CELLS) {
-        return accepted_encode(set, layout, map, bound, table);
-    }
-    TableAnswer::Refused {
-        number: refusals::RECORDS,
-        place: 0,
     }
 }

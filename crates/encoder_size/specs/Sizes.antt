@@ -19,6 +19,10 @@ pub record Limits (layout : Layout) : Type 0 where
   pub fourThreads : layout .threads ≤ mostThreads
   pub fewStatements : (t : ℕ) → getD (layout .counts) t 0 ≤ mostStatements
 
+-- no table of an accepted set, its map and a bound has more records
+abbrev pub tableRoom : ℕ
+tableRoom = 210248
+
 -- the sum of f over the numbers below n
 unfoldable pub total : (ℕ → ℕ) → ℕ → ℕ
 total f zero = 0

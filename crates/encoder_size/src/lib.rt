@@ -14,7 +14,7 @@ ghost use Rattle.encoding.specs.Slots.{same};
 ghost use Rattle.encoding.specs.Steps.{step as stepOf};
 ghost use Rattle.set_index.specs.Points.{listed};
 ghost use Rattle.encoder_size.specs.Seen.{isSeen, checksAt, Notes};
-ghost use Rattle.encoder_size.specs.Sizes.{Limits, total, ownRecords, within as withinOf, leadRecords, checkRecords, statementRecords, threadRecords};
+ghost use Rattle.encoder_size.specs.Sizes.{Limits, total, ownRecords, within as withinOf, leadRecords, checkRecords, statementRecords, threadRecords, tableRoom};
 ghost use Rattle.machine.specs.Runs.{mostSteps};
 use records::Layout;
 use records::Statement;
@@ -236,7 +236,7 @@ fn all_statements(layout: Layout) -> u64
 // How many records the table of a set, a map and a bound has.
 pub fn table_records(set: &[u8], layout: Layout, points: Points, map: &[u8], bound: u8) -> u64
     ensures { λ r. ⌜ (r ≡ length (encodedOf (setBy (now (set .entry)) layout) (listed points) (now (map .entry)) bound))
-        × (Limits layout → cells (now (map .entry)) ≤ setCells → bound ≤ mostSteps → r ≤ 210248) ⌝ }
+        × (Limits layout → cells (now (map .entry)) ≤ setCells → bound ≤ mostSteps → r ≤ tableRoom) ⌝ }
 {
     let step = step_records(set, layout, points);
     let before = FIRST + all_statements(layout) + CELL * ((map.len() / Layout::CELL) as u64);
