@@ -26,6 +26,7 @@ use machine::RunAnswer;
 use machine::Thread;
 use machine::Written;
 use machine::memory;
+use machine::offsets::NUMBER;
 use records::Layout;
 use records::Statement;
 use records::refusals;
@@ -165,7 +166,7 @@ fn made(replaying: bool, input: &[u8], i: usize) -> Choice
     if replaying {
         let at = Machine::STEP * i;
         let thread = base::byte_at(input, at);
-        if base::byte_at(input, at + 1) == Statement::INSTRUCTIONS {
+        if base::byte_at(input, at + NUMBER) == Statement::INSTRUCTIONS {
             return Choice::Flush(thread);
         }
         return Choice::Execute(thread);
