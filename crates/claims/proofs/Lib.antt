@@ -5,9 +5,11 @@ pub mod Checkpoints
 pub mod Explored
 pub mod Formed
 pub mod Lines
+pub mod Lookups
 pub mod Models
 pub mod Rules
 pub mod Runs
+mod Samples
 pub mod Sections
 pub mod Tables
 pub mod Texts

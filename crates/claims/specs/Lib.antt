@@ -1,5 +1,6 @@
 -- The demands as statements about the definitions, each a named type; crate `claims` proves every one.
 pub mod Cases
+pub mod Lookups
 pub mod Models
 pub mod Runs
 pub mod Sections

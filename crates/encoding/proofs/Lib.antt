@@ -15,6 +15,7 @@ pub mod Leaves
 pub mod Listed
 pub mod Marks
 pub mod Meant
+pub mod Memories
 pub mod Named
 pub mod Next
 pub mod Over

@@ -139,7 +139,7 @@ module _ (S : Set) (cs : List ℕ) (k : ℕ) where
       go false false false d true f = (refl, (refl, (refl, refl)))
       go false false false d false f = tt
 
-  link-fits : (kind : Kind) (a b i : ℕ) → LinkFits (link S cs k kind a b i) (kindSort kind)
+  pub link-fits : (kind : Kind) (a b i : ℕ) → LinkFits (link S cs k kind a b i) (kindSort kind)
   link-fits choice a b i = tt
   link-fits active a b i = tt
   link-fits opening a p t = cond-both (λ (l : Link). LinkFits l bitSort) (contains S t (getD cs p 0)) (refl, refl) tt

@@ -1,5 +1,5 @@
 -- Evaluation finds what the definition of a table's values says.
-mod Backwards
+pub mod Backwards
 pub mod Choices
 pub mod Evaluated
 mod Halves
@@ -7,4 +7,4 @@ mod Parsed
 pub mod Tables
 mod Turns
 pub mod Views
-mod Words
+pub mod Words

@@ -11,8 +11,7 @@ use Rattle.table.specs.Formulas.{formulaAt, formulaBytes, tableBytes}
 use Rattle.table.specs.declared.Formula.{Formula}
 use Rattle.table.proofs.Read.{read-long}
 use Rattle.table.proofs.Written.{formula-length}
-use Rattle.evaluation.specs.Evaluations.{stored}
-use Rattle.evaluation.proofs.Tables.{recordAt}
+use Rattle.evaluation.specs.Evaluations.{recordAt, stored}
 use Rattle.evaluation.proofs.Views.{Small}
 
 -- ---- one record

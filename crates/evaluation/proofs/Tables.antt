@@ -7,21 +7,17 @@ use native.Mathlib.Decide.{ℕ-discrete}
 use native.Mathlib.Omega.{arith}
 use borrow.Author.Tests.{eq-eqb, ne-eqb}
 use lib.Dec.{eqb}
-use lib.ListN.{length, getD}
+use lib.ListN.{length}
 use Rattle.base.proofs.Choice.{chosen, passed, and-true, and-false, and-right-false, and-left, and-right}
 use Rattle.table.specs.Formulas.{bitSort, memorySort, WRITE, IF}
 use Rattle.table.specs.Tables.{formed, allFormed}
-use Rattle.table.specs.Values.{Assignment, Value, asBit, asWord, asMemory, changed, valueOf, valuesFrom}
+use Rattle.table.specs.Values.{Assignment, Value, asBit, asWord, asMemory, changed, valueOf, valuesFrom, valuesOf, nil}
 use Rattle.table.specs.declared.Formula.{Formula}
 use Rattle.table.proofs.Meaning.{stays}
-use Rattle.evaluation.specs.Evaluations.{noFormula, cellBack}
+use Rattle.evaluation.specs.Evaluations.{recordAt, cellBack}
 use Rattle.evaluation.proofs.Backwards.{back-hit, back-first, back-on}
-use Rattle.evaluation.proofs.Views.{Operand, View, isChoice, isFirst, isBit, isWord, isNot, isAnd, isOr, isEqual, isIf, isPlus, isMinus, isTimes, isRead, isWrite, isTop, isConstraint, isGoal, Small, SmallChoice, view-of}
+use Rattle.evaluation.proofs.Views.{Operand, View, isChoice, isFirst, isBit, isWord, isNot, isAnd, isOr, isEqual, isIf, isPlus, isMinus, isTimes, isRead, isWrite, isTop, isConstraint, isGoal, SmallChoice, Seen, view-of}
 use Rattle.evaluation.proofs.Words.{local, IsBit, bit-one, bit-sorted, first-value, if-value, write-value}
-
--- record j of a table
-abbrev pub recordAt : List Formula → ℕ → Formula
-recordAt table j = getD table j noFormula
 
 -- ---- views
 
@@ -56,25 +52,23 @@ abbrev pub SmallChoices : List Formula → Type 0
 SmallChoices table = (j : ℕ) → j < length table → SmallChoice (recordAt table j)
 
 module _ (final : ℕ → ℕ) where
-  views-from : (table : List Formula) (n : ℕ) (sorts : ℕ → ℕ) → n + length table ≤ 4294967296 → SmallChoices table →
-      allFormed sorts n table ≡ true → ((i : ℕ) → i < n → final i ≡ sorts i) →
+  views-from : (table : List Formula) (n : ℕ) (sorts : ℕ → ℕ) → allFormed sorts n table ≡ true → ((i : ℕ) → i < n → final i ≡ sorts i) →
       ((j : ℕ) → j < length table → final (n + j) ≡ recordAt table j .sort) →
-      (j : ℕ) → j < length table → View final (n + j) (recordAt table j) × Small (recordAt table j)
+      (j : ℕ) → j < length table → Seen final (n + j) (recordAt table j)
   unfolding allFormed
-  views-from [] n sorts few small h same there j l = absurd (omega arith)
-  views-from (f ∷ table) n sorts few small h same there zero l =
-      let k : n ≤ 4294967296 = omega arith in
-      let p = view-of sorts n k f (small 0 (omega arith)) (and-left (formed sorts n f) (allFormed (changed sorts n (f .sort)) (suc n) table) h) in
+  views-from [] n sorts h same there j l = absurd (omega arith)
+  views-from (f ∷ table) n sorts h same there zero l =
+      let p = view-of sorts n f (and-left (formed sorts n f) (allFormed (changed sorts n (f .sort)) (suc n) table) h) in
       let e : n ≡ n + 0 = omega arith in
-      (subst (λ (m : ℕ). View final m f) e (view-moves sorts final n f same (p .0)), p .1)
-  views-from (f ∷ table) n sorts few small h same there (suc j) l =
+      subst (λ (m : ℕ). Seen final m f) e (view-moves sorts final n f same (p .0), p .1)
+  views-from (f ∷ table) n sorts h same there (suc j) l =
       let e : suc n + j ≡ n + suc j = omega arith in
-      let p = views-from table (suc n) (changed sorts n (f .sort)) (omega arith) (λ i (k : i < length table). small (suc i) (omega arith))
+      subst (λ (m : ℕ). Seen final m (recordAt table j)) e
+      (views-from table (suc n) (changed sorts n (f .sort))
       (and-right (formed sorts n f) (allFormed (changed sorts n (f .sort)) (suc n) table) h)
       (sorted-so-far (there 0 (omega arith)))
       (λ i (k : i < length table). let d : suc n + i ≡ n + suc i = omega arith in ap final d ∙ there (suc i) (omega arith))
-      j (omega arith) in
-      (subst (λ (m : ℕ). View final m (recordAt table j)) e (p .0), p .1)
+      j (omega arith))
     where
       sorted-so-far : final (n + 0) ≡ f .sort → (i : ℕ) → i < suc n → final i ≡ changed sorts n (f .sort) i
       sorted-so-far d i k = elim (ℕ-discrete i n) [
@@ -86,18 +80,17 @@ module _ (final : ℕ → ℕ) where
 abbrev pub sortAt : List Formula → ℕ → ℕ
 sortAt table j = recordAt table j .sort
 
-pub views : (table : List Formula) → length table ≤ 4294967296 → SmallChoices table → allFormed (λ i. 0) 0 table ≡ true →
-    (j : ℕ) → j < length table → View (sortAt table) j (recordAt table j) × Small (recordAt table j)
-views table few small h j l =
+pub views : (table : List Formula) → allFormed (λ i. 0) 0 table ≡ true → (j : ℕ) → j < length table → Seen (sortAt table) j (recordAt table j)
+views table h j l =
     let e : 0 + j ≡ j = omega arith in
-    let p = views-from (sortAt table) table 0 (λ i. 0) (omega arith) small h (λ i (k : i < 0). absurd (omega arith))
-    (λ i k. let d : 0 + i ≡ i = omega arith in ap (sortAt table) d) j l in
-    (subst (λ (m : ℕ). View (sortAt table) m (recordAt table j)) e (p .0), p .1)
+    subst (λ (m : ℕ). Seen (sortAt table) m (recordAt table j)) e
+    (views-from (sortAt table) table 0 (λ i. 0) h (λ i (k : i < 0). absurd (omega arith))
+    (λ i k. let d : 0 + i ≡ i = omega arith in ap (sortAt table) d) j l)
 
 -- ---- values
 
 module _ (g : Assignment) where
-  pub agree-from : (sorts : ℕ → ℕ) (table : List Formula) (n : ℕ) (values : ℕ → Value) →
+  agree-from : (sorts : ℕ → ℕ) (table : List Formula) (n : ℕ) (values : ℕ → Value) →
       ((j : ℕ) → j < length table → View sorts (n + j) (recordAt table j)) →
       (j : ℕ) → j < length table → valuesFrom g n values table (n + j) ≡ valueOf g (valuesFrom g n values table) (recordAt table j)
   unfolding valuesFrom
@@ -116,6 +109,15 @@ module _ (g : Assignment) where
       ∙ agree-from sorts table (suc n) (changed values n (valueOf g values f))
       (λ i (h : i < length table). let d : n + suc i ≡ suc n + i = omega arith in subst (λ (m : ℕ). View sorts m (recordAt table i)) d (view (suc i) (omega arith)))
       j (omega arith)
+
+  -- each record of a whole table has its value by the others'
+  pub agree : (table : List Formula) → ((j : ℕ) → j < length table → View (sortAt table) j (recordAt table j)) →
+      (j : ℕ) → j < length table → valuesOf g table j ≡ valueOf g (valuesOf g table) (recordAt table j)
+  agree table view j h =
+      let e : j ≡ 0 + j = omega arith in
+      ap (valuesOf g table) e
+      ∙ agree-from (sortAt table) table 0 (λ i. nil)
+      (λ k (l : k < length table). let d : k ≡ 0 + k = omega arith in subst (λ (m : ℕ). View (sortAt table) m (recordAt table k)) d (view k l)) j h
 
 -- ---- a table whose records are viewed, with values that agree
 

@@ -73,7 +73,11 @@ five a b c d e h =
 
 -- ---- one record
 
-module _ (sorts : ℕ → ℕ) (n : ℕ) (few : n ≤ 4294967296) (f : Formula) where
+module _ (sorts : ℕ → ℕ) (n : ℕ) (f : Formula) where
+  -- its view, and its fields where the table is not too long for its operands' bytes
+  abbrev pub Seen : Type 0
+  Seen = View sorts n f × (n ≤ 4294967296 → SmallChoice f → Small f)
+
   operand-of : (sort i : ℕ) → (ltb i n && eqb (sorts i) sort) ≡ true → Operand sorts n sort i
   operand-of sort i h = (ltb-true i n (and-left (ltb i n) (eqb (sorts i) sort) h), eqb-true (sorts i) sort (and-right (ltb i n) (eqb (sorts i) sort) h))
 
@@ -83,7 +87,7 @@ module _ (sorts : ℕ → ℕ) (n : ℕ) (few : n ≤ 4294967296) (f : Formula) 
   -- one operand, two, three
   module _ (k own : ℕ) (l : k < 256) (m : own < 256) (e : f .operation ≡ k) where
     one : (sort : ℕ) → (f .sort ≡ own → Operand sorts n sort (f .a) → View sorts n f) →
-        (eqb (f .sort) own && (ltb (f .a) n && eqb (sorts (f .a)) sort) && eqb (f .constant) 0 && eqb (f .b) 0 && eqb (f .c) 0) ≡ true → View sorts n f × Small f
+        (eqb (f .sort) own && (ltb (f .a) n && eqb (sorts (f .a)) sort) && eqb (f .constant) 0 && eqb (f .b) 0 && eqb (f .c) 0) ≡ true → Seen
     one sort view h =
         let p = five (eqb (f .sort) own) (ltb (f .a) n && eqb (sorts (f .a)) sort) (eqb (f .constant) 0) (eqb (f .b) 0) (eqb (f .c) 0) h in
         let s : f .sort ≡ own = eqb-true (f .sort) own (p .0) in
@@ -93,7 +97,7 @@ module _ (sorts : ℕ → ℕ) (n : ℕ) (few : n ≤ 4294967296) (f : Formula) 
         let b : f .b ≡ 0 = zero-of (p .1 .1 .1 .0) in
         let c : f .c ≡ 0 = zero-of (p .1 .1 .1 .1) in (
           view s a,
-          record {
+          λ (few : n ≤ 4294967296) small. record {
             smallOperation = omega arith;
             smallSort = omega arith;
             smallConstant = omega arith;
@@ -105,7 +109,7 @@ module _ (sorts : ℕ → ℕ) (n : ℕ) (few : n ≤ 4294967296) (f : Formula) 
 
     two : (first second : ℕ) → (f .sort ≡ own → Operand sorts n first (f .a) → Operand sorts n second (f .b) → View sorts n f) →
         (eqb (f .sort) own && (ltb (f .a) n && eqb (sorts (f .a)) first) && (ltb (f .b) n && eqb (sorts (f .b)) second) && eqb (f .constant) 0 && eqb (f .c) 0) ≡ true →
-        View sorts n f × Small f
+        Seen
     two first second view h =
         let p = five (eqb (f .sort) own) (ltb (f .a) n && eqb (sorts (f .a)) first) (ltb (f .b) n && eqb (sorts (f .b)) second) (eqb (f .constant) 0) (eqb (f .c) 0) h in
         let s : f .sort ≡ own = eqb-true (f .sort) own (p .0) in
@@ -116,7 +120,7 @@ module _ (sorts : ℕ → ℕ) (n : ℕ) (few : n ≤ 4294967296) (f : Formula) 
         let z : f .constant ≡ 0 = zero-of (p .1 .1 .1 .0) in
         let c : f .c ≡ 0 = zero-of (p .1 .1 .1 .1) in (
           view s a b,
-          record {
+          λ (few : n ≤ 4294967296) small. record {
             smallOperation = omega arith;
             smallSort = omega arith;
             smallConstant = omega arith;
@@ -130,7 +134,7 @@ module _ (sorts : ℕ → ℕ) (n : ℕ) (few : n ≤ 4294967296) (f : Formula) 
         (f .sort ≡ own → Operand sorts n first (f .a) → Operand sorts n second (f .b) → Operand sorts n third (f .c) → View sorts n f) →
         (eqb (f .sort) own && (ltb (f .a) n && eqb (sorts (f .a)) first) && (ltb (f .b) n && eqb (sorts (f .b)) second)
         && (ltb (f .c) n && eqb (sorts (f .c)) third) && eqb (f .constant) 0) ≡ true →
-        View sorts n f × Small f
+        Seen
     three first second third view h =
         let p = five (eqb (f .sort) own) (ltb (f .a) n && eqb (sorts (f .a)) first) (ltb (f .b) n && eqb (sorts (f .b)) second)
         (ltb (f .c) n && eqb (sorts (f .c)) third) (eqb (f .constant) 0) h in
@@ -143,7 +147,7 @@ module _ (sorts : ℕ → ℕ) (n : ℕ) (few : n ≤ 4294967296) (f : Formula) 
         let w : f .c < n = c .0 in
         let z : f .constant ≡ 0 = zero-of (p .1 .1 .1 .1) in (
           view s a b c,
-          record {
+          λ (few : n ≤ 4294967296) small. record {
             smallOperation = omega arith;
             smallSort = omega arith;
             smallConstant = omega arith;
@@ -155,14 +159,14 @@ module _ (sorts : ℕ → ℕ) (n : ℕ) (few : n ≤ 4294967296) (f : Formula) 
 
   -- no operand
   none : (k own : ℕ) → k < 256 → own < 256 → f .operation ≡ k → f .sort ≡ own → f .constant < 65536 → View sorts n f →
-      (eqb (f .a) 0 && eqb (f .b) 0 && eqb (f .c) 0) ≡ true → View sorts n f × Small f
+      (eqb (f .a) 0 && eqb (f .b) 0 && eqb (f .c) 0) ≡ true → Seen
   none k own l m e s z view h =
       let p = and-left (eqb (f .a) 0 && eqb (f .b) 0) (eqb (f .c) 0) h in
       let a : f .a ≡ 0 = zero-of (and-left (eqb (f .a) 0) (eqb (f .b) 0) p) in
       let b : f .b ≡ 0 = zero-of (and-right (eqb (f .a) 0) (eqb (f .b) 0) p) in
       let c : f .c ≡ 0 = zero-of (and-right (eqb (f .a) 0 && eqb (f .b) 0) (eqb (f .c) 0) h) in (
         view,
-        record {
+        λ (few : n ≤ 4294967296) small. record {
           smallOperation = omega arith;
           smallSort = omega arith;
           smallConstant = omega arith;
@@ -172,14 +176,14 @@ module _ (sorts : ℕ → ℕ) (n : ℕ) (few : n ≤ 4294967296) (f : Formula) 
         },
       )
 
-  choice-view : SmallChoice f → f .operation ≡ CHOICE → (eqb (f .sort) bitSort && eqb (f .constant) 0 && ltb (f .b) 2) ≡ true → View sorts n f × Small f
-  choice-view small e h =
+  choice-view : f .operation ≡ CHOICE → (eqb (f .sort) bitSort && eqb (f .constant) 0 && ltb (f .b) 2) ≡ true → Seen
+  choice-view e h =
       let p = and-left (eqb (f .sort) bitSort && eqb (f .constant) 0) (ltb (f .b) 2) h in
       let s : f .sort ≡ 1 = eqb-true (f .sort) 1 (and-left (eqb (f .sort) bitSort) (eqb (f .constant) 0) p) in
       let z : f .constant ≡ 0 = zero-of (and-right (eqb (f .sort) bitSort) (eqb (f .constant) 0) p) in
       let b : f .b < 2 = ltb-true (f .b) 2 (and-right (eqb (f .sort) bitSort && eqb (f .constant) 0) (ltb (f .b) 2) h) in (
         isChoice e s,
-        record {
+        λ (few : n ≤ 4294967296) small. record {
           smallOperation = omega arith;
           smallSort = omega arith;
           smallConstant = omega arith;
@@ -190,7 +194,7 @@ module _ (sorts : ℕ → ℕ) (n : ℕ) (few : n ≤ 4294967296) (f : Formula) 
       )
 
   first-view : f .operation ≡ FIRST → (eqb (f .sort) memorySort && eqb (f .constant) 0 && (eqb (f .a) 0 && eqb (f .b) 0 && eqb (f .c) 0)) ≡ true →
-      View sorts n f × Small f
+      Seen
   first-view e h =
       let q = eqb (f .a) 0 && eqb (f .b) 0 && eqb (f .c) 0 in
       let p = and-left (eqb (f .sort) memorySort && eqb (f .constant) 0) q h in
@@ -200,7 +204,7 @@ module _ (sorts : ℕ → ℕ) (n : ℕ) (few : n ≤ 4294967296) (f : Formula) 
 
   constant-view : f .operation ≡ CONSTANT →
       ((eqb (f .sort) bitSort && ltb (f .constant) 2 || eqb (f .sort) wordSort && ltb (f .constant) 65536) && (eqb (f .a) 0 && eqb (f .b) 0 && eqb (f .c) 0)) ≡ true →
-      View sorts n f × Small f
+      Seen
   constant-view e h =
       let q = eqb (f .a) 0 && eqb (f .b) 0 && eqb (f .c) 0 in
       let t = eqb (f .sort) bitSort && ltb (f .constant) 2 in
@@ -218,7 +222,7 @@ module _ (sorts : ℕ → ℕ) (n : ℕ) (few : n ≤ 4294967296) (f : Formula) 
 
   if-view : f .operation ≡ IF → (((eqb (f .sort) bitSort || eqb (f .sort) wordSort) || eqb (f .sort) memorySort)
       && (eqb (f .sort) (f .sort) && (ltb (f .a) n && eqb (sorts (f .a)) bitSort) && (ltb (f .b) n && eqb (sorts (f .b)) (f .sort))
-      && (ltb (f .c) n && eqb (sorts (f .c)) (f .sort)) && eqb (f .constant) 0)) ≡ true → View sorts n f × Small f
+      && (ltb (f .c) n && eqb (sorts (f .c)) (f .sort)) && eqb (f .constant) 0)) ≡ true → Seen
   if-view e h =
       let t = (eqb (f .sort) bitSort || eqb (f .sort) wordSort) || eqb (f .sort) memorySort in
       let u = eqb (f .sort) (f .sort) && (ltb (f .a) n && eqb (sorts (f .a)) bitSort) && (ltb (f .b) n && eqb (sorts (f .b)) (f .sort))
@@ -233,11 +237,11 @@ module _ (sorts : ℕ → ℕ) (n : ℕ) (few : n ≤ 4294967296) (f : Formula) 
           (λ r. let s : f .sort ≡ 2 = eqb-true (f .sort) 2 r in omega arith))
           (λ r. let s : f .sort ≡ 3 = eqb-true (f .sort) 3 r in omega arith)
 
-  pub view-of : SmallChoice f → formed sorts n f ≡ true → View sorts n f × Small f
+  pub view-of : formed sorts n f ≡ true → Seen
   unfolding formed
-  view-of small h =
+  view-of h =
       let o = f .operation in
-      split o CHOICE h (choice-view small)
+      split o CHOICE h choice-view
       (λ h. split o FIRST h first-view
       (λ h. split o CONSTANT h constant-view
       (λ h. split o NOT h (λ e. one 4 1 (omega arith) (omega arith) e bitSort (isNot e))

@@ -68,7 +68,7 @@ module _ (g : Assignment) (values : ℕ → Value) (f : Formula) where
   unfolding valueOf
   times-value e = at 11 e
 
-  read-value : f .operation ≡ READ → valueOf g values f ≡ word (asMemory (values (f .a)) (asWord (values (f .b))))
+  pub read-value : f .operation ≡ READ → valueOf g values f ≡ word (asMemory (values (f .a)) (asWord (values (f .b))))
   unfolding valueOf
   read-value e = at 12 e
 

@@ -1,25 +1,30 @@
 -- What evaluation does on bytes: a table of n records in the first 16 n, and a word for each record's value behind them. A bit's word is 0 or 1; a
 -- memory, a constraint and the goal have 0. This serves the code; no call's promise needs it. Assumes nothing.
-use Prim.Native.Nat.{ℕ, zero, suc, _+_, _*_, _/_, _%_}
+use Prim.Native.Nat.{ℕ, zero, suc, _+_, _*_, _/_, _%_, _<_}
+use mathlib.Core.Path.{_≡_}
 use mathlib.Core.Bool.{Bool, cond, not, _&&_, _||_}
-use mathlib.Core.List.{List}
+use mathlib.Core.List.{List, [], _∷_}
 use lib.Dec.{eqb, ltb}
-use lib.ListN.{length, set}
+use lib.ListN.{length, getD, set}
 use Rattle.base.specs.Bytes.{wordAt}
 use Rattle.base.specs.Words.{plus, minus, times, topBit}
 use Rattle.records.specs.Maps.{mapValue}
 use Rattle.table.specs.Formulas.{formulaAt, CHOICE, CONSTANT, NOT, AND, OR, EQUAL, IF, PLUS, MINUS, TIMES, READ, WRITE, TOP, formulaLength}
-use Rattle.table.specs.Values.{Assignment, isDemand}
+use Rattle.table.specs.Values.{Assignment, asWord, valuesOf, isDemand}
 use Rattle.table.specs.declared.Formula.{Formula}
 use Rattle.decoding.specs.Models.{assigned, workLength}
 
--- ---- records in bytes
+-- ---- records
 
 -- no operation, past the last record
 abbrev pub noFormula : Formula
 noFormula = record { operation = 0; sort = 0; constant = 0; a = 0; b = 0; c = 0 }
 
--- record i of n
+-- record i of a table
+abbrev pub recordAt : List Formula → ℕ → Formula
+recordAt table i = getD table i noFormula
+
+-- record i of n, in bytes
 abbrev pub formulaIn : List ℕ → ℕ → ℕ → Formula
 formulaIn s n i = cond (ltb i n) (formulaAt s i) noFormula
 
@@ -48,6 +53,16 @@ cellBack first formulas values (suc left) m x =
     (cond (eqb (f .operation) WRITE || eqb (f .operation) IF)
     (cellBack first formulas values left (memoryBehind values (f .operation) (f .a) (f .b) (f .c)) x)
     (first x))
+
+-- the memories that are looked at for this cell, in their order
+unfoldable pub memoriesBack : (ℕ → Formula) → (ℕ → ℕ) → (left m x : ℕ) → List ℕ
+memoriesBack formulas values zero m x = []
+memoriesBack formulas values (suc left) m x =
+    let f = formulas m in
+    m ∷ cond (eqb (f .operation) WRITE && eqb x (values (f .b))) []
+    (cond (eqb (f .operation) WRITE || eqb (f .operation) IF)
+    (memoriesBack formulas values left (memoryBehind values (f .operation) (f .a) (f .b) (f .c)) x)
+    [])
 
 -- the word of a record's value from those of the records before it; `read` gives a memory's cells
 unfoldable pub wordOf : Assignment → (ℕ → ℕ) → (ℕ → ℕ → ℕ) → (operation constant a b c : ℕ) → ℕ
@@ -95,3 +110,8 @@ module _ (g : Assignment) (n : ℕ) where
   -- the first constraint or goal that is 0, and n where there is none or the bytes are too few
   unfoldable pub falseIn : List ℕ → ℕ
   falseIn s = cond (ltb (length s) (workLength * n)) n (falseFrom 0 n s)
+
+-- What stands in work memory when the turn of record i comes: the table's records, and the words of the values of those before i.
+pub record AtTurn (g : Assignment) (table : List Formula) (i : ℕ) (formulas : ℕ → Formula) (values : ℕ → ℕ) : Type 0 where
+  pub records : (j : ℕ) → j < length table → formulas j ≡ recordAt table j
+  pub words : (j : ℕ) → j < i → values j ≡ asWord (valuesOf g table j)

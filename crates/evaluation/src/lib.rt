@@ -149,7 +149,9 @@ fn behind(work: &[u8], n: u32, f: Formula) -> u64
     f.c
 }
 
-// The cell at address x of memory m, from the last write back.
+// The cell at address x of memory m, from the last write back. In each turn `memory` is the record that is looked at, `f` what it says, and
+// `left` how many records may still be looked at, this one among them. In a table the memory behind is an earlier record, so `memory` falls
+// from turn to turn, each memory is looked at once, and `left` is never used up: claim `LooksBackOnce`. docs/ARCHITECTURE.md has an example.
 fn read_back(work: &[u8], n: u32, cells: &[u8], ordered: bool, m: u64, x: u16) -> u16
     requires { ⌜ (workLength * n ≤ length (now work)) × (ordered ≡ true → mapAccepted runCells (now cells) ≡ true) ⌝ }
     ensures { λ r. ⌜ r ≡ cellBack (mapValue (now (cells .entry))) (formulaIn (now (work .entry)) n) (valueIn (now (work .entry)) n) n m x ⌝ }
@@ -159,15 +161,19 @@ fn read_back(work: &[u8], n: u32, cells: &[u8], ordered: bool, m: u64, x: u16) -
     while 0 < left {
         let f = formula(work, n, memory);
         let operation = f.operation;
+        // a write at this address: the cell is what it wrote
         if (operation == WRITE) & (x == value(work, n, f.b)) {
             return value(work, n, f.c);
         }
+        // first memory: the cell is the model's
         if !((operation == WRITE) | (operation == IF)) {
             return first(cells, ordered, x);
         }
+        // a write at another address, or an if of memories: on to the memory behind
         memory = behind(work, n, f);
         left -= 1;
     }
+    // no look-up in a table comes here; bytes that are no table could
     0
 }
 

@@ -33,28 +33,54 @@ enum Value {
 /// The index of the first constraint or goal that is 0; none if the assignment satisfies. The table
 /// must be well formed.
 pub fn first_false(table: &[Formula], assignment: &Assignment) -> Option<usize> {
-    let mut evaluation = Evaluation {
-        table,
-        assignment,
-        values: Vec::with_capacity(table.len()),
-    };
+    let mut evaluation = Evaluation::new(table, assignment);
     for (index, formula) in table.iter().enumerate() {
         if formula.is_demand() && !evaluation.bit(formula.a) {
             return Some(index);
         }
-        let value = evaluation.value(formula);
-        evaluation.values.push(value);
+        evaluation.push(formula);
     }
     None
 }
 
-struct Evaluation<'a> {
+/// The values of a table's records under an assignment.
+pub struct Evaluation<'a> {
     table: &'a [Formula],
     assignment: &'a Assignment,
     values: Vec<Value>,
 }
 
-impl Evaluation<'_> {
+impl<'a> Evaluation<'a> {
+    fn new(table: &'a [Formula], assignment: &'a Assignment) -> Evaluation<'a> {
+        Evaluation {
+            table,
+            assignment,
+            values: Vec::with_capacity(table.len()),
+        }
+    }
+
+    /// All values. The table must be well formed.
+    pub fn whole(table: &'a [Formula], assignment: &'a Assignment) -> Evaluation<'a> {
+        let mut evaluation = Evaluation::new(table, assignment);
+        for formula in table {
+            evaluation.push(formula);
+        }
+        evaluation
+    }
+
+    fn push(&mut self, formula: &Formula) {
+        let value = self.value(formula);
+        self.values.push(value);
+    }
+
+    /// The cell that a read record gives, and the memories that it is looked up in, in their order.
+    pub fn look_up(&self, read: usize) -> (u16, Vec<u32>) {
+        let Formula { a, b, .. } = self.table[read];
+        let mut visited = Vec::new();
+        let cell = self.cell(a, self.word(b), |memory| visited.push(memory));
+        (cell, visited)
+    }
+
     fn bit(&self, index: u32) -> bool {
         match self.values[index as usize] {
             Value::Bit(bit) => bit,
@@ -62,7 +88,8 @@ impl Evaluation<'_> {
         }
     }
 
-    fn word(&self, index: u32) -> u16 {
+    /// The value of a record that has a word.
+    pub fn word(&self, index: u32) -> u16 {
         match self.values[index as usize] {
             Value::Word(word) => word,
             _ => panic!("record {index} is no word"),
@@ -84,7 +111,7 @@ impl Evaluation<'_> {
             PLUS => Value::Word(self.word(a).wrapping_add(self.word(b))),
             MINUS => Value::Word(self.word(a).wrapping_sub(self.word(b))),
             TIMES => Value::Word(self.word(a).wrapping_mul(self.word(b))),
-            READ => Value::Word(self.cell(a, self.word(b))),
+            READ => Value::Word(self.cell(a, self.word(b), |_| {})),
             FIRST | WRITE => Value::Memory,
             TOP => Value::Bit(self.word(a) >> 15 == 1),
             _ => Value::None,
@@ -100,9 +127,10 @@ impl Evaluation<'_> {
         }
     }
 
-    /// What stands at the address in a memory: goes back over the records that it was made by.
-    fn cell(&self, mut memory: u32, address: u16) -> u16 {
+    /// What stands at the address in a memory: goes back over the records that it was made by, and shows each.
+    fn cell(&self, mut memory: u32, address: u16, mut visit: impl FnMut(u32)) -> u16 {
         loop {
+            visit(memory);
             let formula = &self.table[memory as usize];
             memory = match formula.operation {
                 FIRST => return self.assignment.first[usize::from(address)],

@@ -33,7 +33,7 @@ pub use answers::{End, Ran, Refusal};
 pub use check::check;
 pub use decode::{decode, Decoded};
 pub use encode::{encode, table_size};
-pub use evaluate::{first_false, Assignment};
+pub use evaluate::{first_false, Assignment, Evaluation};
 pub use formula::{formulas, Formula};
 pub use instructions::Instruction;
 pub use listing::listing;

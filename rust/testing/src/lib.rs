@@ -4,6 +4,7 @@
 pub mod assignments;
 pub mod counts;
 pub mod damage;
+pub mod functions;
 pub mod inputs;
 pub mod judged;
 pub mod lent;

@@ -2,7 +2,7 @@
 
 use testing::sources::{repository, text};
 
-const PAGES: [&str; 8] = [
+const PAGES: [&str; 9] = [
     "README.md",
     "CONTRIBUTING.md",
     "docs/ARCHITECTURE.md",
@@ -11,6 +11,7 @@ const PAGES: [&str; 8] = [
     "docs/PROVING.md",
     "docs/TABLE.md",
     "docs/USE.md",
+    "docs/changes/2026-04.md",
 ];
 
 /// The words in backquotes of a page, its blocks of code left out.

@@ -3,20 +3,13 @@
 //! Run with --nocapture to see them by function.
 
 use std::collections::BTreeSet;
-use std::fs;
 use std::path::{Path, PathBuf};
 
-use testing::sources::{repository, text};
+use testing::functions::{crates, functions_of, is_name, sorted, stem, Function};
+use testing::sources::text;
 
 /// At least so many for each public function.
 const WANTED: usize = 2;
-
-struct Function {
-    module: String,
-    name: String,
-    public: bool,
-    lines: Vec<String>,
-}
 
 struct Replacement {
     file: String,
@@ -34,82 +27,6 @@ struct Answer {
 struct Edit {
     path: PathBuf,
     answers: Vec<Answer>,
-}
-
-/// The crates, by folder.
-fn crates() -> Vec<PathBuf> {
-    sorted(&repository().join("crates"))
-}
-
-/// What a folder holds; nothing where there is none.
-fn sorted(folder: &Path) -> Vec<PathBuf> {
-    let entries = fs::read_dir(folder).into_iter().flatten();
-    let mut paths: Vec<PathBuf> = entries
-        .map(|entry| entry.expect("an entry").path())
-        .collect();
-    paths.sort();
-    paths
-}
-
-fn stem(path: &Path) -> String {
-    path.file_stem()
-        .expect("a name")
-        .to_string_lossy()
-        .into_owned()
-}
-
-/// The functions of a file in `rt fmt`'s layout: each ends at the brace under the start of its first line.
-fn functions(module: &str, code: &str) -> Vec<Function> {
-    let lines: Vec<&str> = code.lines().collect();
-    let mut found = Vec::new();
-    for (at, line) in lines.iter().enumerate() {
-        let start = line.trim_start();
-        let unexported = start
-            .trim_start_matches("pub ")
-            .trim_start_matches("extern \"C\" ");
-        let Some(named) = unexported.strip_prefix("fn ") else {
-            continue;
-        };
-        let end = format!("{}}}", &line[..line.len() - start.len()]);
-        let length = lines[at..]
-            .iter()
-            .position(|l| *l == end)
-            .expect("a closing brace");
-        found.push(Function {
-            module: module.to_string(),
-            name: named
-                .split(|c| !is_name(c))
-                .next()
-                .expect("a name")
-                .to_string(),
-            public: start.starts_with("pub "),
-            lines: lines[at..at + length]
-                .iter()
-                .map(|l| l.to_string())
-                .collect(),
-        });
-    }
-    found
-}
-
-fn is_name(c: char) -> bool {
-    c.is_alphanumeric() || c == '_'
-}
-
-/// All functions of a crate; public are those that other crates can call.
-fn functions_of(folder: &Path) -> Vec<Function> {
-    let library = text(&folder.join("src/lib.rt"));
-    let mut all = Vec::new();
-    for path in sorted(&folder.join("src")) {
-        let module = stem(&path);
-        let open = module == "lib" || library.contains(&format!("\npub mod {module};"));
-        for mut function in functions(&module, &text(&path)) {
-            let used = format!("\npub use {module}::{};", function.name);
-            function.public &= open || library.contains(&used);
-            all.push(function);
-        }
-    }
-    all
 }
 
 /// An edit's wrong answers; one that names none is one itself.
