@@ -16,9 +16,9 @@ use Rattle.table.specs.Formulas.{noSort, memorySort, FIRST, IF, READ, WRITE}
 use Rattle.table.specs.Tables.{allFormed}
 use Rattle.table.specs.Values.{Assignment, asWord, asMemory, valuesOf}
 use Rattle.table.specs.declared.Formula.{Formula}
-use Rattle.table.proofs.Memories.{memories, memories-number}
+use Rattle.table.proofs.Passing.{passing-before, in-first-part}
 use Rattle.encoding.specs.Encodings.{tableOf}
-use Rattle.encoding.proofs.Memories.{table-memories}
+use Rattle.encoding.proofs.Memories.{isMemory, isRead as isReadRecord, Parted, parted}
 use Rattle.evaluation.specs.Evaluations.{noFormula, recordAt, memoryBehind, cellBack, memoriesBack, AtTurn}
 use Rattle.evaluation.proofs.Backwards.{back-hit, back-first, back-on, visits-hit, visits-first, visits-on}
 use Rattle.evaluation.proofs.Tables.{sortAt, views, agree, cells}
@@ -83,28 +83,28 @@ module _ (first : ℕ → ℕ) (formulas : ℕ → Formula) (values : ℕ → �
   -- ---- the loop's, over records of these sorts
 
   module _ (sorts : ℕ → ℕ) where
-    abbrev isMemory : ℕ → Bool
-    isMemory j = eqb (sorts j) memorySort
+    abbrev memoryAt : ℕ → Bool
+    memoryAt j = eqb (sorts j) memorySort
 
     -- from memory m on, where `left` memories may be looked at; the visited ones are among the memories up to m
     pub record Goes (left m : ℕ) : Type 0 where
       pub looksBack : LooksBack first formulas values x m (cellBack first formulas values left m x) (memoriesBack formulas values left m x)
-      pub few : length (memoriesBack formulas values left m x) ≤ number (suc m) isMemory
+      pub few : length (memoriesBack formulas values left m x) ≤ number (suc m) memoryAt
 
     goes-as : (left m cell : ℕ) (visited : List ℕ) → cellBack first formulas values left m x ≡ cell → memoriesBack formulas values left m x ≡ visited →
-        LooksBack first formulas values x m cell visited → length visited ≤ number (suc m) isMemory → Goes left m
+        LooksBack first formulas values x m cell visited → length visited ≤ number (suc m) memoryAt → Goes left m
     goes-as left m cell visited p q h l = record {
       looksBack =
           subst (λ (c : ℕ). LooksBack first formulas values x m c (memoriesBack formulas values left m x)) (sym p)
           (subst (LooksBack first formulas values x m cell) (sym q) h);
-      few = subst (λ (visited : List ℕ). length visited ≤ number (suc m) isMemory) (sym q) l;
+      few = subst (λ (visited : List ℕ). length visited ≤ number (suc m) memoryAt) (sym q) l;
     }
 
     module _ (left m : ℕ) (s : sorts m ≡ memorySort) where
       -- one memory more
-      counted : (k n : ℕ) → k ≤ m → n ≤ number k isMemory → suc n ≤ number (suc m) isMemory
+      counted : (k n : ℕ) → k ≤ m → n ≤ number k memoryAt → suc n ≤ number (suc m) memoryAt
       unfolding number
-      counted k n h l = omega (arith, chosen {A = ℕ} 1 0 (eq-eqb (sorts m) memorySort s), number-grows isMemory k m h)
+      counted k n h l = omega (arith, chosen {A = ℕ} 1 0 (eq-eqb (sorts m) memorySort s), number-grows memoryAt k m h)
 
       -- a write at this address
       at-write : formulas m .operation ≡ WRITE → x ≡ values (formulas m .b) → Goes (suc left) m
@@ -249,19 +249,32 @@ module _ (g : Assignment) (table : List Formula) (formed : allFormed (λ i. noSo
       ∙ sym (cells g (length table) (recordAt table) (valuesOf g table) view (agree g table view) i (omega arith) formulas (turn .records) values (turn .words)
       (length table) (f .a) (values (f .b)) (omega arith) m (its-operands .0 .1)))
 
-  reads-back : (bound : ℕ) → memories table ≡ suc bound → ReadsBack g table i formulas values bound
-  reads-back bound e =
-      let h = inside table i reads in
+  -- up to the memory that is read there are no more memories than the bound has steps
+  its-memories : (bound : ℕ) → Parted bound table → number (suc (f .a)) (λ j. isMemory (recordAt table j)) ≤ bound
+  its-memories bound parts =
       let m : f .a < i = its-operands .0 .0 in
-      let isMemory : ℕ → Bool = λ j. eqb (sortAt table j) memorySort in
-      record {
-        looksBack = goes .looksBack;
-        few = omega (arith, goes .few, number-grows isMemory (suc (f .a)) (length table) (omega arith), memories-number table noFormula, e);
-        value = its-value;
-      }
+      let there = subst (λ (t : List Formula). eqb (recordAt t i .operation) READ ≡ true) (parts .joined) (eq-eqb (f .operation) READ reads) in
+      let inPart = in-first-part isReadRecord (parts .early) (parts .late) noFormula refl (parts .readsEarly) i there in
+      let counted = passing-before isMemory (parts .early) (parts .late) noFormula in
+      let all = ap (λ (t : List Formula). number (length (parts .early)) (λ j. isMemory (recordAt t j))) (parts .joined) in
+      omega (
+        arith,
+        inPart,
+        counted,
+        all,
+        parts .memoriesEarly,
+        number-grows (λ j. isMemory (recordAt table j)) (suc (f .a)) (length (parts .early)) (omega arith),
+      )
+
+  reads-back : (bound : ℕ) → Parted bound table → ReadsBack g table i formulas values bound
+  reads-back bound parts = record {
+    looksBack = goes .looksBack;
+    few = omega (arith, goes .few, its-memories bound parts);
+    value = its-value;
+  }
 
 -- ---- the claim
 
 pub looksBackOnce : LooksBackOnce
 looksBackOnce set map bound a b one few h k g i formulas values reads turn =
-    reads-back g (tableOf set map bound) (tablesAreWellFormed set map bound a b one few h k .records) i formulas values reads turn bound (table-memories set map bound)
+    reads-back g (tableOf set map bound) (tablesAreWellFormed set map bound a b one few h k .records) i formulas values reads turn bound (parted set map bound one)

@@ -1,6 +1,6 @@
 -- How the model check looks up one cell, change request 2026-04: "It goes back over the memories behind that read, each at most once". Statements
 -- alone; proofs/Lookups.antt proves them. Assumes nothing.
-use Prim.Native.Nat.{ℕ, suc, _+_, _≤_, _<_}
+use Prim.Native.Nat.{ℕ, suc, _≤_, _<_}
 use mathlib.Core.Path.{_≡_}
 use mathlib.Core.Bool.{cond}
 use mathlib.Core.List.{List}
@@ -56,10 +56,10 @@ module _ (g : Assignment) (table : List Formula) (i : ℕ) (formulas : ℕ → F
   abbrev pub visited : List ℕ
   visited = memoriesBack formulas values (length table) (recordAt table i .a) address
 
-  -- the loop goes so, over one memory for each step at most, and first memory; and what it gives is the record's value
+  -- The loop goes so, in no more turns than the bound has steps, and what it gives is the record's value.
   pub record ReadsBack (bound : ℕ) : Type 0 where
     pub looksBack : LooksBack (g .first) formulas values address (recordAt table i .a) cell visited
-    pub few : length visited ≤ bound + 1
+    pub few : length visited ≤ bound
     pub value : asWord (valuesOf g table i) ≡ cell
 
 -- for each read record at its turn, under every assignment, that of each model among them

@@ -151,7 +151,8 @@ fn behind(work: &[u8], n: u32, f: Formula) -> u64
 
 // The cell at address x of memory m, from the last write back. In each turn `memory` is the record that is looked at, `f` what it says, and
 // `left` how many records may still be looked at, this one among them. In a table the memory behind is an earlier record, so `memory` falls
-// from turn to turn, each memory is looked at once, and `left` is never used up: claim `LooksBackOnce`. docs/ARCHITECTURE.md has an example.
+// from turn to turn, each memory is looked at once, and `left` is never used up: claim `LooksBackOnce`. docs/ARCHITECTURE.md has an example,
+// turn by turn.
 fn read_back(work: &[u8], n: u32, cells: &[u8], ordered: bool, m: u64, x: u16) -> u16
     requires { ⌜ (workLength * n ≤ length (now work)) × (ordered ≡ true → mapAccepted runCells (now cells) ≡ true) ⌝ }
     ensures { λ r. ⌜ r ≡ cellBack (mapValue (now (cells .entry))) (formulaIn (now (work .entry)) n) (valueIn (now (work .entry)) n) n m x ⌝ }

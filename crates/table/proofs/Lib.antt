@@ -2,7 +2,7 @@
 pub mod Sequences
 pub mod Renamed
 pub mod Meaning
-pub mod Memories
+pub mod Passing
 pub mod Written
 pub mod Numbered
 pub mod Sorted
