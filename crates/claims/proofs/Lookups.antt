@@ -215,7 +215,7 @@ operands sorts n f r (isConstraint e t a) = absurd (omega arith)
 operands sorts n f r (isGoal e t a) = absurd (omega arith)
 
 -- past the last record there is none
-inside : (table : List Formula) (i : ℕ) → recordAt table i .operation ≡ READ → i < length table
+pub inside : (table : List Formula) (i : ℕ) → recordAt table i .operation ≡ READ → i < length table
 inside [] i e = absurd (omega arith)
 inside (f ∷ table) zero e = omega arith
 inside (f ∷ table) (suc i) e = omega (arith, inside table i e)

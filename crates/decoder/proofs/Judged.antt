@@ -12,7 +12,8 @@ use Rattle.base.specs.Bytes.{over}
 use Rattle.base.proofs.Choice.{chosen, passed, and-true, and-left, or-left, or-right}
 use Rattle.records.specs.Maps.{cells, mapAccepted, runCells}
 use Rattle.records.specs.Sets.{setOf}
-use Rattle.table.specs.Formulas.{tableBytes}
+use Rattle.table.specs.declared.Formula.{Formula}
+use Rattle.table.specs.Formulas.{tableBytes, READ}
 use Rattle.table.specs.Tables.{WellFormedTable}
 use Rattle.table.proofs.Written.{table-length}
 use Rattle.encoding.specs.Encodings.{tableOf}
@@ -21,9 +22,13 @@ use Rattle.encoding.proofs.WellFormed.{well-formed}
 use Rattle.decoding.specs.Models.{bits, listedCells, modelFits, assigned}
 use Rattle.encoder.specs.Answers.{sizeAnswer, encodeAnswer}
 use Rattle.encoder.specs.declared.TableAnswer.the-variants.{Encoded}
-use Rattle.evaluation.specs.Evaluations.{givenBy, falseIn}
+use Rattle.evaluation.specs.Evaluations.{recordAt, formulaIn, valueIn, givenBy, turned, falseIn}
 use Rattle.evaluation.proofs.Choices.{small-choices}
-use Rattle.evaluation.proofs.Evaluated.{evaluated}
+use Rattle.evaluation.proofs.Evaluated.{at-turn, evaluated}
+use Rattle.evaluation.proofs.Tables.{SmallChoices}
+use Rattle.claims.specs.Lookups.{ReadsBack}
+use Rattle.claims.proofs.Lookups.{looksBackOnce, inside}
+use Rattle.claims.proofs.Models.{bytes-of}
 use Rattle.decoder.specs.Answers.{falseRecord, judged, modelAnswer, decoded, tooShort, modelDecoding}
 use Rattle.decoder.specs.declared.CheckAnswer.the-variants.{Refused}
 use Rattle.decoder.specs.declared.DecodeAnswer.{DecodeAnswer}
@@ -55,23 +60,39 @@ module _ (set map : List ℕ) (bound n : ℕ) (e : sizeAnswer set map bound ≡ 
       ∙ (passed _ _ (le-ltb room (16 * length (tableOf set map bound)) (omega arith)) ∙ ap Encoded (sym p)))
 
   module _ (model : List ℕ) (threads : ℕ) where
-    -- evaluation of the written table finds the definition's record
-    pub found : Bytes set → Bytes map → (t : threads ≡ setOf set .threads) → threads < 256 → n < 4294967296 → (work : List ℕ) → 32 * n ≤ length work →
-        falseIn (givenBy threads bound model (drop (bits threads bound) model)) n (over (tableBytes (tableOf set map bound)) work)
-        ≡ falseRecord (assigned threads bound model) (tableOf set map bound)
-    unfolding givenBy assigned
-    found bytes mapBytes t few short work room =
-        let s = facts in
-        let table = tableOf set map bound in
-        let p = s .count in
-        let b = s .fewSteps in
-        let one = s .someStep in
-        let l = table-length table in
-        let formed : WellFormedTable threads bound (cells map) table =
-        subst (λ (T : ℕ). WellFormedTable T bound (cells map) table) (sym t) (well-formed set map bound bytes mapBytes (omega arith)) in
-        ap (λ (k : ℕ). falseIn (assigned threads bound model) k (over (tableBytes table) work)) p
-        ∙ evaluated (assigned threads bound model) table work (omega arith)
-        (small-choices threads bound (omega arith) (omega arith) (cells map) table formed) (formed .records) (omega arith) (omega arith)
+    module _ (bytes : Bytes set) (mapBytes : Bytes map) (t : threads ≡ setOf set .threads) (few : threads < 256) (short : n < 4294967296)
+        (work : List ℕ) (room : 32 * n ≤ length work) where
+      abbrev table : List Formula
+      table = tableOf set map bound
+
+      formed : WellFormedTable threads bound (cells map) table
+      formed = subst (λ (T : ℕ). WellFormedTable T bound (cells map) table) (sym t) (well-formed set map bound bytes mapBytes (omega (arith, facts .someStep)))
+
+      small : SmallChoices table
+      small = small-choices threads bound (omega arith) (omega (arith, facts .fewSteps)) (cells map) table formed
+
+      -- evaluation of the written table finds the definition's record
+      pub found : falseIn (givenBy threads bound model (drop (bits threads bound) model)) n (over (tableBytes table) work)
+          ≡ falseRecord (assigned threads bound model) table
+      unfolding givenBy assigned
+      found =
+          let p = facts .count in
+          let l = table-length table in
+          ap (λ (k : ℕ). falseIn (assigned threads bound model) k (over (tableBytes table) work)) p
+          ∙ evaluated (assigned threads bound model) table work (omega arith) small (formed .records) (omega arith) (omega arith)
+
+      -- each look-up of this evaluation goes as the claim says: that for record i, in work memory as it is at its turn
+      pub look-ups : (i : ℕ) → recordAt table i .operation ≡ READ →
+          let g = assigned threads bound model in
+          let s = turned g (length table) i (over (tableBytes table) work) in
+          ReadsBack g table i (formulaIn s (length table)) (valueIn s (length table)) bound
+      look-ups i reads =
+          let p = facts .count in
+          let l = table-length table in
+          let h = inside table i reads in
+          looksBackOnce set map bound (facts .accepted) (facts .mapped) (facts .someStep) (facts .fewSteps) (bytes-of set bytes) (bytes-of map mapBytes)
+          (assigned threads bound model) i _ _ reads
+          (at-turn (assigned threads bound model) table work (omega arith) small (formed .records) (omega arith) (omega arith) i (omega arith))
 
     module _ (t : threads ≡ setOf set .threads) (room : ℕ) where
       fits-there : (b : Bool) → modelFits threads bound model ≡ b → modelFits (setOf set .threads) bound model ≡ b

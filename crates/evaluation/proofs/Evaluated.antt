@@ -1,6 +1,6 @@
 -- Evaluation of a well-formed table's bytes finds the first constraint or goal that is 0. Assumes nothing.
 use Prim.Native.Nat.{ℕ, zero, suc, _+_, _*_, _≤_, _<_}
-use mathlib.Core.Path.{_≡_, ap, ap₂, sym, _∙_}
+use mathlib.Core.Path.{_≡_, refl, ap, ap₂, sym, _∙_, subst}
 use mathlib.Core.Bool.{Bool, true, not, cond, _&&_}
 use mathlib.Core.List.{List}
 use native.Mathlib.Decide.{ℕ-discrete}
@@ -17,7 +17,7 @@ use Rattle.table.specs.Tables.{allFormed}
 use Rattle.table.specs.Values.{Assignment, Value, asBit, asWord, valuesOf, isDemand}
 use Rattle.table.specs.declared.Formula.{Formula}
 use Rattle.decoding.specs.Models.{firstFalse}
-use Rattle.evaluation.specs.Evaluations.{recordAt, formulaIn, valueIn, stored, noFormula, AtTurn, isFalse, cellIn, wordIn, falseFrom, falseIn}
+use Rattle.evaluation.specs.Evaluations.{recordAt, formulaIn, valueIn, stored, noFormula, turned, AtTurn, isFalse, cellIn, wordIn, falseFrom, falseIn}
 use Rattle.evaluation.proofs.Parsed.{table-parsed, stored-records, stored-there, stored-elsewhere, stored-length}
 use Rattle.evaluation.proofs.Tables.{sortAt, SmallChoices, views, agree, bits, cells}
 use Rattle.evaluation.proofs.Views.{View}
@@ -70,6 +70,20 @@ module _ (g : Assignment) (table : List Formula)
               ap (λ (w : ℕ). cond (ltb j size) w 0) (stored-elsewhere s size i (wordIn g size s (recordAt table i)) j e) ∙ turn .words j (omega arith)
         ]
 
+  -- the turns one after the other
+  turns : (s : List ℕ) → 32 * size ≤ length s → Turn 0 s → (i : ℕ) → i ≤ size → (length (turned g size i s) ≡ length s) × Turn i (turned g size i s)
+  unfolding turned
+  turns s long start zero l = (refl, start)
+  turns s long start (suc i) l =
+      let before = turns s long start i (omega arith) in
+      let t = turned g size i s in
+      let h : i < size = omega arith in
+      let e : stored t size i (wordIn g size t (formulaIn t size i)) ≡ after t i h (before .1) =
+      ap (λ (f : Formula). stored t size i (wordIn g size t f)) (before .1 .records i h) in (
+        stored-length t size i (wordIn g size t (formulaIn t size i)) ∙ before .0,
+        subst (Turn (suc i)) (sym e) (next-turn t i h (before .1) (omega (arith, before .0))),
+      )
+
   found : (left i : ℕ) (s : List ℕ) → i + left ≡ size → 32 * size ≤ length s → Turn i s → falseFrom g size i left s ≡ firstFalse values i (drop i table)
   unfolding falseFrom firstFalse
   found zero i s e long turn = sym (ap (firstFalse values i) (drop-of-length-le table {i = i} (omega arith)))
@@ -81,21 +95,32 @@ module _ (g : Assignment) (table : List Formula)
       (found left (suc i) (after s i h turn) (omega arith) (omega arith) (next-turn s i h turn long))
       ∙ sym (ap (firstFalse values i) (drop-cons table i noFormula h)))
 
--- the whole table
-pub evaluated : (g : Assignment) (table : List Formula) (work : List ℕ) → length table ≤ 4294967296 → SmallChoices table →
-    allFormed (λ i. 0) 0 table ≡ true → length (tableBytes table) ≤ length work → 32 * length table ≤ length work →
-    falseIn g (length table) (over (tableBytes table) work) ≡ firstFalse (valuesOf g table) 0 table
-unfolding falseIn over
-evaluated g table work few small formed fits long =
-    let both = views table formed in
-    let view : (j : ℕ) → j < length table → View (sortAt table) j (recordAt table j) = λ j h. both j h .0 in
-    let s = over (tableBytes table) work in
-    let parsed = table-parsed table (drop (length (tableBytes table)) work) (λ j (h : j < length table). both j h .1 (omega arith) (small j h)) in
-    let n = length-over (tableBytes table) work fits in
-    passed _ _ (le-ltb (length s) (32 * length table) (omega arith))
-    ∙ found g table view
-    (length table) 0 s (omega arith) (omega arith)
-    (record {
-      records = λ j (h : j < length table). chosen _ _ (lt-ltb j (length table) h) ∙ parsed j h;
-      words = λ j (h : j < 0). absurd (omega arith);
-    })
+module _ (g : Assignment) (table : List Formula) (work : List ℕ) (few : length table ≤ 4294967296) (small : SmallChoices table)
+    (formed : allFormed (λ i. 0) 0 table ≡ true) (fits : length (tableBytes table) ≤ length work) (long : 32 * length table ≤ length work) where
+  abbrev bytes : List ℕ
+  bytes = over (tableBytes table) work
+
+  seen : (j : ℕ) → j < length table → View (sortAt table) j (recordAt table j)
+  seen j l = views table formed j l .0
+
+  begins : AtTurn g table 0 (formulaIn bytes (length table)) (valueIn bytes (length table))
+  unfolding over
+  begins =
+      let parsed = table-parsed table (drop (length (tableBytes table)) work) (λ j (h : j < length table). views table formed j h .1 (omega arith) (small j h)) in
+      record {
+        records = λ j (h : j < length table). chosen _ _ (lt-ltb j (length table) h) ∙ parsed j h;
+        words = λ j (h : j < 0). absurd (omega arith);
+      }
+
+  room : 32 * length table ≤ length bytes
+  room = omega (arith, length-over (tableBytes table) work fits)
+
+  -- what stands in work memory at each turn
+  pub at-turn : (i : ℕ) → i ≤ length table →
+      AtTurn g table i (formulaIn (turned g (length table) i bytes) (length table)) (valueIn (turned g (length table) i bytes) (length table))
+  at-turn i l = turns g table seen bytes room begins i l .1
+
+  -- the whole table
+  pub evaluated : falseIn g (length table) bytes ≡ firstFalse (valuesOf g table) 0 table
+  unfolding falseIn
+  evaluated = passed _ _ (le-ltb (length bytes) (32 * length table) room) ∙ found g table seen (length table) 0 bytes (omega arith) room begins

@@ -8,7 +8,7 @@ use native.Mathlib.Numerals.{add-one}
 use Rattle.base.proofs.Choice.{chosen, passed}
 use Rattle.table.specs.Values.{Assignment}
 use Rattle.table.specs.declared.Formula.{Formula}
-use Rattle.evaluation.specs.Evaluations.{formulaIn, valueIn, stored, isFalse, wordIn, falseFrom}
+use Rattle.evaluation.specs.Evaluations.{formulaIn, valueIn, stored, isFalse, wordIn, turned, falseFrom}
 
 module _ (g : Assignment) (n i : ℕ) (s : List ℕ) (f : Formula) (e : f ≡ formulaIn s n i) (h : i < n) where
   abbrev falseHere : Formula → Bool
@@ -31,3 +31,11 @@ module _ (g : Assignment) (n i : ℕ) (s : List ℕ) (f : Formula) (e : f ≡ fo
       ∙ (ap (λ (v : ℕ). falseFrom g n (suc i) (n - (i + 1)) (stored s n i v)) (sym p)
       ∙ (ap (falseFrom g n (suc i) (n - (i + 1))) (sym q)
       ∙ ap (λ (k : ℕ). falseFrom g n k (n - (i + 1)) after) (sym (add-one i))))))
+
+-- work memory at the next turn
+pub turned-next : (g : Assignment) (n i : ℕ) (start s : List ℕ) (f : Formula) (w : ℕ) (after : List ℕ) →
+    s ≡ turned g n i start → f ≡ formulaIn s n i → w ≡ wordIn g n s f → after ≡ stored s n i w → after ≡ turned g n (i + 1) start
+unfolding turned
+turned-next g n i start s f w after d e p q =
+    q ∙ (ap (stored s n i) (p ∙ ap (wordIn g n s) e) ∙ (ap (λ (t : List ℕ). stored t n i (wordIn g n t (formulaIn t n i))) d
+    ∙ ap (λ (k : ℕ). turned g n k start) (sym (add-one i))))

@@ -100,6 +100,13 @@ module _ (g : Assignment) (n : ℕ) where
   abbrev pub wordIn : List ℕ → Formula → ℕ
   wordIn s f = wordOf g (valueIn s n) (cellIn s) (f .operation) (f .constant) (f .a) (f .b) (f .c)
 
+  -- the bytes when the turn of record i comes: the values of the records before it are stored
+  unfoldable pub turned : (i : ℕ) → List ℕ → List ℕ
+  turned zero s = s
+  turned (suc i) s =
+      let t = turned i s in
+      stored t n i (wordIn t (formulaIn t n i))
+
   -- values are stored front to back, up to the first constraint or goal that is 0; the next of the last `left` records is number i
   unfoldable pub falseFrom : (i left : ℕ) → List ℕ → ℕ
   falseFrom i zero s = i

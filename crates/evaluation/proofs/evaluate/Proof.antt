@@ -1,6 +1,6 @@
 -- `evaluation::evaluate` meets its contract. Assumes nothing.
-use Rattle.evaluation.proofs.Turns.{false-here, false-later}
-use Rattle.evaluation.specs.Evaluations.{givenBy, falseFrom, falseIn}
+use Rattle.evaluation.proofs.Turns.{false-here, false-later, turned-next}
+use Rattle.evaluation.specs.Evaluations.{givenBy, turned, falseFrom, falseIn}
 use Rattle.base.proofs.Choice.{chosen, passed}
 use lib.ListN.{length, set, length-set}
 use denote.Ref.{now}
@@ -12,8 +12,14 @@ use borrow.Author.Needs.{needs}
 use Rattle.evaluation.proofs.evaluate.Statement.{statement}
 use Rattle.evaluation.proofs.evaluate.Tie as tie
 
+-- Work memory is as it is when the turn of record i comes, and the record to be found is the one from here on.
 abbrev Inv-loop : tie.InvT-loop
-Inv-loop work₀ n model cells threads bound ordered i₀ work i = (i ≤ n) × ((32 * n ≤ length work) × ((length work ≡ length work₀) × (falseFrom (givenBy threads bound model cells) n 0 n work₀ ≡ falseFrom (givenBy threads bound model cells) n i (n - i) work)))
+Inv-loop work₀ n model cells threads bound ordered i₀ work i =
+    (i ≤ n)
+    × ((32 * n ≤ length work)
+    × ((length work ≡ length work₀)
+    × ((falseFrom (givenBy threads bound model cells) n 0 n work₀ ≡ falseFrom (givenBy threads bound model cells) n i (n - i) work)
+    × (work ≡ turned (givenBy threads bound model cells) n i work₀))))
 
 abbrev μ-loop : tie.MeasureT-loop
 μ-loop work₀ n model cells threads bound ordered i₀ work i = n - i
@@ -29,8 +35,9 @@ map-accepted-requires : tie.Need-map-accepted-requires Inv-loop μ-loop
 map-accepted-requires c κs = search needs
 
 loop-holds : tie.Need-loop-holds Inv-loop μ-loop
+unfolding turned
 loop-holds c = let a = c .before .before .before .before .before .args in let e : a .n ≡ a .n - 0 = omega arith in
-    (search needs, (search needs, (refl, ap (λ (k : ℕ). falseFrom (givenBy (a .threads) (a .bound) (now (a .model)) (now (a .cells))) (a .n) 0 k (a .work .now)) e)))
+    (search needs, (search needs, (refl, (ap (λ (k : ℕ). falseFrom (givenBy (a .threads) (a .bound) (now (a .model)) (now (a .cells))) (a .n) 0 k (a .work .now)) e, refl))))
 
 cast-formula : tie.Need-cast-formula Inv-loop μ-loop
 cast-formula c = search needs
@@ -47,7 +54,7 @@ same-length c = search needs
 returns-2 : tie.Need-returns-2 Inv-loop μ-loop
 unfolding falseIn
 returns-2 c = let l = c .before .before .before .before .before .before in let a = l .before .before .before .before .before .before .args in
-    sym (passed _ _ (le-ltb _ _ (l .before .before .if1 .left)) ∙ (l .loop .inv .1 .1 .1
+    sym (passed _ _ (le-ltb _ _ (l .before .before .if1 .left)) ∙ (l .loop .inv .1 .1 .1 .0
     ∙ false-here (givenBy (a .threads) (a .bound) (now (a .model)) (now (a .cells))) (a .n) (l .loop .i) (l .loop .work) (c .before .before .before .formula .result) (c .before .before .before .formula .ensures) (c .before .before .before .before .before .loop-test .taken) (sym (c .before .is-false .ensures) ∙ c .if2 .taken)))
 
 word-of-requires : tie.Need-word-of-requires Inv-loop μ-loop
@@ -76,7 +83,10 @@ loop-again c = let l = c .before .before .before .before .before .before .before
         omega arith,
         (
           omega arith,
-          q .1 .1 .1 ∙ false-later (givenBy (a .threads) (a .bound) (now (a .model)) (now (a .cells))) (a .n) (l .loop .i) (l .loop .work) (c .before .before .before .before .before .before .before .before .before .formula .result) (c .before .before .before .before .before .before .before .before .before .formula .ensures) (c .before .before .before .before .before .before .before .before .before .before .before .loop-test .taken) w _ (sym (c .before .before .before .before .before .before .before .is-false .ensures) ∙ c .before .before .before .before .before .before .if2 .left) (c .before .before .before .before .word-of .ensures) k,
+          (
+            q .1 .1 .1 .0 ∙ false-later (givenBy (a .threads) (a .bound) (now (a .model)) (now (a .cells))) (a .n) (l .loop .i) (l .loop .work) (c .before .before .before .before .before .before .before .before .before .formula .result) (c .before .before .before .before .before .before .before .before .before .formula .ensures) (c .before .before .before .before .before .before .before .before .before .before .before .loop-test .taken) w _ (sym (c .before .before .before .before .before .before .before .is-false .ensures) ∙ c .before .before .before .before .before .before .if2 .left) (c .before .before .before .before .word-of .ensures) k,
+            turned-next (givenBy (a .threads) (a .bound) (now (a .model)) (now (a .cells))) (a .n) (l .loop .i) (a .work .now) (l .loop .work) (c .before .before .before .before .before .before .before .before .before .formula .result) w _ (q .1 .1 .1 .1) (c .before .before .before .before .before .before .before .before .before .formula .ensures) (c .before .before .before .before .word-of .ensures) k,
+          ),
         ),
       ),
     )
@@ -89,7 +99,7 @@ unfolding falseIn falseFrom
 returns-3 c = let l = c .before in let a = l .before .before .before .before .before .before .args in
     let e : a .n - l .loop .i ≡ 0 = omega arith in
     let d : l .loop .i ≡ a .n = omega (arith, l .loop .inv .0) in
-    sym (passed _ _ (le-ltb _ _ (l .before .before .if1 .left)) ∙ (l .loop .inv .1 .1 .1 ∙ (ap (λ (k : ℕ). falseFrom (givenBy (a .threads) (a .bound) (now (a .model)) (now (a .cells))) (a .n) (l .loop .i) k (l .loop .work)) e ∙ d)))
+    sym (passed _ _ (le-ltb _ _ (l .before .before .if1 .left)) ∙ (l .loop .inv .1 .1 .1 .0 ∙ (ap (λ (k : ℕ). falseFrom (givenBy (a .threads) (a .bound) (now (a .model)) (now (a .cells))) (a .n) (l .loop .i) k (l .loop .work)) e ∙ d)))
 
 pub evaluate-spec : {M : Type 1} → statement M
 evaluate-spec =
