@@ -22,7 +22,7 @@ use Rattle.encoding.proofs.Memories.{isMemory, isRead as isReadRecord, Parted, 
 use Rattle.evaluation.specs.Evaluations.{noFormula, recordAt, memoryBehind, cellBack, memoriesBack, AtTurn}
 use Rattle.evaluation.proofs.Backwards.{back-hit, back-first, back-on, visits-hit, visits-first, visits-on}
 use Rattle.evaluation.proofs.Tables.{sortAt, views, agree, cells}
-use Rattle.evaluation.proofs.Views.{Operand, View, isChoice, isFirst, isBit, isWord, isNot, isAnd, isOr, isEqual, isIf, isPlus, isMinus, isTimes, isRead, isWrite, isTop, isConstraint, isGoal}
+use Rattle.evaluation.proofs.Views.{Operand, View, isChoice, isFirst, isBit, isWord, isNot, isAnd, isOr, isEqual, isIf, isPlus, isMinus, isTimes, isRead, isWrite, isTop, isConstraint, isGoal, on-memory}
 use Rattle.evaluation.proofs.Words.{read-value}
 use Rattle.claims.specs.Lookups.{Passes, Ends, LooksBack, cell as cellRead, ReadsBack, LooksBackOnce}
 use Rattle.claims.proofs.Formed.{tablesAreWellFormed}
@@ -167,30 +167,15 @@ module _ (first : ℕ → ℕ) (formulas : ℕ → Formula) (values : ℕ → �
     module _ (size : ℕ) (view : (j : ℕ) → j < size → View sorts j (formulas j)) (sorted : (j : ℕ) → j < size → sorts j ≡ formulas j .sort) where
       goes-back : (left m : ℕ) → m < left → m < size → sorts m ≡ memorySort → Goes left m
       goes-back zero m h l s = absurd (omega arith)
-      goes-back (suc left) m h l s = go (view m l) (sym (sorted m l) ∙ s) (λ k (q : k < m) t. goes-back left k (omega arith) (omega arith) t)
-        where
-          go : View sorts m (formulas m) → formulas m .sort ≡ memorySort → ((k : ℕ) → k < m → sorts k ≡ memorySort → Goes left k) → Goes (suc left) m
-          go (isFirst e t) r back = at-first left m s e
-          go (isWrite e t a b c) r back = elim (ℕ-discrete x (values (formulas m .b))) [
+      goes-back (suc left) m h l s =
+          let back : (k : ℕ) → k < m → sorts k ≡ memorySort → Goes left k = λ k (q : k < m) t. goes-back left k (omega arith) (omega arith) t in
+          on-memory sorts m (formulas m) (sym (sorted m l) ∙ s) (view m l)
+          (at-first left m s)
+          (λ e a b c. elim (ℕ-discrete x (values (formulas m .b))) [
             | yes d ↦ at-write left m s e d
             | no d ↦ past-write left m s e d (a .0) (back (formulas m .a) (a .0) (a .1))
-          ]
-          go (isIf e a b c) r back =
-              past-if left m s e (b .0) (c .0) (back (formulas m .b) (b .0) (b .1 ∙ r)) (back (formulas m .c) (c .0) (c .1 ∙ r))
-          go (isChoice e t) r back = absurd (omega arith)
-          go (isBit e t k) r back = absurd (omega arith)
-          go (isWord e t) r back = absurd (omega arith)
-          go (isNot e t a) r back = absurd (omega arith)
-          go (isAnd e t a b) r back = absurd (omega arith)
-          go (isOr e t a b) r back = absurd (omega arith)
-          go (isEqual e t a b) r back = absurd (omega arith)
-          go (isPlus e t a b) r back = absurd (omega arith)
-          go (isMinus e t a b) r back = absurd (omega arith)
-          go (isTimes e t a b) r back = absurd (omega arith)
-          go (isRead e t a b) r back = absurd (omega arith)
-          go (isTop e t a) r back = absurd (omega arith)
-          go (isConstraint e t a) r back = absurd (omega arith)
-          go (isGoal e t a) r back = absurd (omega arith)
+          ])
+          (λ e a b c. past-if left m s e (b .0) (c .0) (back (formulas m .b) (b .0) (b .1)) (back (formulas m .c) (c .0) (c .1)))
 
 -- ---- a read record
 

@@ -16,7 +16,7 @@ use Rattle.table.specs.declared.Formula.{Formula}
 use Rattle.table.proofs.Meaning.{stays}
 use Rattle.evaluation.specs.Evaluations.{recordAt, cellBack}
 use Rattle.evaluation.proofs.Backwards.{back-hit, back-first, back-on}
-use Rattle.evaluation.proofs.Views.{Operand, View, isChoice, isFirst, isBit, isWord, isNot, isAnd, isOr, isEqual, isIf, isPlus, isMinus, isTimes, isRead, isWrite, isTop, isConstraint, isGoal, SmallChoice, Seen, view-of}
+use Rattle.evaluation.proofs.Views.{Operand, View, isChoice, isFirst, isBit, isWord, isNot, isAnd, isOr, isEqual, isIf, isPlus, isMinus, isTimes, isRead, isWrite, isTop, isConstraint, isGoal, SmallChoice, Seen, view-of, on-memory}
 use Rattle.evaluation.proofs.Words.{local, IsBit, bit-one, bit-sorted, first-value, if-value, write-value}
 
 -- ---- views
@@ -190,30 +190,13 @@ module _ (g : Assignment) (size : ℕ) (records : ℕ → Formula) (values : ℕ
     cells zero m x h l s = absurd (omega arith)
     cells (suc left) m x h l s =
         let p : m < size = omega arith in
-        go p (view m p) (λ k (q : k < m) t. cells left k x (omega arith) (omega arith) t)
-      where
-        go : m < size → View (λ i. records i .sort) m (records m) →
-            ((k : ℕ) → k < m → records k .sort ≡ memorySort → cellBack (g .first) formulas words left k x ≡ asMemory (values k) x) →
-            cellBack (g .first) formulas words (suc left) m x ≡ asMemory (values m) x
-        go p (isFirst e t) back =
-            back-first (g .first) formulas words m x (records m) (sym (shown m p)) (suc left) (words (records m .b)) (omega arith) refl
-            (and-false _ (ne-eqb _ _ (λ (d : records m .operation ≡ 13). omega arith)))
-            (ap (λ (o : ℕ). eqb o WRITE || eqb o IF) e)
-            ∙ sym (ap (λ (v : Value). asMemory v x) (agree m p ∙ first-value g values (records m) e))
-        go p (isWrite e t a b c) back = write-cell left m x p l e b c (back (records m .a) (a .0) (a .1))
-        go p (isIf e a b c) back =
-            if-cell left m x p l e (a .0) (a .1) (back (records m .b) (b .0) (b .1 ∙ s)) (back (records m .c) (c .0) (c .1 ∙ s))
-        go p (isChoice e t) back = absurd (omega arith)
-        go p (isBit e t k) back = absurd (omega arith)
-        go p (isWord e t) back = absurd (omega arith)
-        go p (isNot e t a) back = absurd (omega arith)
-        go p (isAnd e t a b) back = absurd (omega arith)
-        go p (isOr e t a b) back = absurd (omega arith)
-        go p (isEqual e t a b) back = absurd (omega arith)
-        go p (isPlus e t a b) back = absurd (omega arith)
-        go p (isMinus e t a b) back = absurd (omega arith)
-        go p (isTimes e t a b) back = absurd (omega arith)
-        go p (isRead e t a b) back = absurd (omega arith)
-        go p (isTop e t a) back = absurd (omega arith)
-        go p (isConstraint e t a) back = absurd (omega arith)
-        go p (isGoal e t a) back = absurd (omega arith)
+        let back : (k : ℕ) → k < m → records k .sort ≡ memorySort → cellBack (g .first) formulas words left k x ≡ asMemory (values k) x =
+        λ k (q : k < m) t. cells left k x (omega arith) (omega arith) t in
+        on-memory (λ i. records i .sort) m (records m) s (view m p)
+        (λ e.
+        back-first (g .first) formulas words m x (records m) (sym (shown m p)) (suc left) (words (records m .b)) (omega arith) refl
+        (and-false _ (ne-eqb _ _ (λ (d : records m .operation ≡ 13). omega arith)))
+        (ap (λ (o : ℕ). eqb o WRITE || eqb o IF) e)
+        ∙ sym (ap (λ (v : Value). asMemory v x) (agree m p ∙ first-value g values (records m) e)))
+        (λ e a b c. write-cell left m x p l e b c (back (records m .a) (a .0) (a .1)))
+        (λ e a b c. if-cell left m x p l e (a .0) (a .1) (back (records m .b) (b .0) (b .1)) (back (records m .c) (c .0) (c .1)))

@@ -35,6 +35,29 @@ pub data View (sorts : ℕ → ℕ) (n : ℕ) (f : Formula) : Type 0 where
   isConstraint : f .operation ≡ CONSTRAINT → f .sort ≡ noSort → Operand sorts n bitSort (f .a) → View sorts n f
   isGoal : f .operation ≡ GOAL → f .sort ≡ noSort → Operand sorts n bitSort (f .a) → View sorts n f
 
+-- A memory is first memory, a write into a memory, or an if of memories.
+pub on-memory : {R : Type 0} (sorts : ℕ → ℕ) (n : ℕ) (f : Formula) → f .sort ≡ memorySort → View sorts n f →
+    (f .operation ≡ FIRST → R) →
+    (f .operation ≡ WRITE → Operand sorts n memorySort (f .a) → f .b < n → f .c < n → R) →
+    (f .operation ≡ IF → Operand sorts n bitSort (f .a) → Operand sorts n memorySort (f .b) → Operand sorts n memorySort (f .c) → R) → R
+on-memory sorts n f s (isFirst e t) first write either = first e
+on-memory sorts n f s (isWrite e t a b c) first write either = write e a b c
+on-memory sorts n f s (isIf e a b c) first write either = either e a (b .0, b .1 ∙ s) (c .0, c .1 ∙ s)
+on-memory sorts n f s (isChoice e t) first write either = absurd (omega arith)
+on-memory sorts n f s (isBit e t k) first write either = absurd (omega arith)
+on-memory sorts n f s (isWord e t) first write either = absurd (omega arith)
+on-memory sorts n f s (isNot e t a) first write either = absurd (omega arith)
+on-memory sorts n f s (isAnd e t a b) first write either = absurd (omega arith)
+on-memory sorts n f s (isOr e t a b) first write either = absurd (omega arith)
+on-memory sorts n f s (isEqual e t a b) first write either = absurd (omega arith)
+on-memory sorts n f s (isPlus e t a b) first write either = absurd (omega arith)
+on-memory sorts n f s (isMinus e t a b) first write either = absurd (omega arith)
+on-memory sorts n f s (isTimes e t a b) first write either = absurd (omega arith)
+on-memory sorts n f s (isRead e t a b) first write either = absurd (omega arith)
+on-memory sorts n f s (isTop e t a) first write either = absurd (omega arith)
+on-memory sorts n f s (isConstraint e t a) first write either = absurd (omega arith)
+on-memory sorts n f s (isGoal e t a) first write either = absurd (omega arith)
+
 -- its fields fit their bytes
 pub record Small (f : Formula) : Type 0 where
   pub smallOperation : f .operation < 256

@@ -4,7 +4,7 @@
 
 use std::collections::{BTreeMap, BTreeSet};
 
-use testing::functions::{crates, functions_of, Function};
+use testing::functions::{crates, functions_of, sorted, Function};
 use testing::sources::{repository, text};
 
 /// What is called in Rattle itself: a slice's length.
@@ -115,11 +115,25 @@ fn in_cycles_with(function: &str, call: &str) -> Vec<String> {
     found.into_iter().map(str::to_string).collect()
 }
 
+/// Whether a crate calls a function by another name than its own, which the graph would not see.
+fn renames(library: &str) -> bool {
+    let folder = repository().join("crates").join(library).join("src");
+    let files = sorted(&folder).into_iter().map(|path| text(&path));
+    files.into_iter().any(|code| {
+        let mut lines = code.lines().map(str::trim_start);
+        lines.any(|line| line.starts_with("use ") && line.contains(" as "))
+    })
+}
+
 #[test]
 fn no_function_of_the_look_up_calls_itself() {
-    let graph = Graph::new(&sources());
+    let all = sources();
+    let graph = Graph::new(&all);
     let look_up = graph.at("evaluation::read_back");
     let reached = graph.reached(look_up);
+    for &f in &reached {
+        assert!(!renames(&all[f].library), "{} renames", all[f].library);
+    }
     for &f in &reached {
         println!("{}", graph.names[f]);
     }
