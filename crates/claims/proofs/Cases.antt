@@ -1,12 +1,12 @@
--- Document 01's starred cases (specs/Cases.antt states them): explorations and runs by computation. Assumes nothing.
+-- Document 01's starred cases and those of request 2026-05 (specs/Cases.antt states them): explorations and runs by computation. Assumes nothing.
 use Prim.Native.Nat.{ℕ, suc, _≤_}
 use mathlib.Core.Path.{_≡_, refl, ap, subst⁻¹}
-use mathlib.Core.Bool.{true}
+use mathlib.Core.Bool.{true, false}
 use mathlib.Core.List.{List, [], _∷_}
 use native.Mathlib.Omega.{arith}
 use Rattle.base.specs.Below.{every, some, number, least}
 use Rattle.base.specs.Words.{plus, times}
-use Rattle.records.specs.Instructions.{FENCE, ADDI, MULI, CHECK}
+use Rattle.records.specs.Instructions.{FENCE, ADDI, MULI, JMP, HALT, CHECK}
 use Rattle.records.specs.Maps.{valueAt, ascendsAt, mapAccepted}
 use Rattle.records.specs.Sets.{setOf, threadsOf, countOf, startOf, follows, argumentFits, recordFits, opensAt, setAccepted}
 use Rattle.machine.specs.Machine.{start, address, wordTaken, cellsRead, row, jumps, nextPc, executed, casMatches, contains, opened, waiting, permitted, acted, leavesMark, cleared, written, step, reads}
@@ -19,7 +19,7 @@ use Rattle.machine.specs.declared.End.the-variants.{Code, Open}
 use Rattle.machine.specs.declared.Thread.{Thread}
 use Rattle.simulation.specs.Simulation.{simulated, limited}
 use Rattle.encoding.specs.Assignments.{assignmentOf}
-use Rattle.claims.specs.Cases.{set1, set2, set3, set4, set5, set7, set8, cell, statement, Accepted, Satisfiable, after7, StarredCases}
+use Rattle.claims.specs.Cases.{set1, set2, set3, set4, set5, set7, set8, setAlone, setMeeting, cell, statement, Accepted, Satisfiable, after7, markedAlone, StarredCases}
 use Rattle.claims.specs.Tables.{IsMemory, Agrees, Fails, Satisfying}
 use Rattle.claims.proofs.Explored.{explored, mappedOver, agrees-over, unsatisfiable}
 use Rattle.claims.proofs.Tables.{tableMeansTheProgram, assignmentsMatchRuns}
@@ -46,6 +46,14 @@ accepted5 : Accepted set5 []
 unfolding set5 ascendsAt mapAccepted setAccepted opensAt recordFits argumentFits follows startOf countOf threadsOf every some number least
 accepted5 = record { acceptedSet = refl; acceptedMap = refl }
 
+accepted-jumps : Accepted (setMeeting JMP) []
+unfolding setMeeting ascendsAt mapAccepted setAccepted opensAt recordFits argumentFits follows startOf countOf threadsOf every some number least
+accepted-jumps = record { acceptedSet = refl; acceptedMap = refl }
+
+accepted-halts : Accepted (setMeeting HALT) []
+unfolding setMeeting ascendsAt mapAccepted setAccepted opensAt recordFits argumentFits follows startOf countOf threadsOf every some number least
+accepted-halts = record { acceptedSet = refl; acceptedMap = refl }
+
 -- ---- explorations from every first memory with the map's cells
 
 explored1 : (memory : ℕ → ℕ) → explored (setOf (set1 0)) 64 (start (mappedOver [] memory)) ≡ true
@@ -63,6 +71,14 @@ explored3 memory = refl
 explored3-two : (memory : ℕ → ℕ) → explored (setOf set3) 2 (start (mappedOver (cell 0 0) memory)) ≡ true
 unfolding set3 cell explored step written cleared leavesMark acted permitted waiting opened contains casMatches executed nextPc jumps row wordTaken address startOf countOf threadsOf every some number least
 explored3-two memory = refl
+
+explored-five : (memory : ℕ → ℕ) → explored (setOf (setMeeting JMP)) 5 (start (mappedOver [] memory)) ≡ true
+unfolding setMeeting explored step written cleared leavesMark acted permitted waiting opened contains casMatches executed nextPc jumps row wordTaken address startOf countOf threadsOf every some number least
+explored-five memory = refl
+
+explored-halts : (memory : ℕ → ℕ) → explored (setOf (setMeeting HALT)) 64 (start (mappedOver [] memory)) ≡ true
+unfolding setMeeting explored step written cleared leavesMark acted permitted waiting opened contains casMatches executed nextPc jumps row wordTaken address startOf countOf threadsOf every some number least
+explored-halts memory = refl
 
 -- ---- failing runs
 
@@ -91,6 +107,10 @@ fails4 memory = record { permitted = refl; bounded = omega arith; before = Execu
 fails5 : Fails (setOf set5) 3 zeros (Execute 0 ∷ Execute 0 ∷ Execute 0 ∷ [])
 unfolding set5 isRun after step written cleared leavesMark acted permitted waiting opened contains casMatches executed nextPc jumps row wordTaken address startOf countOf threadsOf every some number least
 fails5 = record { permitted = refl; bounded = omega arith; before = Execute 0 ∷ Execute 0 ∷ []; thread = 0; last = refl; exit = refl; code = not-zero 1 }
+
+fails-six : Fails (setOf (setMeeting JMP)) 6 zeros (Execute 0 ∷ Execute 1 ∷ Execute 0 ∷ Execute 1 ∷ Execute 1 ∷ Execute 0 ∷ [])
+unfolding setMeeting isRun after step written cleared leavesMark acted permitted waiting opened contains casMatches executed nextPc jumps row wordTaken address startOf countOf threadsOf every some number least
+fails-six = record { permitted = refl; bounded = omega arith; before = Execute 0 ∷ Execute 1 ∷ Execute 0 ∷ Execute 1 ∷ Execute 1 ∷ []; thread = 0; last = refl; exit = refl; code = not-zero 0 }
 
 agrees-empty : (memory : ℕ → ℕ) → Agrees [] memory
 agrees-empty memory j h = absurd (omega arith)
@@ -123,6 +143,26 @@ refused8 = refl
 ran8 : simulated (set8 CHECK) [] (0 ∷ 0 ∷ []) 48 ≡ Ran 2 Open
 unfolding set8 simulated limited follow begin outcome advanced choices choiceOf endOf somePermitted step reads written cleared leavesMark acted permitted waiting opened contains casMatches executed nextPc jumps row cellsRead wordTaken address ascendsAt mapAccepted setAccepted opensAt recordFits argumentFits follows startOf countOf threadsOf every some number least
 ran8 = refl
+
+ran-alone : simulated setAlone [] (0 ∷ 0 ∷ 0 ∷ 0 ∷ []) 96 ≡ Ran 4 Open
+unfolding setAlone simulated limited follow begin outcome advanced choices choiceOf endOf somePermitted step reads written cleared leavesMark acted permitted waiting opened contains casMatches executed nextPc jumps row cellsRead wordTaken address ascendsAt mapAccepted setAccepted opensAt recordFits argumentFits follows startOf countOf threadsOf every some number least
+ran-alone = refl
+
+marked-alone : (memory : ℕ → ℕ) → (markedAlone memory (0 ∷ []) ≡ true) × ((markedAlone memory (0 ∷ 0 ∷ []) ≡ false) × (markedAlone memory (0 ∷ 0 ∷ 0 ∷ []) ≡ true))
+unfolding setAlone choices choiceOf after step written cleared leavesMark acted permitted waiting opened contains casMatches executed nextPc jumps row wordTaken address startOf countOf threadsOf every some number least
+marked-alone memory = (refl, (refl, refl))
+
+ran-three : simulated (setMeeting JMP) [] (0 ∷ 1 ∷ 0 ∷ []) 72 ≡ Ran 3 Open
+unfolding setMeeting simulated limited follow begin outcome advanced choices choiceOf endOf somePermitted step reads written cleared leavesMark acted permitted waiting opened contains casMatches executed nextPc jumps row cellsRead wordTaken address ascendsAt mapAccepted setAccepted opensAt recordFits argumentFits follows startOf countOf threadsOf every some number least
+ran-three = refl
+
+refused-four : simulated (setMeeting JMP) [] (0 ∷ 1 ∷ 0 ∷ 0 ∷ []) 96 ≡ Refused 12 3
+unfolding setMeeting simulated limited follow begin outcome advanced choices choiceOf endOf somePermitted step reads written cleared leavesMark acted permitted waiting opened contains casMatches executed nextPc jumps row cellsRead wordTaken address ascendsAt mapAccepted setAccepted opensAt recordFits argumentFits follows startOf countOf threadsOf every some number least
+refused-four = refl
+
+ran-six : simulated (setMeeting JMP) [] (0 ∷ 1 ∷ 0 ∷ 1 ∷ 1 ∷ 0 ∷ []) 144 ≡ Ran 6 (Code 1)
+unfolding setMeeting simulated limited follow begin outcome advanced choices choiceOf endOf somePermitted step reads written cleared leavesMark acted permitted waiting opened contains casMatches executed nextPc jumps row cellsRead wordTaken address ascendsAt mapAccepted setAccepted opensAt recordFits argumentFits follows startOf countOf threadsOf every some number least
+ran-six = refl
 
 -- ---- registers and cells
 
@@ -166,4 +206,14 @@ starredCases = record {
   case6-muli = multiplies6;
   case7 = ends7;
   case8 = (refused8, ran8);
+  ping-alone = (ran-alone, marked-alone);
+  ping-clearing = (ran-three, (refused-four, ran-six));
+  ping-bounds = (
+    accepted-jumps,
+    (
+      unsatisfiable (setMeeting JMP) [] 5 5 accepted-jumps explored-five (omega arith) (omega arith) (omega arith),
+      satisfiable (setMeeting JMP) [] 6 accepted-jumps (agrees-empty zeros) (omega arith) (omega arith) _ fails-six,
+    ),
+  );
+  ping-halts = (accepted-halts, λ bound low high. unsatisfiable (setMeeting HALT) [] 64 bound accepted-halts explored-halts low high high);
 }

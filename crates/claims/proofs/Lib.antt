@@ -6,6 +6,7 @@ pub mod Explored
 pub mod Formed
 pub mod Lines
 pub mod Lookups
+pub mod Marks
 pub mod Models
 pub mod Rules
 pub mod Runs

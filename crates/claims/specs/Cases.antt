@@ -1,8 +1,8 @@
--- Document 01's starred cases ("Sample runs") as one table, a field for each, stated by the machine, the table and simulation. Statements alone;
--- proofs/Cases.antt proves them. Assumes nothing.
+-- Document 01's starred cases ("Sample runs") and the cases of change request 2026-05 as one table, a field for each, stated by the machine, the
+-- table and simulation. Statements alone; proofs/Cases.antt proves them. Assumes nothing.
 use Prim.Native.Nat.{ℕ, suc, _≤_}
 use mathlib.Core.Path.{_≡_}
-use mathlib.Core.Bool.{true}
+use mathlib.Core.Bool.{Bool, true, false}
 use mathlib.Core.List.{List, [], _∷_, _++_}
 use Rattle.base.specs.Bytes.{word}
 use Rattle.records.specs.Instructions.{LOAD, STORE, FENCE, ADDI, MULI, JMP, JZ, MEM, CAS, HALT, EXIT, CHECK}
@@ -17,6 +17,7 @@ use Rattle.machine.specs.declared.Thread.{Thread}
 use Rattle.simulation.specs.Simulation.{simulated}
 use Rattle.table.specs.Values.{Assignment}
 use Rattle.encoding.specs.Assignments.{assignmentOf}
+use Rattle.claims.specs.Marks.{block}
 use Rattle.claims.specs.Tables.{IsMemory, Agrees, Satisfying}
 
 -- ---- sets and maps
@@ -55,6 +56,14 @@ set7 = thread 0 ((MEM, 4) ∷ (ADDI, 1) ∷ (CAS, 4) ∷ (HALT, 0) ∷ [])
 unfoldable pub set8 : ℕ → List ℕ
 set8 n = thread 0 ((STORE, 0) ∷ (n, 0) ∷ (HALT, 0) ∷ [])
 
+-- request 2026-05, one thread
+unfoldable pub setAlone : List ℕ
+setAlone = thread 0 ((CHECK, 0) ∷ (JMP, 0) ∷ [])
+
+-- and two threads, the second of which ends in JMP 0 or HALT
+unfoldable pub setMeeting : ℕ → List ℕ
+setMeeting last = thread 0 ((CHECK, 0) ∷ (CHECK, 0) ∷ (EXIT, 1) ∷ []) ++ thread 1 ((CHECK, 0) ∷ (last, 0) ∷ [])
+
 -- map a→v
 unfoldable pub cell : (a v : ℕ) → List ℕ
 cell a v = word a (word v [])
@@ -84,6 +93,10 @@ ForNoBound set map = (bound : ℕ) → 1 ≤ bound → bound ≤ 64 → Unsatisf
 abbrev pub after7 : (ℕ → ℕ) → State
 after7 memory = after (setOf set7) (start memory) (choices (0 ∷ 0 ∷ 0 ∷ []))
 
+-- the one thread is marked at checkpoint 0 after this schedule
+abbrev pub markedAlone : (ℕ → ℕ) → List ℕ → Bool
+markedAlone memory schedule = block (after (setOf setAlone) (start memory) (choices schedule)) 0 0
+
 -- ---- the table
 
 pub record StarredCases : Type 0 where
@@ -112,3 +125,16 @@ pub record StarredCases : Type 0 where
       (isRun (setOf set7) (start memory) (choices (0 ∷ 0 ∷ 0 ∷ [])) ≡ true) × ((after7 memory .memory 4 ≡ 10) × (after7 memory .threads 0 .accu ≡ 1))
   -- 8. FENCE with full 1: refusal 12; CHECK runs.
   pub case8 : (simulated (set8 FENCE) [] (0 ∷ 0 ∷ []) 48 ≡ Refused 12 1) × (simulated (set8 CHECK) [] (0 ∷ 0 ∷ []) 48 ≡ Ran 2 Open)
+  -- Request 2026-05. "One thread (CHECK 0, JMP 0) whose second CHECK comes two steps after its first": marked, cleared by the jump, marked again;
+  -- it never waits.
+  pub ping-alone : (simulated setAlone [] (0 ∷ 0 ∷ 0 ∷ 0 ∷ []) 96 ≡ Ran 4 Open)
+      × ((memory : ℕ → ℕ) → (markedAlone memory (0 ∷ []) ≡ true) × ((markedAlone memory (0 ∷ 0 ∷ []) ≡ false) × (markedAlone memory (0 ∷ 0 ∷ 0 ∷ []) ≡ true)))
+  -- "One of two threads where it falls in the clearing step": (CHECK 0, CHECK 0, EXIT 1) and (CHECK 0, JMP 0). Schedule 0, 1, 0 runs; then thread 0
+  -- waits, so a further 0 is refusal 12; once thread 1 has come again it ends with 1.
+  pub ping-clearing : (simulated (setMeeting JMP) [] (0 ∷ 1 ∷ 0 ∷ []) 72 ≡ Ran 3 Open)
+      × ((simulated (setMeeting JMP) [] (0 ∷ 1 ∷ 0 ∷ 0 ∷ []) 96 ≡ Refused 12 3)
+      × (simulated (setMeeting JMP) [] (0 ∷ 1 ∷ 0 ∷ 1 ∷ 1 ∷ 0 ∷ []) 144 ≡ Ran 6 (Code 1)))
+  -- By the table: not for K 5, yes for K 6.
+  pub ping-bounds : Accepted (setMeeting JMP) [] × (Unsatisfiable (setMeeting JMP) [] 5 × Satisfiable (setMeeting JMP) [] 6)
+  -- With (CHECK 0, HALT) as the second thread: for no K.
+  pub ping-halts : Accepted (setMeeting HALT) [] × ForNoBound (setMeeting HALT) []

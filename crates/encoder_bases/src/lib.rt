@@ -81,7 +81,7 @@ pub fn put_base(
             b,
             start::WORD0,
         ),
-        kinds::RAISED => put_none(slots, kinds::MARK, a, b, start::BIT0),
+        kinds::RAISED => put_none(slots, kinds::BIT_ZERO, 0, 0, start::BIT0),
         kinds::EXITS => put_previous(slots, kinds::EXITS, kinds::ENDED, b, start::BIT0),
         kinds::CODES => put_previous(slots, kinds::CODES, kinds::CODE, b, start::WORD0),
         kinds::SHARED_MEMORY => put_memory(slots, out, threads, n),
@@ -91,7 +91,7 @@ pub fn put_base(
         kinds::ACCU => put_none(slots, kinds::ACCU, a, 0, start::WORD0),
         kinds::FULL => put_full(slots, out, threads, a, n),
         kinds::HALTED => put_none(slots, kinds::HALTED, a, 0, start::BIT0),
-        kinds::MARK => put_joined(slots, out, AND, kinds::SHUT, 0, b, kinds::RAISED, a, b, n),
+        kinds::MARK => put_joined(slots, out, OR, kinds::HELD, a, b, kinds::RAISED, a, b, n),
         kinds::HALTS => put_none(slots, kinds::BIT_ONE, 0, 0, start::BIT1),
         kinds::ENDED => put_joined(
             slots,

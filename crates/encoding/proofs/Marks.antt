@@ -40,9 +40,8 @@ module _ (S : Set) (beyond : Beyond S) (s : State) where
   left-mark : (c : Choice) → leavesMark S s c ≡ true → contains S (actor c) (current S s (actor c) .argument) ≡ true
   unfolding leavesMark contains
   left-mark (Execute t) e =
-      let check = and-left (eqb (current S s t .number) CHECK) _ e in
-      some-at (isCheck S t (current S s t .argument)) (S .count t) (s .threads t .pc) (check-inside t check)
-      (and-true check (eq-eqb (current S s t .argument) (current S s t .argument) refl))
+      some-at (isCheck S t (current S s t .argument)) (S .count t) (s .threads t .pc) (check-inside t e)
+      (and-true e (eq-eqb (current S s t .argument) (current S s t .argument) refl))
   left-mark (Flush t) e = clash e refl
 
   pub sound-step : Sound S s → (c : Choice) → Sound S (step S s c)

@@ -125,14 +125,14 @@ module _ (S : Set) (cs : List ℕ) (g : Assignment) (k : ℕ) (slots : Slot → 
         active-is S cs g k slots t i h l
         ∙ ap₂ (λ (a b : Value). bit (asBit a && asBit b)) (there .flagIs t i h l) (choices-are .executesIs t h)
 
-    pub ready : Ready S cs g k at s
-    ready = record { constants = here; shows = there; chosen = choices-are; activeIs = actives; shutIs = shuts }
-
     holds-back : (t p : ℕ) → t < T → p < length cs → has S cs k t p ≡ true →
         at (slot held t p) ≡ bit (markedAt (s .marks t) (getD cs p 0) && not (opened S (s .marks) (getD cs p 0)))
     holds-back t p h l e =
         held-is S cs g k slots t p h l e
         ∙ ap₂ (λ (a b : Value). bit (asBit a && asBit b)) (there .markIs t p h l e) (shuts p l)
+
+    pub ready : Ready S cs g k at s
+    ready = record { constants = here; shows = there; chosen = choices-are; activeIs = actives; heldIs = holds-back }
 
     waits-upto : (t : ℕ) → t < T → (n : ℕ) → n ≤ length cs →
         linksValue at (link S cs k waits t 0) n (bit (s .threads t .halted)) ≡ bit (some n (heldAt S cs (s .marks) t) || s .threads t .halted)

@@ -129,7 +129,7 @@ module _ (S : Set) (cs : List ℕ) (done : Slot → Bool) where
   base-known writeTo n a b h g = scan writeTo a b h g writeTo (only flushTo) (h .row) (early writeTo a b h g flushTo 0 0 (omega arith) (record { row = omega arith; column = omega arith; is = refl })) (λ d l. g .rowBefore d l refl)
   base-known flushValue n a b h g = and-true (still flushValue a b h g (only sharedMemory) refl) (early flushValue a b h g writeTo 0 (S .threads) (omega arith) (record { row = omega arith; column = omega arith; is = refl }))
   base-known writeValue n a b h g = scan writeValue a b h g writeValue (only flushValue) (h .row) (early writeValue a b h g flushValue 0 0 (omega arith) (record { row = omega arith; column = omega arith; is = refl })) (λ d l. g .rowBefore d l refl)
-  base-known raised n a b h g = still raised a b h g (slot mark a b) refl
+  base-known raised n a b h g = still raised a b h g (only bit0) refl
   base-known exits n a b h g = scan exits a b h g exits (only ended) (h .row) (still exits a b h g (only ended) refl) (λ d l. g .rowBefore d l refl)
   base-known codes n a b h g = scan codes a b h g codes (only code) (h .row) (still codes a b h g (only code) refl) (λ d l. g .rowBefore d l refl)
   base-known sharedMemory n a b h g = and-true (still sharedMemory a b h g (only sharedMemory) refl) (and-true (early sharedMemory a b h g writeTo 0 (S .threads) (omega arith) (record { row = omega arith; column = omega arith; is = refl })) (early sharedMemory a b h g writeValue 0 (S .threads) (omega arith) (record { row = omega arith; column = omega arith; is = refl })))
@@ -140,7 +140,7 @@ module _ (S : Set) (cs : List ℕ) (done : Slot → Bool) where
   base-known full n a b h g = and-true (let l = h .row in choice-known full a b h g (S .threads + a) (omega arith) (omega arith)) (and-true (still full a b h g (only bit0) refl) (still full a b h g (slot full a 0) refl))
   base-known halted n a b h g = still halted a b h g (slot halted a 0) refl
   base-known flag n a b h g = refs-both done (rests (numberOf S cs 0 a b)) (ref (slot flag a b)) (leavingTree S cs 0 a b) (still flag a b h g (slot flag a b) refl) (and-true (let l = h .row in choice-known flag a b h g a (omega arith) (omega arith)) (and-true (still flag a b h g (only bit0) refl) (still flag a b h g (slot flag a b) refl)))
-  base-known mark n a b h g = and-true (early mark a b h g shut 0 b (omega arith) (record { row = omega arith; column = h .column; is = refl })) (early mark a b h g raised a b (omega arith) (record { row = h .row; column = h .column; is = h .is }))
+  base-known mark n a b h g = and-true (early mark a b h g held a b (omega arith) (record { row = h .row; column = h .column; is = h .is })) (early mark a b h g raised a b (omega arith) (record { row = h .row; column = h .column; is = h .is }))
   base-known halts n a b h g = still halts a b h g (only bit1) refl
   base-known ended n a b h g = and-true (early ended a b h g halts 0 0 (omega arith) (record { row = omega arith; column = omega arith; is = refl })) (early ended a b h g exits 0 (S .threads) (omega arith) (record { row = omega arith; column = omega arith; is = refl }))
   base-known code n a b h g = early code a b h g codes 0 (S .threads) (omega arith) (record { row = omega arith; column = omega arith; is = refl })

@@ -10,7 +10,7 @@ use Rattle.machine.specs.Machine.{State, contains, markedAt, opened}
 use Rattle.machine.specs.declared.Choice.{Choice}
 use Rattle.table.specs.Values.{Assignment, Value, bit, word, memory}
 use Rattle.encoding.specs.Assignments.{named}
-use Rattle.encoding.specs.Slots.{choice, active, shut, sharedMemory, val, adr, mem, accu, full, halted, flag, mark, ended, code, bitZero, bitOne, wordZero, wordOne, argument, Slot, slot}
+use Rattle.encoding.specs.Slots.{choice, active, held, sharedMemory, val, adr, mem, accu, full, halted, flag, mark, ended, code, bitZero, bitOne, wordZero, wordOne, argument, Slot, slot}
 use Rattle.encoding.specs.Steps.{only}
 
 -- every checkpoint that a thread contains is among cs
@@ -59,4 +59,4 @@ pub record Ready (S : Set) (cs : List ℕ) (g : Assignment) (k : ℕ) (slots : S
   pub shows : Shows S cs slots s
   pub chosen : Chosen S g k slots
   pub activeIs : (t i : ℕ) → t < S .threads → i < S .count t → slots (slot active t i) ≡ bit (eqb (s .threads t .pc) i && g .choice k 0 t)
-  pub shutIs : (p : ℕ) → p < length cs → slots (slot shut 0 p) ≡ bit (not (opened S (s .marks) (getD cs p 0)))
+  pub heldIs : (t p : ℕ) → t < S .threads → p < length cs → contains S t (getD cs p 0) ≡ true → slots (slot held t p) ≡ bit (markedAt (s .marks t) (getD cs p 0) && not (opened S (s .marks) (getD cs p 0)))

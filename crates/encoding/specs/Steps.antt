@@ -210,7 +210,7 @@ module _ (S : Set) (cs : List ℕ) (k : ℕ) where
   base writeTo a t = ref (cond (eqb t 0) (only flushTo) (slot writeTo 0 (t - 1)))
   base flushValue a b = binary read2 (ref (only sharedMemory)) (ref (slot writeTo 0 T))
   base writeValue a t = ref (cond (eqb t 0) (only flushValue) (slot writeValue 0 (t - 1)))
-  base raised t p = ref (slot mark t p)
+  base raised t p = ref (only bitZero)
   base exits a t = ref (cond (eqb t 0) (only ended) (slot exits 0 (t - 1)))
   base codes a t = ref (cond (eqb t 0) (only code) (slot codes 0 (t - 1)))
   base sharedMemory a b = ternary write3 (ref (only sharedMemory)) (ref (slot writeTo 0 T)) (ref (slot writeValue 0 T))
@@ -222,8 +222,8 @@ module _ (S : Set) (cs : List ℕ) (k : ℕ) where
   base halted t b = ref (slot halted t 0)
   -- the pc of HALT and EXIT stays
   base flag t j = cond (rests (numberOf t j)) (ref (slot flag t j)) (leavingTree t j)
-  -- the next step clears the marks of an open checkpoint
-  base mark t p = binary and2 (ref (slot shut 0 p)) (ref (slot raised t p))
+  -- a mark at a checkpoint that is not open stays; a CHECK's own is set after the clearing
+  base mark t p = binary or2 (ref (slot held t p)) (ref (slot raised t p))
   base halts a b = ref (only bitOne)
   base ended a b = binary or2 (ref (only halts)) (ref (slot exits 0 T))
   base code a b = ref (slot codes 0 T)

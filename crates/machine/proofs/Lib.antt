@@ -2,5 +2,7 @@
 pub mod Four
 pub mod Groups
 pub mod Loads
+pub mod Marked
+pub mod Marks
 pub mod Runs
 pub mod Permitted

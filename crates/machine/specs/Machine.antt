@@ -1,5 +1,5 @@
--- The machine (document 01, "Machine"): its state, which choices are permitted, and one step. The step rule that every crate stands on. Memory gives
--- every address a word. A reader of the calls believes this. Assumes nothing.
+-- The machine (document 01, "Machine"; of marks change request 2026-05): its state, which choices are permitted, and one step. The step rule that
+-- every crate stands on. Memory gives every address a word. A reader of the calls believes this. Assumes nothing.
 use Prim.Native.Nat.{ℕ, suc}
 use mathlib.Core.Bool.{Bool, true, false, cond, not, _&&_, _||_}
 use mathlib.Core.List.{List, [], _∷_, _++_}
@@ -210,16 +210,16 @@ acted S s (Flush t) = flushed (s .threads t)
 abbrev pub threadsAfter : Set → State → Choice → ℕ → Thread
 threadsAfter S s c u = cond (eqb u (actor c)) (acted S s c) (s .threads u)
 
--- CHECK leaves a mark, but not at a checkpoint that this very step clears.
+-- CHECK marks the thread at that checkpoint.
 unfoldable pub leavesMark : Set → State → Choice → Bool
-leavesMark S s (Execute t) = eqb (current S s t .number) CHECK && not (opened S (s .marks) (current S s t .argument))
+leavesMark S s (Execute t) = eqb (current S s t .number) CHECK
 leavesMark S s (Flush t) = false
 
 -- The next step, by anyone, clears an open checkpoint's marks.
 unfoldable pub cleared : Set → (ℕ → Mark) → ℕ → Mark
 cleared S marks u = cond (marks u .on && opened S marks (marks u .checkpoint)) unmarked (marks u)
 
--- the marks after a step
+-- the marks after a step: a CHECK's own is set after the clearing, also where this very step clears that checkpoint (request 2026-05)
 abbrev pub marksAfter : Set → State → Choice → ℕ → Mark
 marksAfter S s c u =
     cond (leavesMark S s c && eqb u (actor c))

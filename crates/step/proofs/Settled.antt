@@ -26,19 +26,19 @@ use Rattle.machine.specs.declared.Outcome.{Outcome}
 use Rattle.machine.specs.declared.Outcome.the-variants.{Taken, NotPermitted, Lacking}
 use Rattle.machine.specs.declared.Read.{Read}
 use Rattle.machine.specs.declared.Thread.{Thread}
-use Rattle.step.specs.Acting.{marksGiven, marksSettled, threadsSettled, waits, threadBy, threadFrom, Operands, statementBy, writtenBy, readsBy, outcomeBy, quiet, notTaken, Advances, onPermitted}
+use Rattle.step.specs.Acting.{marksSettled, threadsSettled, waits, threadBy, threadFrom, Operands, statementBy, writtenBy, readsBy, outcomeBy, quiet, notTaken, Advances, onPermitted}
 use Rattle.step.specs.Step.{onTaken}
 use Rattle.step.specs.declared.acting.Stepped.{Stepped}
 
-module _ (S : Set) (marks : ℕ → Mark) (t : ℕ) (i : Statement) (isOpen : Bool) where
-  abbrev marksHere : Bool
-  marksHere = eqb (i .number) CHECK && not isOpen
+module _ (S : Set) (marks : ℕ → Mark) (t : ℕ) (i : Statement) where
+  abbrev isCheck : Bool
+  isCheck = eqb (i .number) CHECK
 
-  pub marks-cleared : marksHere ≡ false → cleared S marks ≡ marksGiven S marks isOpen t i
+  pub marks-cleared : isCheck ≡ false → cleared S marks ≡ marksSettled S marks t i
   marks-cleared e = fun-ext (λ u. sym (passed _ _ (and-false (eqb u t) e)))
 
-  pub marks-left : marksHere ≡ true →
-      (λ u. cond (eqb u t) (record { on = true; checkpoint = i .argument }) (cleared S marks u)) ≡ marksGiven S marks isOpen t i
+  pub marks-left : isCheck ≡ true →
+      (λ u. cond (eqb u t) (record { on = true; checkpoint = i .argument }) (cleared S marks u)) ≡ marksSettled S marks t i
   marks-left e = fun-ext (λ u. sym (ap (λ (b : Bool). cond (b && eqb u t) (record { on = true; checkpoint = i .argument }) (cleared S marks u)) e))
 
 -- where no thread is marked, the marks stay
@@ -164,7 +164,7 @@ module _ (S : Set) (m : Machine) (memory : ℕ → ℕ) where
       (ap (λ (z : Thread). z .halted) (chosen y (getD (m .threads) t fresh) (eq-eqb t t refl)) ∙ not-true (y .halted) (and-right (not marked) (not (y .halted)) r)) in
       λ k. record {
         threads = threadsSettled (λ u. getD (m .threads) u fresh) t y;
-        marks = (unmarked-stay S (m .marks) n (not-true marked (and-left (not marked) (not (y .halted)) r)) ∙ marks-cleared S marks t i (opened S marks (i .argument)) (and-false (not (opened S marks (i .argument))) nocheck)) k;
+        marks = (unmarked-stay S (m .marks) n (not-true marked (and-left (not marked) (not (y .halted)) r)) ∙ marks-cleared S marks t i nocheck) k;
         memory = mem;
         ended = sym (ap₂ (λ (a b : Bool). m .ended || a || b) noexit halts ∙ or-no (m .ended || false) ∙ or-no (m .ended)) k;
         code = sym (passed (i .argument) (m .code) noexit) k;

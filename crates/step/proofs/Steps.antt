@@ -12,7 +12,7 @@ use lib.Seq.{drop-cons}
 use Rattle.base.specs.Below.{every}
 use Rattle.base.specs.Bytes.{placed}
 use Rattle.base.proofs.Bytes.{take-placed}
-use Rattle.base.proofs.Choice.{chosen, and-true, and-right}
+use Rattle.base.proofs.Choice.{chosen, and-true}
 use Rattle.records.specs.Instructions.{EXIT}
 use Rattle.records.specs.Maps.{cells, addressAt, valueAt, holds, content}
 use Rattle.records.specs.Sets.{Set}
@@ -20,13 +20,12 @@ use Rattle.records.specs.declared.Layout.{Layout}
 use Rattle.records.specs.declared.Statement.{Statement}
 use Rattle.machine.proofs.Four.{stored}
 use Rattle.machine.proofs.Runs.{length-traceStep, takes-actor, taken-takes, lacking-takes}
-use Rattle.step.proofs.Checks.{Contains, MayCheck, may-check, given-settled}
 use Rattle.step.proofs.Settled.{outcome-by, written-by, shown-by, stateBy, stepped, quiet-state, reads-by}
-use Rattle.machine.specs.Held.{stateOf, memoryOf, knownOf, heldOf, permittedBy, cellsOf}
-use Rattle.step.specs.Acting.{canStep, waits, statementBy, threadBy, writtenBy, readsBy, outcomeBy, quiet, marksGiven, marksSettled, threadsSettled, Advances, onPermitted}
+use Rattle.machine.specs.Held.{stateOf, memoryOf, knownOf, heldOf, cellsOf}
+use Rattle.step.specs.Acting.{canStep, waits, statementBy, threadBy, writtenBy, readsBy, outcomeBy, quiet, marksSettled, threadsSettled, Advances, onPermitted}
 use Rattle.step.specs.Step.{onTaken}
-use Rattle.machine.specs.Machine.{State, fresh, unmarked, markedAt, actor, start, step, written, noWrite, memoryAfter, reads}
-use Rattle.machine.specs.Maps.{Held, begin, outcome, advanced, knowsAll, knownAfter, onOutcome, follow}
+use Rattle.machine.specs.Machine.{State, fresh, unmarked, actor, start, step, written, noWrite, memoryAfter, reads}
+use Rattle.machine.specs.Maps.{Held, begin, outcome, advanced, knownAfter, onOutcome, follow}
 use Rattle.machine.specs.Runs.{choiceOf, choices, somePermitted, endOf}
 use Rattle.machine.specs.Traces.{stepBytes, traceStep, trace, stepLength}
 use Rattle.machine.specs.declared.RunAnswer.{RunAnswer}
@@ -179,20 +178,6 @@ module _ (S : Set) (m : Machine) (memory : ℕ → ℕ) (known : ℕ → Bool) (
       abbrev stated : Statement
       stated = statementBy S c acted
 
-      -- of a CHECK: its checkpoint is open just where its thread is marked there
-      checked : Contains S → MayCheck S marksOf (getD (m .marks) slot unmarked) (r .statement)
-      checked own =
-          subst⁻¹ (λ (j : Statement). MayCheck S marksOf (getD (m .marks) slot unmarked) j) (told .stated)
-          (subst⁻¹ (λ (k : ℕ). MayCheck S marksOf (getD (m .marks) k unmarked) stated) (slot-is acting)
-          (may-check S own marksOf acted c acting (and-right can (permittedBy c stated acted waiting) (go (can && permittedBy c stated acted waiting) (knowsAll known (readsBy c stated acted memory)) (sym (told .came) ∙ t)))))
-        where
-          waiting : Bool
-          waiting = waits S marksOf (getD (m .marks) (actor c) unmarked)
-
-          go : (a b : Bool) → cond a (cond b Taken Lacking) NotPermitted ≡ Taken → a ≡ true
-          go true b e = refl
-          go false b e = cc
-
       pub wrote-so : r .wrote ≡ written S (stateOf m memory) c
       wrote-so = told .wrote ∙ ap (λ (o : Outcome). onTaken o (writtenBy c stated acted memory) noWrite) t ∙ sym (written-by S m memory c)
 
@@ -233,15 +218,14 @@ module _ (S : Set) (m : Machine) (memory : ℕ → ℕ) (known : ℕ → Bool) (
             }) ∙ quiet-state S m memory (actor c) (r .thread) (r .statement) later four-marks acting q)
 
         -- they are made anew
-        pub loud-held : Contains S →
-            (λ u. getD (n .marks) u unmarked) ≡ cond (ltb (actor c) 4) (marksGiven S marksOf (markedAt (getD (m .marks) slot unmarked) (r .statement .argument)) (actor c) (r .statement)) marksOf →
+        pub loud-held : (λ u. getD (n .marks) u unmarked) ≡ cond (ltb (actor c) 4) (marksSettled S marksOf (actor c) (r .statement)) marksOf →
             n .ended ≡ (m .ended || eqb (r .statement .number) EXIT || every (S .threads) (λ u. getD (n .threads) u fresh .halted)) →
             n .code ≡ cond (eqb (r .statement .number) EXIT) (r .statement .argument) (m .code) →
             record { state = stateOf n later; known = knows } ≡ advanced S held c
-        loud-held own marks ended code =
+        loud-held marks ended code =
             settled (λ k. record {
               threads = threads-are k;
-              marks = (marks ∙ chosen _ _ (lt-ltb (actor c) 4 (omega (arith, acting, few))) ∙ given-settled S marksOf (getD (m .marks) slot unmarked) (actor c) (r .statement) (checked own)) k;
+              marks = (marks ∙ chosen _ _ (lt-ltb (actor c) 4 (omega (arith, acting, few)))) k;
               memory = later;
               ended = (ended ∙ ap (λ (f : ℕ → Thread). m .ended || eqb (r .statement .number) EXIT || every (S .threads) (λ u. f u .halted)) threads-are) k;
               code = code k;

@@ -28,16 +28,12 @@ use Rattle.step.specs.declared.acting.Stepped.{Stepped}
 abbrev pub threadsSettled : (ℕ → Thread) → ℕ → Thread → ℕ → Thread
 threadsSettled threads t y u = cond (eqb u t) y (threads u)
 
--- the marks after thread t's statement i, given whether the checkpoint of a CHECK is open
-abbrev pub marksGiven : Set → (ℕ → Mark) → Bool → ℕ → Statement → ℕ → Mark
-marksGiven S marks isOpen t i u =
-    cond (eqb (i .number) CHECK && not isOpen && eqb u t)
-    (record { on = true; checkpoint = i .argument })
-    (cleared S marks u)
-
 -- the marks after thread t's statement i
 abbrev pub marksSettled : Set → (ℕ → Mark) → ℕ → Statement → ℕ → Mark
-marksSettled S marks t i u = marksGiven S marks (opened S marks (i .argument)) t i u
+marksSettled S marks t i u =
+    cond (eqb (i .number) CHECK && eqb u t)
+    (record { on = true; checkpoint = i .argument })
+    (cleared S marks u)
 
 -- a step taken with statement i and registers y afterwards changes neither marks nor end
 abbrev pub quiet : (ℕ → Mark) → Statement → Thread → Bool

@@ -9,8 +9,8 @@ ghost use Rattle.base.specs.Below.{every};
 ghost use Rattle.records.specs.Instructions.{CAS as cas, EXIT as exit};
 ghost use Rattle.records.specs.Sets.{Set, setBy, mostThreads};
 ghost use Rattle.machine.specs.Held.{noRead, memoryOf, memoryIn, knownOf, knownIn, cellsOf};
-ghost use Rattle.step.specs.Acting.{marksGiven, quiet as quietOf, canStep, waits, threadBy, threadFrom, PcFits, Operands, statementBy, writtenBy, readsBy, notTaken, Advances};
-ghost use Rattle.machine.specs.Machine.{State, actor, acted as actedOf, fresh, unmarked, markedAt, row as rowOf, nextPc, withPc, memoryAfter, wrote as wroteOf, address, cellsRead, executed as executedOf, casMatches, noWrite, flushed};
+ghost use Rattle.step.specs.Acting.{marksSettled, quiet as quietOf, canStep, waits, threadBy, threadFrom, PcFits, Operands, statementBy, writtenBy, readsBy, notTaken, Advances};
+ghost use Rattle.machine.specs.Machine.{State, actor, acted as actedOf, fresh, unmarked, row as rowOf, nextPc, withPc, memoryAfter, wrote as wroteOf, address, cellsRead, executed as executedOf, casMatches, noWrite, flushed};
 ghost use Rattle.machine.specs.Maps.{knowsAll, knownAfter};
 use machine::Choice;
 use machine::Machine;
@@ -120,25 +120,19 @@ pub fn code_after(i: Statement, code: u16) -> u16
     code
 }
 
-// The marks after statement i of thread t, one of four, which had this mark: open checkpoints' are cleared, and a CHECK leaves its own
-// but where the thread is marked there. Where a thread may execute a CHECK, its checkpoint is open just if the thread is marked there;
-// so this is the rule, and no statement is searched for it.
+// The marks after statement i of thread t, one of four: open checkpoints' are cleared, and then a CHECK sets its own.
 fn marks_settled(
     set: &[u8],
     layout: Layout,
     marks: [Mark; Layout::THREADS],
-    mark: Mark,
     t: u8,
     i: Statement,
 ) -> [Mark; Layout::THREADS]
     requires { ⌜ t < mostThreads ⌝ }
-    ensures { λ r. ⌜ (λ u. getD r u unmarked) ≡ marksGiven (setBy (now (set .entry)) layout) (λ v. getD marks v unmarked) (markedAt mark (i .argument)) t i ⌝ }
+    ensures { λ r. ⌜ (λ u. getD r u unmarked) ≡ marksSettled (setBy (now (set .entry)) layout) (λ v. getD marks v unmarked) t i ⌝ }
 {
     let mut after = checkpoints::clear(set, layout, marks);
     if i.number == CHECK {
-        if mark.on & (mark.checkpoint == i.argument) {
-            return after;
-        }
         after[t as usize] = Mark {
             on: true,
             checkpoint: i.argument,
@@ -148,19 +142,18 @@ fn marks_settled(
     after
 }
 
-// The marks after statement i of thread t, which had this mark; as they were where it is not one of four.
+// The marks after statement i of thread t; as they were where it is not one of four.
 pub fn marks_after(
     set: &[u8],
     layout: Layout,
     marks: [Mark; Layout::THREADS],
-    mark: Mark,
     t: u8,
     i: Statement,
 ) -> [Mark; Layout::THREADS]
-    ensures { λ r. ⌜ (λ u. getD r u unmarked) ≡ cond (ltb t mostThreads) (marksGiven (setBy (now (set .entry)) layout) (λ v. getD marks v unmarked) (markedAt mark (i .argument)) t i) (λ v. getD marks v unmarked) ⌝ }
+    ensures { λ r. ⌜ (λ u. getD r u unmarked) ≡ cond (ltb t mostThreads) (marksSettled (setBy (now (set .entry)) layout) (λ v. getD marks v unmarked) t i) (λ v. getD marks v unmarked) ⌝ }
 {
     if t < Machine::THREADS {
-        return marks_settled(set, layout, marks, mark, t, i);
+        return marks_settled(set, layout, marks, t, i);
     }
     marks
 }

@@ -86,7 +86,7 @@ pub fn take(
         after.threads[at] = y;
         if !acting::quiet(marks, i, y) {
             let threads = after.threads;
-            let settled = acting::marks_after(set, layout, marks, mark, t, i);
+            let settled = acting::marks_after(set, layout, marks, t, i);
             after.marks = settled;
             after.ended = acting::ended_after(layout.threads, threads, i, m.ended);
             after.code = acting::code_after(i, m.code);

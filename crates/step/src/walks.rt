@@ -306,7 +306,7 @@ fn run(
         budget -= 1;
         if !acting::quiet(marks, i, y) {
             let threads = m.threads;
-            let after = acting::marks_after(set, layout, marks, mark, t, i);
+            let after = acting::marks_after(set, layout, marks, t, i);
             m.marks = after;
             m.ended = acting::ended_after(layout.threads, threads, i, m.ended);
             m.code = acting::code_after(i, m.code);

@@ -1,7 +1,7 @@
 //! Every example is read by the library, and the answer in its first line is that of an exhaustive
 //! search: the length of a shortest failing run, which the library runs, or that none fails.
 
-use deepchalk::{End, Set, MAX_SET_MAP, MAX_STEPS};
+use deepchalk::{End, Refusal, Set, MAX_SET_MAP, MAX_STEPS};
 use reference::example_files::answer;
 use reference::search::shortest_failing;
 use reference::{accept_map, accept_set, Cell};
@@ -39,7 +39,7 @@ fn read(path: &Path) -> (Set, reference::Set, Vec<Cell>) {
 #[test]
 fn answers_in_first_lines() {
     let examples = examples();
-    assert_eq!(examples.len(), 3 + 19 + 6);
+    assert_eq!(examples.len(), 5 + 19 + 6);
     for path in examples {
         let (_, set, map) = read(&path);
         let text = fs::read_to_string(&path).expect("a text");
@@ -61,4 +61,19 @@ fn the_scratch_buffer_fails_in_the_library() {
     let (trace, ran) = set.simulate(&schedule).expect("a permitted schedule");
     assert!(matches!(ran.end, End::Code(1 | 2)));
     assert_eq!(set.replay(&trace), Ok(ran));
+}
+
+// By the rule before change request 2026-05 port's second CHECK, in the clearing step, went uncounted:
+// port ran ahead, to its EXIT in nine steps.
+#[test]
+fn port_does_not_run_ahead_of_the_ping() {
+    let (set, _, _) = read(&folder().join("pings.txt"));
+    let ahead = [0, 1, 0, 0, 0, 0, 0, 0, 0];
+    assert!(set.simulate(&ahead[..3]).is_ok());
+    for steps in 4..=ahead.len() {
+        assert_eq!(
+            set.simulate(&ahead[..steps]),
+            Err(Refusal::NotPermitted { step: 3 })
+        );
+    }
 }

@@ -1,5 +1,5 @@
-//! Document 01's samples 4, 6, 7, 8 and 9, and document 002's litmus tests.
-//! The proved program runs the same cases and must print the same lines.
+//! Document 01's samples 4, 6, 7, 8 and 9, the cases of request 2026-05, and document 002's litmus
+//! tests. The proved program runs the same cases and must print the same lines.
 
 use crate::litmus::{amd, intel, Litmus};
 use crate::records::{map_bytes, set_bytes, CELL_BYTES, STATEMENT_BYTES};
@@ -93,6 +93,19 @@ fn jnzns_at(accu: u16) -> Vec<(Instruction, u16)> {
     vec![(Addi, accu), (Jnzns, 3), (Exit, 1), (Exit, 2)]
 }
 
+/// The two threads of request 2026-05; the first one's second CHECK can fall in the clearing step.
+fn meeting(name: &'static str, schedule: &[u8]) -> Case {
+    Case {
+        name,
+        threads: vec![
+            vec![(Check, 0), (Check, 0), (Exit, 1)],
+            vec![(Check, 0), (Jmp, 0)],
+        ],
+        map: vec![],
+        schedule: schedule.to_vec(),
+    }
+}
+
 pub fn all() -> Vec<Case> {
     vec![
         Case {
@@ -176,6 +189,17 @@ pub fn all() -> Vec<Case> {
             map: vec![],
             schedule: vec![0; 65],
         },
+        // The second CHECK comes two steps after the first.
+        Case {
+            name: "2026-05 one thread",
+            threads: vec![vec![(Check, 0), (Jmp, 0)]],
+            map: vec![],
+            schedule: vec![0; 4],
+        },
+        // Step 2 clears, and its CHECK is counted: then thread 0 waits until thread 1 comes again.
+        meeting("2026-05 two threads", &[0, 1, 0]),
+        meeting("2026-05 two threads, one runs ahead", &[0, 1, 0, 0]),
+        meeting("2026-05 two threads, both come", &[0, 1, 0, 1, 1, 0]),
     ]
 }
 
@@ -290,7 +314,7 @@ mod tests {
     use super::*;
 
     #[test]
-    fn answers_are_document_01s() {
+    fn answers_are_the_documents() {
         let answers: Vec<String> = all()
             .iter()
             .flat_map(|case| {
@@ -329,6 +353,13 @@ mod tests {
                 "sample 9 64 steps: 0 0 2 0 64",
                 "sample 9 64 steps replay: 0 0 2 0 64",
                 "sample 9 65 steps: 17 0 0 0 0",
+                "2026-05 one thread: 0 0 2 0 4",
+                "2026-05 one thread replay: 0 0 2 0 4",
+                "2026-05 two threads: 0 0 2 0 3",
+                "2026-05 two threads replay: 0 0 2 0 3",
+                "2026-05 two threads, one runs ahead: 12 3 0 0 0",
+                "2026-05 two threads, both come: 0 0 0 1 6",
+                "2026-05 two threads, both come replay: 0 0 0 1 6",
             ]
         );
     }

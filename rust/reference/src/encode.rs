@@ -438,7 +438,7 @@ impl<'a> Encoder<'a> {
         self.next_memory(written);
         self.next_registers();
         self.next_flags();
-        self.next_marks(&shut);
+        self.next_marks();
         self.next_end(exited, code);
     }
 
@@ -628,10 +628,11 @@ impl<'a> Encoder<'a> {
         [address, value]
     }
 
+    /// Which CHECKs are executed.
     fn raised(&mut self) {
         for (statements, values) in &mut self.threads {
             for checkpoint in statements.checkpoints {
-                let mut raised = values.marks[checkpoint];
+                let mut raised = NO;
                 for pc in statements.checks[checkpoint] {
                     raised = self.table.bit_if(values.active[pc], YES, raised);
                 }
@@ -721,12 +722,12 @@ impl<'a> Encoder<'a> {
         }
     }
 
-    /// The next step clears the marks of an open checkpoint.
-    fn next_marks(&mut self, shut: &[u32; MAX_CHECKPOINTS]) {
+    /// A mark at a checkpoint that is not open stays; a CHECK's own is set after the clearing.
+    fn next_marks(&mut self) {
         for (statements, values) in &mut self.threads {
             for checkpoint in statements.checkpoints {
-                let raised = values.raised[checkpoint];
-                values.marks[checkpoint] = self.table.and(shut[checkpoint], raised);
+                let (held, raised) = (values.held[checkpoint], values.raised[checkpoint]);
+                values.marks[checkpoint] = self.table.or(held, raised);
             }
         }
     }

@@ -25,14 +25,13 @@ impl ExampleFile {
     }
 }
 
-/// How short a run can be that fails; or, where none fails, how long a run can be. Some run must be
-/// the longest.
+/// How short a run can be that fails; or, where none fails, how long a run can be, up to 64 steps.
 pub fn answer(set: &Set, map: &[Cell]) -> String {
     match shortest_failing(set, map, MAX_STEPS) {
         Some(run) => format!("fails within {} steps", run.len()),
         None => format!(
             "no run of at most {} steps fails",
-            longest_run(set, map).min(MAX_STEPS)
+            longest_run(set, map, MAX_STEPS)
         ),
     }
 }

@@ -14,7 +14,8 @@ pub struct Thread {
     pub pc: usize,
     pub halted: bool,
     /// The checkpoint at which the thread is marked. There is at most one: a thread marked at a
-    /// checkpoint that is not open cannot execute, and the step after its opening clears the mark.
+    /// checkpoint that is not open cannot execute, and the step after its opening clears the mark
+    /// before a CHECK sets another.
     pub mark: Option<u16>,
 }
 
@@ -286,6 +287,7 @@ impl<'a> Machine<'a> {
     /// Takes a permitted choice. A step that would read a cell that is not known is not taken.
     pub fn step(&mut self, choice: Choice) -> Result<Report, LacksCell> {
         let open = self.open_checkpoint();
+        let arrives_at = self.checkpoint_reached(choice);
         let report = match choice {
             Choice::Execute(thread) => self.execute(thread)?,
             Choice::Flush(thread) => self.flush(thread),
@@ -294,11 +296,23 @@ impl<'a> Machine<'a> {
             self.memory.write(cell);
         }
         self.written = report.written;
-        // After executing: a CHECK of the open checkpoint in this very step leaves no mark.
+        // A CHECK's mark is set after the clearing, that of the open checkpoint too.
         if open.is_some() {
             self.clear_marks(open);
         }
+        if arrives_at.is_some() {
+            self.threads[choice.thread()].mark = arrives_at;
+        }
         Ok(report)
+    }
+
+    /// The checkpoint whose CHECK the choice executes.
+    fn checkpoint_reached(&self, choice: Choice) -> Option<u16> {
+        let Choice::Execute(thread) = choice else {
+            return None;
+        };
+        let statement = self.statement(thread);
+        (statement.instruction == Check).then_some(statement.argument)
     }
 
     fn clear_marks(&mut self, open: Option<u16>) {
@@ -336,10 +350,9 @@ impl<'a> Machine<'a> {
         }
         match instruction {
             Addi | Subi | Muli => thread.take(instruction, argument),
-            Check => thread.mark = Some(argument),
             Halt => thread.halted = true,
             Exit => self.code = Some(argument),
-            // FENCE and jumps change no register but the pc.
+            // FENCE, CHECK and jumps change no register but the pc.
             _ => {}
         }
         if instruction.jumps_at(thread.accu) {

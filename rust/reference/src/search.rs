@@ -52,12 +52,11 @@ pub fn shortest_failing(set: &Set, map: &[Cell], bound: usize) -> Option<Vec<Cho
     None
 }
 
-/// The length of the longest run; there must be one.
-pub fn longest_run(set: &Set, map: &[Cell]) -> usize {
+/// The length of the longest run of at most `most` steps.
+pub fn longest_run(set: &Set, map: &[Cell], most: usize) -> usize {
     let addresses = addresses(set, map);
     let mut reached = vec![Machine::fresh(set, map.to_vec())];
-    let mut length = 0;
-    loop {
+    for length in 0..most {
         let mut seen = HashSet::new();
         let next = reached.iter().flat_map(successors).map(|(after, _)| after);
         let next: Vec<Machine> = next
@@ -67,8 +66,8 @@ pub fn longest_run(set: &Set, map: &[Cell]) -> usize {
             return length;
         }
         reached = next;
-        length += 1;
     }
+    most
 }
 
 fn successors<'a>(machine: &Machine<'a>) -> Vec<(Machine<'a>, Choice)> {

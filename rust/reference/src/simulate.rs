@@ -222,16 +222,32 @@ mod tests {
     }
 
     #[test]
-    fn a_check_in_the_clearing_step_leaves_no_mark() {
+    fn a_check_in_the_clearing_step_marks() {
         let meets = thread(&[(Check, 2), (Jmp, 0)]);
         let again = thread(&[(Check, 2), (Check, 2), (Exit, 1)]);
-        // Step 1 opens the checkpoint; step 2 clears it and its own CHECK goes uncounted, so thread
-        // 1 goes on.
+        // Step 1 opens the checkpoint; step 2 clears it, and then its own CHECK marks thread 1,
+        // which waits until thread 0 comes again.
         let threads = vec![meets, again];
-        let (ran, _) = run(threads.clone(), &[], &[0, 1, 1, 1]).unwrap();
+        assert_eq!(refused(threads.clone(), &[], &[0, 1, 1, 1]), (12, 3));
+        let (ran, _) = run(threads.clone(), &[], &[0, 1, 1, 0, 0, 1]).unwrap();
         assert_eq!(ran.end, End::Code(1));
-        // When thread 0 clears first, the second CHECK of thread 1 waits.
-        assert_eq!(refused(threads, &[], &[0, 1, 0, 1, 1]), (12, 4));
+        // The same where thread 0 clears.
+        assert_eq!(refused(threads.clone(), &[], &[0, 1, 0, 1, 1]), (12, 4));
+        // The mark of thread 0 is cleared too, although thread 1 is the one that arrives: it does not wait.
+        let (ran, _) = run(threads, &[], &[0, 1, 1, 0]).unwrap();
+        assert_eq!(ran.end, End::Open);
+    }
+
+    #[test]
+    fn a_checkpoint_of_one_thread_never_waits() {
+        // With the CHECK in the clearing step, and two steps after the one before.
+        for statements in [
+            [(Check, 2), (Check, 2), (Jmp, 0)],
+            [(Check, 2), (Jmp, 0), (Halt, 0)],
+        ] {
+            let (ran, _) = run(vec![thread(&statements)], &[], &[0; 9]).unwrap();
+            assert_eq!(ran.end, End::Open);
+        }
     }
 
     #[test]

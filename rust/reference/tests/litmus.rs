@@ -4,6 +4,7 @@
 use reference::litmus::{amd, faulty_counters, intel, valid_counters, Litmus, Sample};
 use reference::records::set_bytes;
 use reference::search::{longest_run, shortest_failing};
+use reference::trace::MAX_STEPS;
 use reference::{accept_set, Cell, Choice, End, Machine, Set};
 use testing::assignments::{first_memory, of_run, run, Broken};
 use testing::tables::Table;
@@ -24,7 +25,7 @@ fn longest_runs_are_document_002s_bounds() {
     for litmus in all() {
         let bare = litmus.bare();
         let set = set_of(&bare);
-        let longest = longest_run(&set, &bare.map);
+        let longest = longest_run(&set, &bare.map, MAX_STEPS);
         assert_eq!(longest, litmus.bound, "{}", litmus.name);
         let failing = shortest_failing(&set, &bare.map, longest);
         assert_eq!(failing, None, "{}", litmus.name);
@@ -38,7 +39,7 @@ fn outcomes_are_allowed_as_document_002_says() {
         let set = set_of(&judged);
         let failing = shortest_failing(&set, &judged.map, litmus.judged_bound());
         assert_eq!(failing.is_some(), litmus.allowed, "{}", litmus.name);
-        assert!(longest_run(&set, &judged.map) <= litmus.judged_bound());
+        assert!(longest_run(&set, &judged.map, MAX_STEPS) <= litmus.judged_bound());
     }
 }
 

@@ -168,23 +168,41 @@ fn case_3() {
     assert_eq!([satisfied(1, 3), satisfied(1, 4)], [0, 0]);
 }
 
-// "The next step, by anyone, clears its marks; a CHECK of the same number executed in that very step
-// leaves no mark."
+// "The next step, by anyone, clears its marks." Of a CHECK of the same number in that very step, since
+// request 2026-05: "its mark is set after the clearing".
 #[test]
 fn marks_are_cleared_by_the_next_step() {
     let threads = [
         thread(&[(Check, 2), (Jmp, 0)]),
         thread(&[(Check, 2), (Check, 2), (Exit, 1)]),
     ];
-    // Step 1 opens the checkpoint; the CHECK in step 2 leaves no mark, so thread 1 goes on.
-    assert_eq!(judge(&threads, &[], 4, &[0, 1, 1, 1]), None);
-    // Thread 0 clears in step 2, so the CHECK in step 3 marks thread 1, which then waits.
-    let waits = Some(Broken::Step(4));
-    assert_eq!(judge(&threads, &[], 5, &[0, 1, 0, 1, 1]), waits);
+    // Step 1 opens the checkpoint; the CHECK in step 2 marks thread 1, which then waits.
+    let waits = |step| Some(Broken::Step(step));
+    assert_eq!(judge(&threads, &[], 4, &[0, 1, 1, 1]), waits(3));
+    // Thread 0 clears in step 2, and the CHECK in step 3 marks thread 1, which then waits.
+    assert_eq!(judge(&threads, &[], 5, &[0, 1, 0, 1, 1]), waits(4));
     // Thread 0 waits in step 1.
     assert_eq!(judge(&threads, &[], 3, &[0, 0]), Some(Broken::Step(1)));
     // Thread 0 comes round again and opens it for thread 1.
     assert_eq!(judge(&threads, &[], 6, &[0, 1, 0, 1, 0, 1]), None);
+    assert_eq!(judge(&threads, &[], 6, &[0, 1, 1, 0, 0, 1]), None);
+}
+
+// Request 2026-05, "one of two threads where it falls in the clearing step": by the table not for K 5,
+// yes for K 6; with HALT as the second thread's last statement for no K.
+#[test]
+fn no_thread_runs_ahead_of_a_checkpoint() {
+    let first = thread(&[(Check, 0), (Check, 0), (Exit, 1)]);
+    let satisfied = |last: Instruction, length: u32| {
+        let threads = [first.clone(), thread(&[(Check, 0), (last, 0)])];
+        every_schedule(2, length)
+            .filter(|s| judge(&threads, &[], length as usize, s).is_none())
+            .count()
+    };
+    assert_eq!([satisfied(Jmp, 4), satisfied(Jmp, 5)], [0, 0]);
+    assert_eq!([satisfied(Halt, 4), satisfied(Halt, 5)], [0, 0]);
+    // Either thread comes first; the second CHECK falls before, between or after thread 1's two steps.
+    assert_eq!(satisfied(Jmp, 6), 6);
 }
 
 // "A CHECK of another number in the clearing step marks", and a flush clears too.

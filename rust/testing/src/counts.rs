@@ -77,6 +77,7 @@ struct Events {
     openings: usize,
     shared_openings: usize,
     checks_in_clearing_step: usize,
+    waits_after_clearing_step: usize,
     flushes_while_waiting: usize,
     flushes_in_clearing_step: usize,
     exits_with_full_buffer: usize,
@@ -113,7 +114,8 @@ impl Counts {
             match choice {
                 Choice::Execute(thread) => {
                     let hit = report.written.is_some();
-                    self.events.add_execute(&before, thread, hit);
+                    self.events
+                        .add_execute(&before, thread, hit, machine.waits(thread));
                 }
                 Choice::Flush(thread) => {
                     self.events.flushes += 1;
@@ -145,7 +147,7 @@ impl Counts {
 }
 
 impl Events {
-    fn add_execute(&mut self, before: &Machine, thread: usize, hit: bool) {
+    fn add_execute(&mut self, before: &Machine, thread: usize, hit: bool, waits: bool) {
         let registers = before.threads()[thread];
         let Statement {
             instruction,
@@ -160,6 +162,7 @@ impl Events {
             Instruction::Exit if registers.full => self.exits_with_full_buffer += 1,
             Instruction::Check if before.open_checkpoint() == Some(argument) => {
                 self.checks_in_clearing_step += 1;
+                self.waits_after_clearing_step += usize::from(waits);
             }
             _ if instruction.is_jump() => {
                 let target = usize::from(argument);
@@ -205,6 +208,10 @@ impl Events {
             (
                 "CHECK of the open checkpoint in the clearing step",
                 self.checks_in_clearing_step,
+            ),
+            (
+                "such a CHECK, and the thread then waits",
+                self.waits_after_clearing_step,
             ),
             ("flush while waiting", self.flushes_while_waiting),
             ("flush in the clearing step", self.flushes_in_clearing_step),

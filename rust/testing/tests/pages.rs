@@ -2,7 +2,7 @@
 
 use testing::sources::{repository, text};
 
-const PAGES: [&str; 9] = [
+const PAGES: [&str; 10] = [
     "README.md",
     "CONTRIBUTING.md",
     "docs/ARCHITECTURE.md",
@@ -12,6 +12,7 @@ const PAGES: [&str; 9] = [
     "docs/TABLE.md",
     "docs/USE.md",
     "docs/changes/2026-04.md",
+    "docs/changes/2026-05.md",
 ];
 
 /// The words in backquotes of a page, its blocks of code left out.

@@ -218,7 +218,7 @@ returns-15 : tie.Need-returns-15
 unfolding kinds
 returns-15 c =
     let a = c .before .before .before .before .args in
-    (λ S cs same other flagless h. puts-base S cs (a .threads) (a .step) (a .a) (a .b) (a .kind) (kindNumber raised) same (c .before .match .keys15) (c .put-none6 .ensures .0 (a .n) mark (now (a .out)) refl refl), c .put-none6 .ensures .1)
+    (λ S cs same other flagless h. puts-base S cs (a .threads) (a .step) (a .a) (a .b) (a .kind) (kindNumber raised) same (c .before .match .keys15) (c .put-none6 .ensures .0 (a .n) bitZero (now (a .out)) refl refl), c .put-none6 .ensures .1)
 
 returns-16 : tie.Need-returns-16
 unfolding kinds
@@ -287,7 +287,7 @@ returns-25 : tie.Need-returns-25
 unfolding kinds
 returns-25 c =
     let a = c .before .before .before .before .before .before .before .args in
-    (λ S cs same other flagless h. puts-base S cs (a .threads) (a .step) (a .a) (a .b) (a .kind) (kindNumber mark) same (c .before .before .before .before .match .keys25) (c .before .before .put-joined2 .ensures .0 and2 shut raised refl refl refl refl refl refl), c .before .before .put-joined2 .ensures .1)
+    (λ S cs same other flagless h. puts-base S cs (a .threads) (a .step) (a .a) (a .b) (a .kind) (kindNumber mark) same (c .before .before .before .before .match .keys25) (c .before .before .put-joined2 .ensures .0 or2 held raised refl refl refl refl refl refl), c .before .before .put-joined2 .ensures .1)
 
 returns-26 : tie.Need-returns-26
 unfolding kinds

@@ -13,17 +13,16 @@ use Rattle.base.proofs.Choice.{passed, and-false}
 use Rattle.records.specs.Sets.{Set, setBy}
 use Rattle.records.specs.declared.Layout.{Layout}
 use Rattle.machine.specs.Held.{memoryOf, knownOf, heldOf}
-use Rattle.machine.specs.Machine.{actor, unmarked, markedAt}
+use Rattle.machine.specs.Machine.{actor, unmarked}
 use Rattle.machine.specs.Maps.{Held, outcome, advanced}
 use Rattle.machine.specs.declared.Choice.{Choice}
 use Rattle.machine.specs.declared.Machine.{Machine}
 use Rattle.machine.specs.declared.Mark.{Mark}
 use Rattle.machine.specs.declared.Outcome.{Outcome}
 use Rattle.machine.specs.declared.Outcome.the-variants.{Taken, NotPermitted}
-use Rattle.step.specs.Acting.{marksGiven}
+use Rattle.step.specs.Acting.{marksSettled}
 use Rattle.step.specs.Step.{hasRoom, onTaken}
 use Rattle.step.proofs.Arrays.{four-threads, four-marks}
-use Rattle.step.proofs.Checks.{contains-own}
 use Rattle.step.proofs.Steps.{Told, quiet-held, loud-held}
 use Rattle.step.proofs.Taken.{taken-so, left, can, came-so, had-room, stays}
 use Rattle.step.proofs.take.Statement.{statement}
@@ -176,7 +175,7 @@ returns-2 c =
       came = came x;
       holds = goes x t _ (loud-held (set-of x) m (memory-of x) (known-of x) (choice-of x) (few x) (told x) (roomed x t) t n
           (ap (λ (k : ℕ). set (m .threads) (k % 4) (x .advance .result .thread)) (u .ensures)) (four-threads m (start-of x .good .1 .1 .0))
-          (contains-own (bytes-of x) (layout-of x)) (marks .ensures ∙ ap {B = ℕ → Mark} (λ (k : ℕ). cond (ltb k 4) (marksGiven (set-of x) (λ v. getD (m .marks) v unmarked) (markedAt (getD (m .marks) (k % 4) unmarked) (x .advance .result .statement .argument)) k (x .advance .result .statement)) (λ v. getD (m .marks) v unmarked)) (u .ensures))
+          (marks .ensures ∙ ap {B = ℕ → Mark} (λ (k : ℕ). cond (ltb k 4) (marksSettled (set-of x) (λ v. getD (m .marks) v unmarked) k (x .advance .result .statement)) (λ v. getD (m .marks) v unmarked)) (u .ensures))
           (c .before .ended-after .ensures)
           (c .code-after .ensures));
       more = x .advance .ensures .more;

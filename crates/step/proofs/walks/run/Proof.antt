@@ -14,8 +14,8 @@ use Rattle.base.specs.Bytes.{placed}
 use Rattle.base.proofs.Choice.{chosen, passed}
 use Rattle.records.specs.Sets.{Set, setBy}
 use Rattle.machine.specs.Held.{stateOf, memoryOf, knownOf, heldOf, cellsOf}
-use Rattle.step.specs.Acting.{canStep, marksGiven}
-use Rattle.machine.specs.Machine.{State, fresh, unmarked, markedAt, noWrite, actor, step, written, reads}
+use Rattle.step.specs.Acting.{canStep, marksSettled}
+use Rattle.machine.specs.Machine.{State, fresh, unmarked, noWrite, actor, step, written, reads}
 use Rattle.machine.specs.Maps.{Held, outcome, advanced}
 use Rattle.machine.specs.Runs.{choices}
 use Rattle.machine.specs.Traces.{stepBytes, traceStep, trace, stepLength}
@@ -33,7 +33,6 @@ use Rattle.step.specs.Step.{onTaken}
 use Rattle.step.specs.Walks.{stepsOf, agrees, stepRefusal, onRefusal, walked, walkedLacks}
 use Rattle.machine.proofs.Runs.{refused-ran}
 use Rattle.step.proofs.Arrays.{four-threads, four-marks}
-use Rattle.step.proofs.Checks.{contains-own}
 use Rattle.step.proofs.Steps.{on-refused, refused-begins, stands, lacks, rest, walked-next, Told, refused-so, shown-bytes, acting, wrote-so, quiet-held, loud-held, has-room, end-is, trace-more, refused-number, lacks-next, came-out, lacks-cell}
 use Rattle.step.proofs.Cells.{prefix-known}
 use Rattle.step.proofs.walks.run.Statement.{statement}
@@ -414,7 +413,7 @@ loop-again c =
       k .1 .1 .1 .1 .1 .1 .1 .0 ∙ l .inv .4,
       place-at x .place .kept .0 ∙ l .inv .5,
       goes-on x zero n (length-set (m .threads) (t .result % 4) (result-of x .thread) ∙ l .inv .6 .5) (marks-made (c .before .before)) (loud-held (set-of x) m (memory-of x) (known-of x) (choice-of x) (few x) (told x) (room x) (taken x zero) n (ap (λ (u : ℕ). set (m .threads) (u % 4) (result-of x .thread)) (t .ensures)) (l .inv .6 .5)
-          (contains-own (now (start-of x .args .set)) (start-of x .args .layout)) (marks .ensures ∙ ap {B = ℕ → Mark} (λ (u : ℕ). cond (ltb u 4) (marksGiven (set-of x) (λ v. getD (m .marks) v unmarked) (markedAt (getD (m .marks) (u % 4) unmarked) (result-of x .statement .argument)) u (result-of x .statement)) (λ v. getD (m .marks) v unmarked)) (t .ensures))
+          (marks .ensures ∙ ap {B = ℕ → Mark} (λ (u : ℕ). cond (ltb u 4) (marksSettled (set-of x) (λ v. getD (m .marks) v unmarked) u (result-of x .statement)) (λ v. getD (m .marks) v unmarked)) (t .ensures))
           (ended .ensures)
           (c .code-after .ensures)),
     )
