@@ -166,6 +166,8 @@ pub struct Report {
     pub data_word: Option<Loaded>,
     /// The cell written by a flush or by a CAS that matched.
     pub written: Option<Cell>,
+    /// The checkpoint whose CHECK was executed.
+    pub checkpoint: Option<u16>,
 }
 
 /// The step would read this cell, which is neither mapped nor written.
@@ -287,7 +289,6 @@ impl<'a> Machine<'a> {
     /// Takes a permitted choice. A step that would read a cell that is not known is not taken.
     pub fn step(&mut self, choice: Choice) -> Result<Report, LacksCell> {
         let open = self.open_checkpoint();
-        let arrives_at = self.checkpoint_reached(choice);
         let report = match choice {
             Choice::Execute(thread) => self.execute(thread)?,
             Choice::Flush(thread) => self.flush(thread),
@@ -300,19 +301,10 @@ impl<'a> Machine<'a> {
         if open.is_some() {
             self.clear_marks(open);
         }
-        if arrives_at.is_some() {
-            self.threads[choice.thread()].mark = arrives_at;
+        if report.checkpoint.is_some() {
+            self.threads[choice.thread()].mark = report.checkpoint;
         }
         Ok(report)
-    }
-
-    /// The checkpoint whose CHECK the choice executes.
-    fn checkpoint_reached(&self, choice: Choice) -> Option<u16> {
-        let Choice::Execute(thread) = choice else {
-            return None;
-        };
-        let statement = self.statement(thread);
-        (statement.instruction == Check).then_some(statement.argument)
     }
 
     fn clear_marks(&mut self, open: Option<u16>) {
@@ -350,9 +342,10 @@ impl<'a> Machine<'a> {
         }
         match instruction {
             Addi | Subi | Muli => thread.take(instruction, argument),
+            Check => report.checkpoint = Some(argument),
             Halt => thread.halted = true,
             Exit => self.code = Some(argument),
-            // FENCE, CHECK and jumps change no register but the pc.
+            // FENCE and jumps change no register but the pc.
             _ => {}
         }
         if instruction.jumps_at(thread.accu) {
