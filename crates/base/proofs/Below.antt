@@ -2,22 +2,22 @@
 use Rattle.std.proofs.Common.{◌≡◌, ℕ, zero, suc, ◌+◌, ◌<◌, ◌≤◌, Bool, true, false, cond, eqb, ltb, refl, ap, ◌∙◌, ap₂, add-one, arith, ltb-true, le-ltb, lt-ltb, eq-eqb, ne_eqb}
 use native.Mathlib.Decide.{ℕ_discrete, dec_lt}
 use Rattle.base.specs.Below.{every, some, number, least}
-use Rattle.base.proofs.Choice.{chosen, passed, and-true, and-false, and-right-false, and_left, and_right, or-true, or-false, or-right-true, cond_both}
+use Rattle.base.proofs.Choice.{chosen, passed, and_true, and_false, and_right_false, and_left, and_right, or_true, or_false, or_right_true, cond_both}
 
 module _ (test : ℕ → Bool) where
   -- ---- every
 
   pub every_more : (i : ℕ) → every i test ≡ true → test i ≡ true → every (i + 1) test ≡ true
   unfolding every
-  every_more i p q = rw add-one (and-true p q)
+  every_more i p q = rw add-one (and_true p q)
 
   -- one that does not pass
   pub every-not : (n i : ℕ) → i < n → test i ≡ false → every n test ≡ false
   unfolding every
   every-not zero i h e = absurd (omega arith)
   every-not (suc n) i h e = elim (ℕ_discrete i n) [
-    | yes p ↦ and-right-false (every n test) (rw (← p) e)
-    | no p ↦ and-false (test n) (every-not n i (omega arith) e)
+    | yes p ↦ and_right_false (every n test) (rw (← p) e)
+    | no p ↦ and_false (test n) (every-not n i (omega arith) e)
   ]
 
   pub every-at : (n i : ℕ) → every n test ≡ true → i < n → test i ≡ true
@@ -31,20 +31,20 @@ module _ (test : ℕ → Bool) where
   pub every-all : (n : ℕ) → ((i : ℕ) → i < n → test i ≡ true) → every n test ≡ true
   unfolding every
   every-all zero f = refl
-  every-all (suc n) f = and-true (every-all n (λ i h. f i (omega arith))) (f n (omega arith))
+  every-all (suc n) f = and_true (every-all n (λ i h. f i (omega arith))) (f n (omega arith))
 
   -- ---- some
 
   pub some_more : (i : ℕ) → some i test ≡ false → test i ≡ false → some (i + 1) test ≡ false
   unfolding some
-  some_more i p q = rw add-one (or-false p q)
+  some_more i p q = rw add-one (or_false p q)
 
   pub some_at : (n i : ℕ) → i < n → test i ≡ true → some n test ≡ true
   unfolding some
   some_at zero i h e = absurd (omega arith)
   some_at (suc n) i h e = elim (ℕ_discrete i n) [
-    | yes p ↦ or-right-true (some n test) (rw (← p) e)
-    | no p ↦ or-true (test n) (some_at n i (omega arith) e)
+    | yes p ↦ or_right_true (some n test) (rw (← p) e)
+    | no p ↦ or_true (test n) (some_at n i (omega arith) e)
   ]
 
   -- ---- number
@@ -147,11 +147,11 @@ number_up place (suc n) t = omega (arith, number_up place n t, one (place n) t)
     ]
 
 -- tests that agree below the bound find the same
-pub least-ext : (f g : ℕ → Bool) (n : ℕ) → ((k : ℕ) → k < n → f k ≡ g k) → least n f ≡ least n g
+pub least_ext : (f g : ℕ → Bool) (n : ℕ) → ((k : ℕ) → k < n → f k ≡ g k) → least n f ≡ least n g
 unfolding least
-least-ext f g zero e = refl
-least-ext f g (suc n) e =
-    let ih = least-ext f g n (λ k h. e k (omega arith)) in
+least_ext f g zero e = refl
+least_ext f g (suc n) e =
+    let ih = least_ext f g n (λ k h. e k (omega arith)) in
     ap₂ (λ (i : ℕ) (b : Bool). cond (ltb i n) i (cond b n (suc n))) ih (e n (omega arith))
 
 -- ---- a `match` over the k numbers from a on: what its last arm knows
@@ -166,11 +166,11 @@ none_from a zero n h r = omega arith
 none_from a (suc k) n h r = omega (arith, none_from a k n h r.0, r.1)
 
 -- the tests agree below the bound
-pub number-ext : (f g : ℕ → Bool) (n : ℕ) → ((k : ℕ) → k < n → f k ≡ g k) → number n f ≡ number n g
+pub number_ext : (f g : ℕ → Bool) (n : ℕ) → ((k : ℕ) → k < n → f k ≡ g k) → number n f ≡ number n g
 unfolding number
-number-ext f g zero e = refl
-number-ext f g (suc n) e =
-    ap₂ (λ (k : ℕ) (b : Bool). k + cond b 1 0) (number-ext f g n (λ k h. e k (omega arith))) (e n (omega arith))
+number_ext f g zero e = refl
+number_ext f g (suc n) e =
+    ap₂ (λ (k : ℕ) (b : Bool). k + cond b 1 0) (number_ext f g n (λ k h. e k (omega arith))) (e n (omega arith))
 
 -- one number more, as a successor
 pub number-yes : (test : ℕ → Bool) (n : ℕ) → test n ≡ true → number (suc n) test ≡ suc (number n test)
@@ -192,4 +192,4 @@ least-none test (suc n) f =
 pub some-none : (test : ℕ → Bool) (n : ℕ) → ((i : ℕ) → i < n → test i ≡ false) → some n test ≡ false
 unfolding some
 some-none test zero f = refl
-some-none test (suc n) f = or-false (some-none test n (λ i h. f i (omega arith))) (f n (omega arith))
+some-none test (suc n) f = or_false (some-none test n (λ i h. f i (omega arith))) (f n (omega arith))

@@ -3,7 +3,7 @@ use Rattle.std.proofs.Common.{◌≡◌, ℕ, zero, suc, ◌+◌, ◌-◌, ◌*�
 use lib.Seq.{take-length, drop-append-add, take-append_seam}
 use borrow.Author.Tests.{lt-leb}
 use Rattle.base.specs.Bytes.{splice, placed, over, same}
-use Rattle.base.proofs.Choice.{chosen, passed, and-true, and-right-false, and_left, and_right, clash}
+use Rattle.base.proofs.Choice.{chosen, passed, and_true, and_right_false, and_left, and_right, clash}
 
 -- bytes that fit are written, others are not
 pub placed-fits : (xs : List ℕ) (i : ℕ) (ys : List ℕ) → i + length ys ≤ length xs → placed xs i ys ≡ splice xs i ys
@@ -65,24 +65,24 @@ length-placed xs i ys = go (leb (i + length ys) (length xs)) refl
 pub same_self : (a : List ℕ) → same a a ≡ true
 unfolding same
 same_self [] = refl
-same_self (x ∷ a) = and-true (eq-eqb x x refl) (same_self a)
+same_self (x ∷ a) = and_true (eq-eqb x x refl) (same_self a)
 
-pub same-equal : (a b : List ℕ) → same a b ≡ true → a ≡ b
+pub same_equal : (a b : List ℕ) → same a b ≡ true → a ≡ b
 unfolding same
-same-equal [] [] e = refl
-same-equal [] (y ∷ b) e = clash e refl
-same-equal (x ∷ a) [] e = clash e refl
-same-equal (x ∷ a) (y ∷ b) e =
+same_equal [] [] e = refl
+same_equal [] (y ∷ b) e = clash e refl
+same_equal (x ∷ a) [] e = clash e refl
+same_equal (x ∷ a) (y ∷ b) e =
     let h : x ≡ y = eqb-true x y (and_left (eqb x y) (same a b) e) in
-    let t : a ≡ b = same-equal a b (and_right (eqb x y) (same a b) e) in
+    let t : a ≡ b = same_equal a b (and_right (eqb x y) (same a b) e) in
     rw (h, t)
 
-pub same-lengths : (a b : List ℕ) → (length a ≡ length b → ⊥) → same a b ≡ false
+pub same_lengths : (a b : List ℕ) → (length a ≡ length b → ⊥) → same a b ≡ false
 unfolding same
-same-lengths [] [] f = absurd (f refl)
-same-lengths [] (y ∷ b) f = refl
-same-lengths (x ∷ a) [] f = refl
-same-lengths (x ∷ a) (y ∷ b) f = and-right-false (eqb x y) (same-lengths a b (λ e. f (ap suc e)))
+same_lengths [] [] f = absurd (f refl)
+same_lengths [] (y ∷ b) f = refl
+same_lengths (x ∷ a) [] f = refl
+same_lengths (x ∷ a) (y ∷ b) f = and_right_false (eqb x y) (same_lengths a b (λ e. f (ap suc e)))
 
 pub same-empty : (a : List ℕ) → eqb (length a) 0 ≡ same a []
 unfolding same

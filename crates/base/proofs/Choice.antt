@@ -21,19 +21,19 @@ cond-ap f true x y = refl
 cond-ap f false x y = refl
 
 -- a test as the number that a cast makes of it
-pub cast-test : (b : Bool) → bool_byte b ≡ cond b 1 0
-cast-test true = refl
-cast-test false = refl
+pub cast_test : (b : Bool) → bool_byte b ≡ cond b 1 0
+cast_test true = refl
+cast_test false = refl
 
-pub and-true : {a b : Bool} → a ≡ true → b ≡ true → (a && b) ≡ true
-and-true {a} {b} p q = ap (λ (x : Bool). x && b) p ∙ q
+pub and_true : {a b : Bool} → a ≡ true → b ≡ true → (a && b) ≡ true
+and_true {a} {b} p q = ap (λ (x : Bool). x && b) p ∙ q
 
-pub and-false : {a : Bool} (b : Bool) → a ≡ false → (a && b) ≡ false
-and-false b p = ap (λ (x : Bool). x && b) p
+pub and_false : {a : Bool} (b : Bool) → a ≡ false → (a && b) ≡ false
+and_false b p = ap (λ (x : Bool). x && b) p
 
-pub and-right-false : (a : Bool) {b : Bool} → b ≡ false → (a && b) ≡ false
-and-right-false true q = q
-and-right-false false q = refl
+pub and_right_false : (a : Bool) {b : Bool} → b ≡ false → (a && b) ≡ false
+and_right_false true q = q
+and_right_false false q = refl
 
 pub and_left : (a b : Bool) → (a && b) ≡ true → a ≡ true
 and_left true b e = refl
@@ -43,15 +43,15 @@ pub and_right : (a b : Bool) → (a && b) ≡ true → b ≡ true
 and_right true b e = e
 and_right false b e = absurd (true≢false (sym e))
 
-pub or-true : {a : Bool} (b : Bool) → a ≡ true → (a || b) ≡ true
-or-true b p = ap (λ (x : Bool). x || b) p
+pub or_true : {a : Bool} (b : Bool) → a ≡ true → (a || b) ≡ true
+or_true b p = ap (λ (x : Bool). x || b) p
 
-pub or-false : {a b : Bool} → a ≡ false → b ≡ false → (a || b) ≡ false
-or-false {a} {b} p q = ap (λ (x : Bool). x || b) p ∙ q
+pub or_false : {a b : Bool} → a ≡ false → b ≡ false → (a || b) ≡ false
+or_false {a} {b} p q = ap (λ (x : Bool). x || b) p ∙ q
 
-pub or-right-true : (a : Bool) {b : Bool} → b ≡ true → (a || b) ≡ true
-or-right-true true q = refl
-or-right-true false q = q
+pub or_right_true : (a : Bool) {b : Bool} → b ≡ true → (a || b) ≡ true
+or_right_true true q = refl
+or_right_true false q = q
 
 -- a test that is not true
 pub refuted : (b : Bool) → (b ≡ true → ⊥) → b ≡ false
@@ -92,9 +92,9 @@ pub either : {X : Type 0} (a b : Bool) → (a || b) ≡ true → (a ≡ true →
 either true b e f g = f refl
 either false b e f g = g e
 
-pub or-three : (a b c : Bool) → ((a || b) || c) ≡ (a || (b || c))
-or-three true b c = refl
-or-three false b c = refl
+pub or_three : (a b c : Bool) → ((a || b) || c) ≡ (a || (b || c))
+or_three true b c = refl
+or_three false b c = refl
 
 -- equality the other way round
 pub eqb_swap : (a b : ℕ) → eqb a b ≡ eqb b a

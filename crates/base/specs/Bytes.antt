@@ -2,8 +2,8 @@
 use Rattle.std.specs.Prelude.{ℕ, ◌+◌, ◌*◌, ◌/◌, ◌%◌, Bool, true, false, cond, ◌&&◌, List, [], ◌∷◌, ◌++◌, length, take, drop, ◌==◌, nat_le, slice_index}
 
 -- the word whose two bytes stand from index i on, low byte first
-abbrev pub wordAt : List ℕ → ℕ → ℕ
-wordAt s i = slice_index s i + 256 * slice_index s (i + 1)
+abbrev pub word_at : List ℕ → ℕ → ℕ
+word_at s i = slice_index s i + 256 * slice_index s (i + 1)
 
 -- the two bytes of a word, low byte first, before the rest
 abbrev pub word : ℕ → List ℕ → List ℕ

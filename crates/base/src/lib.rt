@@ -2,7 +2,7 @@
 // Every function has an answer for every input, so that callers need no proof of an index.
 ghost use Rattle.std.specs.Prelude.{◌≡◌, slice_index};
 ghost use Rattle.base.specs.Words.{plus, minus, times};
-ghost use Rattle.base.specs.Bytes.{wordAt, placed, same as sameOf};
+ghost use Rattle.base.specs.Bytes.{word_at, placed, same as same_of};
 
 // a plus b, the low 16 bits.
 pub fn sum(a: u16, b: u16) -> u16
@@ -34,7 +34,7 @@ pub fn byte_at(s: &[u8], i: usize) -> u8
 
 // The word whose two bytes stand from index i on, low byte first; a byte past the end is 0.
 pub fn word_at(s: &[u8], i: usize) -> u16
-    ensures { result ≡ wordAt s.now i }
+    ensures { result ≡ word_at s.now i }
 {
     if s.len() <= i {
         return 0;
@@ -58,7 +58,7 @@ pub fn place(out: &mut [u8], i: usize, bytes: &[u8])
 
 // Whether two slices hold the same bytes. All are compared, which is faster for few bytes than to leave at the first that differs.
 pub fn same(a: &[u8], b: &[u8]) -> bool
-    ensures { result ≡ sameOf a.now b.now }
+    ensures { result ≡ same_of a.now b.now }
 {
     if a.len() != b.len() {
         return false;

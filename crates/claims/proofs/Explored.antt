@@ -11,16 +11,16 @@ use borrow.Author.Tests.{eqb-true, ltb-true}
 use Rattle.base.specs.Below.{every}
 use Rattle.base.proofs.Below.{every-at, least-passes}
 use Rattle.base.proofs.Choice.{chosen, passed, and_left, and_right}
-use Rattle.records.specs.Maps.{cells, addressAt, value_at, cell_at, mapped, mapValue}
-use Rattle.records.specs.Sets.{Set, setOf}
+use Rattle.records.specs.Maps.{cells, address_at, value_at, cell_at, mapped, map_value}
+use Rattle.records.specs.Sets.{Set, set_of}
 use Rattle.machine.specs.Machine.{State, start, actor, step}
-use Rattle.machine.specs.Runs.{takes, isRun, after}
+use Rattle.machine.specs.Runs.{takes, is_run, after}
 use Rattle.machine.specs.declared.Choice.{Choice}
 use Rattle.machine.specs.declared.Choice.TheVariants.{Execute, Flush}
 use Rattle.machine.proofs.Runs.{takes-actor, run-first, run-rest}
 use Rattle.claims.specs.Cases.{Accepted, Unsatisfiable}
 use Rattle.claims.specs.Tables.{Agrees}
-use Rattle.claims.proofs.Tables.{tableMeansTheProgram}
+use Rattle.claims.proofs.Tables.{table_means_the_program}
 
 -- no run of at most n steps from s has a code other than 0; only choices that can be taken are followed
 unfoldable pub explored : Set → ℕ → State → Bool
@@ -53,7 +53,7 @@ explored-step S n s c e h =
     sym (ap (λ (b : Bool). elim b [ true ↦ explored S n (step S s c) | false ↦ true ]) e)
     ∙ follows_of S n s c (takes-actor S s c e) h
 
-explored-run : (S : Set) (n : ℕ) (s : State) (run : List Choice) → explored S n s ≡ true → isRun S s run ≡ true → length run ≤ n → (after S s run).code ≡ 0
+explored-run : (S : Set) (n : ℕ) (s : State) (run : List Choice) → explored S n s ≡ true → is_run S s run ≡ true → length run ≤ n → (after S s run).code ≡ 0
 unfolding after
 explored-run S n s [] h r l = explored-here S n s h
 explored-run S zero s (c ∷ run) h r l = absurd (omega arith)
@@ -61,31 +61,31 @@ explored-run S (suc n) s (c ∷ run) h r l =
     explored-run S n (step S s c) run (explored-step S n s c (run-first S s c run r) h) (run-rest S s c run r) (omega arith)
 
 -- a memory with the map's cells over it
-abbrev pub mappedOver : List ℕ → (ℕ → ℕ) → ℕ → ℕ
-mappedOver map memory a = cond (mapped map a) (mapValue map a) (memory a)
+abbrev pub mapped_over : List ℕ → (ℕ → ℕ) → ℕ → ℕ
+mapped_over map memory a = cond (mapped map a) (map_value map a) (memory a)
 
 -- a memory that agrees with the map has the map's cells
-pub agrees-over : (map : List ℕ) (memory : ℕ → ℕ) → Agrees map memory → memory ≡ mappedOver map memory
+pub agrees-over : (map : List ℕ) (memory : ℕ → ℕ) → Agrees map memory → memory ≡ mapped_over map memory
 agrees-over map memory agrees = fun_ext (λ a. go a (mapped map a) refl)
   where
-    go : (a : ℕ) (b : Bool) → mapped map a ≡ b → memory a ≡ mappedOver map memory a
+    go : (a : ℕ) (b : Bool) → mapped map a ≡ b → memory a ≡ mapped_over map memory a
     go a true e =
-        let j = cell_at (addressAt map) (cells map) a in
+        let j = cell_at (address_at map) (cells map) a in
         let l : j < cells map = ltb-true j (cells map) e in
-        ap memory (sym (eqb-true (addressAt map j) a (least-passes (λ k. eqb (addressAt map k) a) (cells map) l)))
-        ∙ agrees j l ∙ sym (chosen (mapValue map a) (memory a) e ∙ chosen (value_at map j) 0 e)
-    go a false e = sym (passed (mapValue map a) (memory a) e)
+        ap memory (sym (eqb-true (address_at map j) a (least-passes (λ k. eqb (address_at map k) a) (cells map) l)))
+        ∙ agrees j l ∙ sym (chosen (map_value map a) (memory a) e ∙ chosen (value_at map j) 0 e)
+    go a false e = sym (passed (map_value map a) (memory a) e)
 
 -- no assignment satisfies the table of a bound that the exploration reaches, from every first memory that agrees with the map
 pub unsatisfiable : (set map : List ℕ) (n bound : ℕ) → Accepted set map →
-    ((memory : ℕ → ℕ) → explored (setOf set) n (start (mappedOver map memory)) ≡ true) →
+    ((memory : ℕ → ℕ) → explored (set_of set) n (start (mapped_over map memory)) ≡ true) →
     1 ≤ bound → bound ≤ 64 → bound ≤ n → Unsatisfiable set map bound
 unsatisfiable set map n bound accepted all low high reaches g satisfying =
-    let w = (tableMeansTheProgram set map bound accepted.acceptedSet accepted.acceptedMap low high).0 (g, satisfying) in
+    let w = (table_means_the_program set map bound accepted.accepted_set accepted.accepted_map low high).0 (g, satisfying) in
     let memory = w.0 in
     let failure = w.1.1 in
     failure.fails.code
-    (explored-run (setOf set) n (start memory) w.1.0
-    (subst⁻¹ (λ (m : ℕ → ℕ). explored (setOf set) n (start m) ≡ true) (agrees-over map memory failure.agrees) (all memory))
+    (explored-run (set_of set) n (start memory) w.1.0
+    (subst⁻¹ (λ (m : ℕ → ℕ). explored (set_of set) n (start m) ≡ true) (agrees-over map memory failure.agrees) (all memory))
     failure.fails.permitted
     (omega (arith, failure.fails.bounded, reaches)))

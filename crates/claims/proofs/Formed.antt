@@ -13,5 +13,5 @@ below [] h i = omega arith
 below (x ∷ xs) h zero = h.0
 below (x ∷ xs) h (suc i) = below xs h.1 i
 
-pub tablesAreWellFormed : TablesAreWellFormed
-tablesAreWellFormed set map bound a b one few h k = well-formed set map bound (below set h) (below map k) one
+pub tables_are_well_formed : TablesAreWellFormed
+tables_are_well_formed set map bound a b one few h k = well-formed set map bound (below set h) (below map k) one

@@ -10,11 +10,11 @@ use lib.ListN.{length, get_or, take, drop, get_or-replicate, get_or-eq_default, 
 use lib.Seq.{get_or-append-add, get_or-drop, take-append_seam}
 use borrow.Author.Tests.{ltb-true, eqb-true, eqb-false, not-true, not-false}
 use Rattle.base.specs.Bytes.{same, over}
-use Rattle.base.proofs.Bytes.{same-equal}
+use Rattle.base.proofs.Bytes.{same_equal}
 use Rattle.base.proofs.Choice.{and_left, refuted, clash}
-use Rattle.text_lines.specs.Characters.{isInLine, isNameByte, run, name}
-use Rattle.text_lines.specs.Lines.{extended, lines, unlabelled, padded, isLabel}
-use Rattle.claims.specs.Sections.{withLF, LinesPartTheText, LabelsStayApart}
+use Rattle.text_lines.specs.Characters.{is_in_line, is_name_byte, run, name}
+use Rattle.text_lines.specs.Lines.{extended, lines, unlabelled, padded, is_label}
+use Rattle.claims.specs.Sections.{with_lf, LinesPartTheText, LabelsStayApart}
 
 -- ---- lines
 
@@ -25,30 +25,30 @@ NoLF ls = (i j : ℕ) → i < length ls → j < length (get_or ls i []) → get_
 some-line : (text : List ℕ) → 0 < length (lines text)
 unfolding lines
 some-line [] = omega arith
-some-line (b ∷ s) = go (isInLine b) (lines s) (some-line s)
+some-line (b ∷ s) = go (is_in_line b) (lines s) (some-line s)
   where
     go : (t : Bool) (ls : List (List ℕ)) → 0 < length ls → 0 < length (cond t (extended b ls) ([] ∷ ls))
     go true [] h = omega arith
     go true (l ∷ ls) h = omega arith
     go false ls h = omega arith
 
-extended-joined : (b : ℕ) (ls : List (List ℕ)) → 0 < length ls → withLF (extended b ls) ≡ b ∷ withLF ls
-unfolding withLF
+extended-joined : (b : ℕ) (ls : List (List ℕ)) → 0 < length ls → with_lf (extended b ls) ≡ b ∷ with_lf ls
+unfolding with_lf
 extended-joined b [] h = absurd (omega arith)
 extended-joined b (l ∷ []) h = refl
 extended-joined b (l ∷ m ∷ ls) h = refl
 
-parted-joined : (ls : List (List ℕ)) → 0 < length ls → withLF ([] ∷ ls) ≡ 10 ∷ withLF ls
-unfolding withLF
+parted-joined : (ls : List (List ℕ)) → 0 < length ls → with_lf ([] ∷ ls) ≡ 10 ∷ with_lf ls
+unfolding with_lf
 parted-joined [] h = absurd (omega arith)
 parted-joined (l ∷ ls) h = refl
 
-lines-joined : (text : List ℕ) → withLF (lines text) ≡ text
-unfolding lines withLF
+lines-joined : (text : List ℕ) → with_lf (lines text) ≡ text
+unfolding lines with_lf
 lines-joined [] = refl
-lines-joined (b ∷ s) = go (isInLine b) refl (lines-joined s)
+lines-joined (b ∷ s) = go (is_in_line b) refl (lines-joined s)
   where
-    go : (t : Bool) → isInLine b ≡ t → withLF (lines s) ≡ s → withLF (cond t (extended b (lines s)) ([] ∷ lines s)) ≡ b ∷ s
+    go : (t : Bool) → is_in_line b ≡ t → with_lf (lines s) ≡ s → with_lf (cond t (extended b (lines s)) ([] ∷ lines s)) ≡ b ∷ s
     go true e ih = extended-joined b (lines s) (some-line s) ∙ ap (λ (r : List ℕ). b ∷ r) ih
     go false e ih = parted-joined (lines s) (some-line s) ∙ ap₂ (λ (c : ℕ) (r : List ℕ). c ∷ r) (sym (eqb-true b 10 (not-false (eqb b 10) e))) ih
 
@@ -67,14 +67,14 @@ empty-parted ls g (suc i) j h l e = g i j (omega arith) l e
 lines-parted : (text : List ℕ) → NoLF (lines text)
 unfolding lines
 lines-parted [] = empty-parted [] (λ i j h l e. omega arith)
-lines-parted (b ∷ s) = go (isInLine b) refl (lines-parted s)
+lines-parted (b ∷ s) = go (is_in_line b) refl (lines-parted s)
   where
-    go : (t : Bool) → isInLine b ≡ t → NoLF (lines s) → NoLF (cond t (extended b (lines s)) ([] ∷ lines s))
+    go : (t : Bool) → is_in_line b ≡ t → NoLF (lines s) → NoLF (cond t (extended b (lines s)) ([] ∷ lines s))
     go true e g = extended-parted b (lines s) (eqb-false b 10 (not-true (eqb b 10) e)) g
     go false e g = empty-parted (lines s) g
 
-pub lines-part-the-text : LinesPartTheText
-lines-part-the-text text = record { joined = lines-joined text; parted = lines-parted text }
+pub lines-part_the_text : LinesPartTheText
+lines-part_the_text text = record { joined = lines-joined text; parted = lines-parted text }
 
 -- ---- labels
 
@@ -92,7 +92,7 @@ run-passes test (b ∷ s) i h = go (run-passes test s) (test b) refl i h
 
 -- no byte of a name is 0
 name-byte : (s : List ℕ) (i : ℕ) → i < length (name s) → get_or (name s) i 0 ≡ 0 → ⊥
-name-byte s i h e = clash {A = ⊥} (sym (ap isNameByte e) ∙ run-passes isNameByte s i h) refl
+name-byte s i h e = clash {A = ⊥} (sym (ap is_name_byte e) ∙ run-passes is_name_byte s i h) refl
 
 filled : (i : ℕ) → get_or unlabelled i 0 ≡ 0
 filled i = elim (dec_lt i 16) [
@@ -119,24 +119,24 @@ module _ (w : List ℕ) where
   padded-start = take-append_seam w (drop (length w) unlabelled)
 
 -- names filled up to equal bytes have no less than each other
-no-shorter : (s other : List ℕ) → padded (name s) ≡ padded (name other) → length (name other) ≤ length (name s)
-no-shorter s other e = elim (dec_lt (length (name s)) (length (name other))) [
+no_shorter : (s other : List ℕ) → padded (name s) ≡ padded (name other) → length (name other) ≤ length (name s)
+no_shorter s other e = elim (dec_lt (length (name s)) (length (name other))) [
   | yes h ↦ absurd (name-byte other (length (name s)) h (sym (padded-inside (name other) (length (name s)) h)
       ∙ ap (λ (p : List ℕ). get_or p (length (name s)) 0) (sym e) ∙ padded-outside (name s) (length (name s)) (omega arith)))
   | no f ↦ omega arith
 ]
 
 pub labels-stay-apart : LabelsStayApart
-unfolding isLabel
+unfolding is_label
 labels-stay-apart s other label labelled = (ap not (refuted _ different), same_name)
   where
     some : 0 < length (name s)
     some = ltb-true 0 (length (name s)) (and_left _ _ (and_left _ _ label))
 
     different : same (padded (name s)) unlabelled ≡ true → ⊥
-    different e = name-byte s 0 some (sym (padded-inside (name s) 0 some) ∙ ap (λ (p : List ℕ). get_or p 0 0) (same-equal (padded (name s)) unlabelled e))
+    different e = name-byte s 0 some (sym (padded-inside (name s) 0 some) ∙ ap (λ (p : List ℕ). get_or p 0 0) (same_equal (padded (name s)) unlabelled e))
 
     same_name : padded (name s) ≡ padded (name other) → name s ≡ name other
     same_name e =
-        let long : length (name s) ≡ length (name other) = omega (arith, no-shorter s other e, no-shorter other s (sym e)) in
+        let long : length (name s) ≡ length (name other) = omega (arith, no_shorter s other e, no_shorter other s (sym e)) in
         sym (padded-start (name s)) ∙ ap₂ (λ (n : ℕ) (p : List ℕ). take n p) long e ∙ padded-start (name other)

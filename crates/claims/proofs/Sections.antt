@@ -11,22 +11,22 @@ use lib.Seq.{drop-cons, drop-length}
 use borrow.Author.Tests.{eqb-true, eqb-false, eq-eqb, ne_eqb}
 use Rattle.base.specs.Below.{number}
 use Rattle.base.proofs.Below.{number-grows, number-yes, number-no}
-use Rattle.base.proofs.Choice.{chosen, passed, and-true, and-false, and-right-false, and_left, or-false, or_left, or_right, clash}
-use Rattle.records.specs.Instructions.{isLast}
-use Rattle.text_lines.specs.Lines.{lines, isDot, statementLine}
+use Rattle.base.proofs.Choice.{chosen, passed, and_true, and_false, and_right_false, and_left, or_false, or_left, or_right, clash}
+use Rattle.records.specs.Instructions.{is_last}
+use Rattle.text_lines.specs.Lines.{lines, is_dot, statement_line}
 use Rattle.text_lines.specs.declared.Stated.{Stated}
-use Rattle.text.specs.Sections.{Threads, dots, isGood, halt, noThreads, added, is_complete, gained, closed, lineAdded, threadsFrom, threads}
-use Rattle.text.proofs.Below.{cond-where}
+use Rattle.text.specs.Sections.{Threads, dots, is_good, halt, no_threads, added, is_complete, gained, closed, line_added, threads_from, threads}
+use Rattle.text.proofs.Below.{cond_where}
 use Rattle.text.proofs.Statements.{added-others, added-count, added-last, added-earlier, gained-ended, gained-others, gained-earlier}
-use Rattle.claims.specs.Sections.{line, sections, sectionOf, holdsStatement, statementsBefore, Gains, ThreadsAreTheSections}
+use Rattle.claims.specs.Sections.{line, sections, section_of, holds_statement, statements_before, Gains, ThreadsAreTheSections}
 
 -- ---- one number more
 
 -- each place below the count is that of one that passes
-number-reach : (test : ℕ → Bool) (n p : ℕ) → p < number n test → (i : ℕ) × (i < n) × (test i ≡ true) × (number i test ≡ p)
+number_reach : (test : ℕ → Bool) (n p : ℕ) → p < number n test → (i : ℕ) × (i < n) × (test i ≡ true) × (number i test ≡ p)
 unfolding number
-number-reach test zero p h = absurd (omega arith)
-number-reach test (suc n) p h = go (number-reach test n p) (test n) refl h
+number_reach test zero p h = absurd (omega arith)
+number_reach test (suc n) p h = go (number_reach test n p) (test n) refl h
   where
     go : (p < number n test → (i : ℕ) × (i < n) × (test i ≡ true) × (number i test ≡ p)) → (b : Bool) → test n ≡ b → p < number n test + cond b 1 0 →
         (i : ℕ) × (i < suc n) × (test i ≡ true) × (number i test ≡ p)
@@ -37,17 +37,17 @@ number-reach test (suc n) p h = go (number-reach test n p) (test n) refl h
     ]
 
 -- equal statements and counts gain alike
-gains-alike : (n k m c : ℕ) (x y : ℕ → Stated) → n ≡ k → m ≡ c → ((p : ℕ) → x p ≡ y p) → Gains n m x → Gains k c y
-gains-alike n k m c x y e f h g =
+gains_alike : (n k m c : ℕ) (x y : ℕ → Stated) → n ≡ k → m ≡ c → ((p : ℕ) → x p ≡ y p) → Gains n m x → Gains k c y
+gains_alike n k m c x y e f h g =
     subst (λ (z : ℕ → Stated). Gains k c z) (fun_ext h) (subst (λ (z : ℕ). Gains k z x) f (subst (λ (z : ℕ). Gains z m x) e g))
 
 module _ (text : List ℕ) where
   abbrev ends : ℕ → Bool
-  ends i = isDot (line text i)
+  ends i = is_dot (line text i)
 
   -- ---- dots
 
-  dots-left : (i : ℕ) → i ≤ length (lines text) → sectionOf text i + dots (drop i (lines text)) ≡ dots (lines text)
+  dots-left : (i : ℕ) → i ≤ length (lines text) → section_of text i + dots (drop i (lines text)) ≡ dots (lines text)
   unfolding number dots
   dots-left zero h = omega arith
   dots-left (suc i) h =
@@ -59,69 +59,69 @@ module _ (text : List ℕ) where
   unfolding dots
   sections-dots = omega (arith, dots-left (length (lines text)) (omega arith), ap dots (drop-length (lines text)))
 
-  pub dots-after : (i : ℕ) → i ≤ length (lines text) → sectionOf text i + dots (drop i (lines text)) ≡ sections text
+  pub dots-after : (i : ℕ) → i ≤ length (lines text) → section_of text i + dots (drop i (lines text)) ≡ sections text
   dots-after i h = dots-left i h ∙ sym sections-dots
 
   -- ---- the threads after i lines
 
   abbrev following : ℕ → Threads → Threads
-  following i T = cond (ends i) (closed T) (cond (eqb (dots (drop (suc i) (lines text))) 0) T (lineAdded (line text i) T))
+  following i T = cond (ends i) (closed T) (cond (eqb (dots (drop (suc i) (lines text))) 0) T (line_added (line text i) T))
 
   unfoldable after : ℕ → Threads
-  after zero = noThreads
+  after zero = no_threads
   after (suc i) = following i (after i)
 
-  after-rest : (i : ℕ) → i ≤ length (lines text) → threadsFrom (after i) (drop i (lines text)) ≡ threads (lines text)
-  unfolding after threadsFrom
+  after-rest : (i : ℕ) → i ≤ length (lines text) → threads_from (after i) (drop i (lines text)) ≡ threads (lines text)
+  unfolding after threads_from
   after-rest zero h = refl
   after-rest (suc i) h =
-      sym (ap (threadsFrom (after i)) (drop-cons (lines text) i [] h)) ∙ after-rest i (omega arith)
+      sym (ap (threads_from (after i)) (drop-cons (lines text) i [] h)) ∙ after-rest i (omega arith)
 
   after-all : after (length (lines text)) ≡ threads (lines text)
-  unfolding threadsFrom
-  after-all = sym (ap (threadsFrom (after (length (lines text)))) (drop-length (lines text))) ∙ after-rest (length (lines text)) (omega arith)
+  unfolding threads_from
+  after-all = sym (ap (threads_from (after (length (lines text)))) (drop-length (lines text))) ∙ after-rest (length (lines text)) (omega arith)
 
   -- ---- what holds after i lines
 
   pub record Sorted (i : ℕ) (T : Threads) : Type 0 where
-    pub ended : T.ended ≡ sectionOf text i
-    pub counts : (s : ℕ) → s < sections text → T.ended ≤ s → T.count s ≡ statementsBefore text s i
-    pub shut : (s : ℕ) → s < T.ended → Gains (statementsBefore text s i) (T.count s) (T.statement s)
-    pub held : (s j : ℕ) → s < sections text → j < i → holdsStatement text s j ≡ true → T.statement s (statementsBefore text s j) ≡ statementLine (line text j)
+    pub ended : T.ended ≡ section_of text i
+    pub counts : (s : ℕ) → s < sections text → T.ended ≤ s → T.count s ≡ statements_before text s i
+    pub shut : (s : ℕ) → s < T.ended → Gains (statements_before text s i) (T.count s) (T.statement s)
+    pub held : (s j : ℕ) → s < sections text → j < i → holds_statement text s j ≡ true → T.statement s (statements_before text s j) ≡ statement_line (line text j)
 
   -- a line holds no statement of another section, and a dot line holds none
-  elsewhere : (s i : ℕ) → (sectionOf text i ≡ s → ⊥) → holdsStatement text s i ≡ false
-  elsewhere s i f = and-false (isGood (statementLine (line text i)).form) (and-false (not (ends i)) (ne_eqb (sectionOf text i) s f))
+  elsewhere : (s i : ℕ) → (section_of text i ≡ s → ⊥) → holds_statement text s i ≡ false
+  elsewhere s i f = and_false (is_good (statement_line (line text i)).form) (and_false (not (ends i)) (ne_eqb (section_of text i) s f))
 
-  at-dot : (s i : ℕ) → ends i ≡ true → holdsStatement text s i ≡ false
-  at-dot s i d = and-false (isGood (statementLine (line text i)).form) (and-right-false (eqb (sectionOf text i) s) (ap not d))
+  at_dot : (s i : ℕ) → ends i ≡ true → holds_statement text s i ≡ false
+  at_dot s i d = and_false (is_good (statement_line (line text i)).form) (and_right_false (eqb (section_of text i) s) (ap not d))
 
-  holds-section : (s i : ℕ) → holdsStatement text s i ≡ true → sectionOf text i ≡ s
-  holds-section s i e =
-      let here = eqb (sectionOf text i) s in
-      eqb-true (sectionOf text i) s (and_left here (not (ends i)) (and_left (here && not (ends i)) (isGood (statementLine (line text i)).form) e))
+  holds_section : (s i : ℕ) → holds_statement text s i ≡ true → section_of text i ≡ s
+  holds_section s i e =
+      let here = eqb (section_of text i) s in
+      eqb-true (section_of text i) s (and_left here (not (ends i)) (and_left (here && not (ends i)) (is_good (statement_line (line text i)).form) e))
 
   -- statements of a section before line i come before its next one
-  written-before : (s j i : ℕ) → j < i → holdsStatement text s j ≡ true → statementsBefore text s j < statementsBefore text s i
-  written-before s j i h e = omega (arith, number-yes (holdsStatement text s) j e, number-grows (holdsStatement text s) (suc j) i h)
+  written-before : (s j i : ℕ) → j < i → holds_statement text s j ≡ true → statements_before text s j < statements_before text s i
+  written-before s j i h e = omega (arith, number-yes (holds_statement text s) j e, number-grows (holds_statement text s) (suc j) i h)
 
   -- a line that holds no statement and is no dot
-  sorted-same : (i : ℕ) (T : Threads) → ends i ≡ false → ((s : ℕ) → s < sections text → holdsStatement text s i ≡ false) →
+  sorted-same : (i : ℕ) (T : Threads) → ends i ≡ false → ((s : ℕ) → s < sections text → holds_statement text s i ≡ false) →
       T.ended ≤ sections text → Sorted i T → Sorted (suc i) T
   sorted-same i T d f most o = record {
     ended = o.ended ∙ sym (number-no ends i d);
-    counts = λ s h l. o.counts s h l ∙ sym (number-no (holdsStatement text s) i (f s h));
-    shut = λ s h. subst⁻¹ (λ (n : ℕ). Gains n (T.count s) (T.statement s)) (number-no (holdsStatement text s) i (f s (omega arith))) (o.shut s h);
+    counts = λ s h l. o.counts s h l ∙ sym (number-no (holds_statement text s) i (f s h));
+    shut = λ s h. subst⁻¹ (λ (n : ℕ). Gains n (T.count s) (T.statement s)) (number-no (holds_statement text s) i (f s (omega arith))) (o.shut s h);
     held = λ s j h l e. elim (ℕ_discrete j i) [
-      | yes q ↦ clash (sym (ap (holdsStatement text s) q) ∙ e) (f s h)
+      | yes q ↦ clash (sym (ap (holds_statement text s) q) ∙ e) (f s h)
       | no g ↦ o.held s j h (omega arith) e
     ];
   }
 
   -- a line of the open section
-  module _ (i : ℕ) (T : Threads) (d : ends i ≡ false) (g : isGood (statementLine (line text i)).form ≡ true) (most : T.ended < sections text) (o : Sorted i T) where
+  module _ (i : ℕ) (T : Threads) (d : ends i ≡ false) (g : is_good (statement_line (line text i)).form ≡ true) (most : T.ended < sections text) (o : Sorted i T) where
     abbrev x : Stated
-    x = statementLine (line text i)
+    x = statement_line (line text i)
 
     abbrev more : Threads
     more = added x T
@@ -130,30 +130,30 @@ module _ (text : List ℕ) where
     unfolding added
     more-ended = refl
 
-    here : holdsStatement text T.ended i ≡ true
-    here = and-true (and-true (eq-eqb (sectionOf text i) T.ended (sym o.ended)) (ap not d)) g
+    here : holds_statement text T.ended i ≡ true
+    here = and_true (and_true (eq-eqb (section_of text i) T.ended (sym o.ended)) (ap not d)) g
 
-    other : (s : ℕ) → (s ≡ T.ended → ⊥) → holdsStatement text s i ≡ false
+    other : (s : ℕ) → (s ≡ T.ended → ⊥) → holds_statement text s i ≡ false
     other s f = elsewhere s i (λ e. f (sym e ∙ sym o.ended))
 
     -- the open section's count, and the statements held by the lines up to i
-    own-count : more.count T.ended ≡ statementsBefore text T.ended (suc i)
-    own-count = omega (arith, added-count x T, o.counts T.ended most (omega arith), number-yes (holdsStatement text T.ended) i here)
+    own-count : more.count T.ended ≡ statements_before text T.ended (suc i)
+    own-count = omega (arith, added-count x T, o.counts T.ended most (omega arith), number-yes (holds_statement text T.ended) i here)
 
-    own_held : (j : ℕ) → j < suc i → holdsStatement text T.ended j ≡ true → more.statement T.ended (statementsBefore text T.ended j) ≡ statementLine (line text j)
+    own_held : (j : ℕ) → j < suc i → holds_statement text T.ended j ≡ true → more.statement T.ended (statements_before text T.ended j) ≡ statement_line (line text j)
     own_held j l e =
         let n = o.counts T.ended most (omega arith) in
         elim (ℕ_discrete j i) [
-          | yes q ↦ ap (λ (k : ℕ). more.statement T.ended (statementsBefore text T.ended k)) q ∙ ap (more.statement T.ended) (sym n) ∙ added-last x T ∙ ap (λ (k : ℕ). statementLine (line text k)) (sym q)
+          | yes q ↦ ap (λ (k : ℕ). more.statement T.ended (statements_before text T.ended k)) q ∙ ap (more.statement T.ended) (sym n) ∙ added-last x T ∙ ap (λ (k : ℕ). statement_line (line text k)) (sym q)
           | no f ↦
               let b = written-before T.ended j i (omega arith) e in
-              added-earlier x T (statementsBefore text T.ended j) (omega arith) ∙ o.held T.ended j most (omega arith) e
+              added-earlier x T (statements_before text T.ended j) (omega arith) ∙ o.held T.ended j most (omega arith) e
         ]
 
     -- a line of another section stands before line i
-    earlier : (s j : ℕ) → j < suc i → (s ≡ T.ended → ⊥) → holdsStatement text s j ≡ true → j < i
+    earlier : (s j : ℕ) → j < suc i → (s ≡ T.ended → ⊥) → holds_statement text s j ≡ true → j < i
     earlier s j l f e = elim (ℕ_discrete j i) [
-      | yes q ↦ clash (sym (ap (holdsStatement text s) q) ∙ e) (other s f)
+      | yes q ↦ clash (sym (ap (holds_statement text s) q) ∙ e) (other s f)
       | no h ↦ omega arith
     ]
 
@@ -161,55 +161,55 @@ module _ (text : List ℕ) where
     sorted-added = record {
       ended = more-ended ∙ o.ended ∙ sym (number-no ends i d);
       counts = λ s h l. elim (ℕ_discrete s T.ended) [
-        | yes q ↦ subst⁻¹ (λ (u : ℕ). more.count u ≡ statementsBefore text u (suc i)) q own-count
-        | no f ↦ (added-others x T s f).0 ∙ o.counts s h (omega (arith, more-ended)) ∙ sym (number-no (holdsStatement text s) i (other s f))
+        | yes q ↦ subst⁻¹ (λ (u : ℕ). more.count u ≡ statements_before text u (suc i)) q own-count
+        | no f ↦ (added-others x T s f).0 ∙ o.counts s h (omega (arith, more-ended)) ∙ sym (number-no (holds_statement text s) i (other s f))
       ];
       shut = λ s h.
           let f : s ≡ T.ended → ⊥ = λ q. omega (arith, more-ended) in
-          gains-alike (statementsBefore text s i) (statementsBefore text s (suc i)) (T.count s) (more.count s) (T.statement s) (more.statement s)
-          (sym (number-no (holdsStatement text s) i (other s f))) (sym (added-others x T s f).0) (λ p. sym ((added-others x T s f).1 p))
+          gains_alike (statements_before text s i) (statements_before text s (suc i)) (T.count s) (more.count s) (T.statement s) (more.statement s)
+          (sym (number-no (holds_statement text s) i (other s f))) (sym (added-others x T s f).0) (λ p. sym ((added-others x T s f).1 p))
           (o.shut s (omega (arith, more-ended)));
       held = λ s j h l e. elim (ℕ_discrete s T.ended) [
-        | yes q ↦ subst⁻¹ (λ (u : ℕ). more.statement u (statementsBefore text u j) ≡ statementLine (line text j)) q (own_held j l (subst (λ (u : ℕ). holdsStatement text u j ≡ true) q e))
-        | no f ↦ (added-others x T s f).1 (statementsBefore text s j) ∙ o.held s j h (earlier s j l f e) e
+        | yes q ↦ subst⁻¹ (λ (u : ℕ). more.statement u (statements_before text u j) ≡ statement_line (line text j)) q (own_held j l (subst (λ (u : ℕ). holds_statement text u j ≡ true) q e))
+        | no f ↦ (added-others x T s f).1 (statements_before text s j) ∙ o.held s j h (earlier s j l f e) e
       ];
     }
 
   -- a dot line
   module _ (i : ℕ) (T : Threads) (d : ends i ≡ true) (most : T.ended < sections text) (o : Sorted i T) where
-    none-at : (s : ℕ) → statementsBefore text s (suc i) ≡ statementsBefore text s i
-    none-at s = number-no (holdsStatement text s) i (at-dot s i d)
+    none-at : (s : ℕ) → statements_before text s (suc i) ≡ statements_before text s i
+    none-at s = number-no (holds_statement text s) i (at_dot s i d)
 
-    open-count : T.count T.ended ≡ statementsBefore text T.ended i
-    open-count = o.counts T.ended most (omega arith)
+    open_count_lem : T.count T.ended ≡ statements_before text T.ended i
+    open_count_lem = o.counts T.ended most (omega arith)
 
     -- the section that the dot ends
-    own-gains : Gains (T.count T.ended) ((gained T).count T.ended) ((gained T).statement T.ended)
+    own_gains : Gains (T.count T.ended) ((gained T).count T.ended) ((gained T).statement T.ended)
     unfolding gained
-    own-gains = cond-where (λ (U : Threads). Gains (T.count T.ended) (U.count T.ended) (U.statement T.ended)) (is_complete T)
+    own_gains = cond_where (λ (U : Threads). Gains (T.count T.ended) (U.count T.ended) (U.statement T.ended)) (is_complete T)
         (λ e. record {
           empty = λ z. z;
           ended = λ h l. refl;
-          gained = λ h l. clash e (or-false (ne_eqb (T.count T.ended) 0 (omega arith)) l);
+          gained = λ h l. clash e (or_false (ne_eqb (T.count T.ended) 0 (omega arith)) l);
         })
         (λ e. let some = eqb-false (T.count T.ended) 0 (or_left (eqb (T.count T.ended) 0) last e) in
         record {
           empty = λ z. absurd (some z);
-          ended = λ h l. clash (sym (ap (λ (s : Stated). isLast s.number) (added-earlier halt T (T.count T.ended - 1) (omega arith))) ∙ l) (or_right (eqb (T.count T.ended) 0) last e);
+          ended = λ h l. clash (sym (ap (λ (s : Stated). is_last s.number) (added-earlier halt T (T.count T.ended - 1) (omega arith))) ∙ l) (or_right (eqb (T.count T.ended) 0) last e);
           gained = λ h l. (added-count halt T, added-last halt T);
         })
       where
         last : Bool
-        last = isLast (T.statement T.ended (T.count T.ended - 1)).number
+        last = is_last (T.statement T.ended (T.count T.ended - 1)).number
 
-    kept-held : (s j : ℕ) → s < sections text → j < i → holdsStatement text s j ≡ true → (gained T).statement s (statementsBefore text s j) ≡ T.statement s (statementsBefore text s j)
+    kept-held : (s j : ℕ) → s < sections text → j < i → holds_statement text s j ≡ true → (gained T).statement s (statements_before text s j) ≡ T.statement s (statements_before text s j)
     kept-held s j h l e = elim (ℕ_discrete s T.ended) [
       | yes q ↦
           let b = written-before s j i l e in
           let n = o.counts s h (omega arith) in
-          subst⁻¹ (λ (u : ℕ). (gained T).statement u (statementsBefore text s j) ≡ T.statement u (statementsBefore text s j)) q
-          (gained-earlier T (statementsBefore text s j) (omega (arith, ap T.count q)))
-      | no f ↦ (gained-others T s f).1 (statementsBefore text s j)
+          subst⁻¹ (λ (u : ℕ). (gained T).statement u (statements_before text s j) ≡ T.statement u (statements_before text s j)) q
+          (gained-earlier T (statements_before text s j) (omega (arith, ap T.count q)))
+      | no f ↦ (gained-others T s f).1 (statements_before text s j)
     ]
 
     sorted-closed : Sorted (suc i) (closed T)
@@ -220,14 +220,14 @@ module _ (text : List ℕ) where
           let f : s ≡ T.ended → ⊥ = λ q. omega (arith, gained-ended T) in
           (gained-others T s f).0 ∙ o.counts s h (omega (arith, gained-ended T)) ∙ sym (none-at s);
       shut = λ s h. elim (ℕ_discrete s T.ended) [
-        | yes q ↦ subst⁻¹ (λ (u : ℕ). Gains (statementsBefore text u (suc i)) ((gained T).count u) ((gained T).statement u)) q
-            (subst (λ (n : ℕ). Gains n ((gained T).count T.ended) ((gained T).statement T.ended)) (open-count ∙ sym (none-at T.ended)) own-gains)
-        | no f ↦ gains-alike (statementsBefore text s i) (statementsBefore text s (suc i)) (T.count s) ((gained T).count s) (T.statement s) ((gained T).statement s)
+        | yes q ↦ subst⁻¹ (λ (u : ℕ). Gains (statements_before text u (suc i)) ((gained T).count u) ((gained T).statement u)) q
+            (subst (λ (n : ℕ). Gains n ((gained T).count T.ended) ((gained T).statement T.ended)) (open_count_lem ∙ sym (none-at T.ended)) own_gains)
+        | no f ↦ gains_alike (statements_before text s i) (statements_before text s (suc i)) (T.count s) ((gained T).count s) (T.statement s) ((gained T).statement s)
             (sym (none-at s)) (sym (gained-others T s f).0) (λ p. sym ((gained-others T s f).1 p))
             (o.shut s (omega (arith, gained-ended T)))
       ];
       held = λ s j h l e. elim (ℕ_discrete j i) [
-        | yes q ↦ clash (sym (ap (holdsStatement text s) q) ∙ e) (at-dot s i d)
+        | yes q ↦ clash (sym (ap (holds_statement text s) q) ∙ e) (at_dot s i d)
         | no f ↦ kept-held s j h (omega arith) e ∙ o.held s j h (omega arith) e
       ];
     }
@@ -235,19 +235,19 @@ module _ (text : List ℕ) where
   -- ---- all lines
 
   sorted-next : (i : ℕ) (T : Threads) → i < length (lines text) → Sorted i T → Sorted (suc i) (following i T)
-  unfolding lineAdded
-  sorted-next i T h o = cond-where (Sorted (suc i)) (ends i)
+  unfolding line_added
+  sorted-next i T h o = cond_where (Sorted (suc i)) (ends i)
       (λ d. sorted-closed i T d (omega (arith, o.ended, number-yes ends i d, left)) o)
       (λ d. let same = number-no ends i d in
-      cond-where (Sorted (suc i)) (eqb (dots (drop (suc i) (lines text))) 0)
+      cond_where (Sorted (suc i)) (eqb (dots (drop (suc i) (lines text))) 0)
       (λ z. let none = eqb-true (dots (drop (suc i) (lines text))) 0 z in
       sorted-same i T d (λ s l. elsewhere s i (λ q. omega (arith, left))) (omega (arith, o.ended, left)) o)
       (λ z. let some = eqb-false (dots (drop (suc i) (lines text))) 0 z in
-      cond-where (Sorted (suc i)) (isGood (statementLine (line text i)).form)
+      cond_where (Sorted (suc i)) (is_good (statement_line (line text i)).form)
       (λ g. sorted-added i T d g (omega (arith, o.ended, left)) o)
-      (λ g. sorted-same i T d (λ s l. and-right-false (eqb (sectionOf text i) s && not (ends i)) g) (omega (arith, o.ended, left)) o)))
+      (λ g. sorted-same i T d (λ s l. and_right_false (eqb (section_of text i) s && not (ends i)) g) (omega (arith, o.ended, left)) o)))
     where
-      left : sectionOf text (suc i) + dots (drop (suc i) (lines text)) ≡ sections text
+      left : section_of text (suc i) + dots (drop (suc i) (lines text)) ≡ sections text
       left = dots-after (suc i) h
 
   sorted_after : (i : ℕ) → i ≤ length (lines text) → Sorted i (after i)
@@ -260,15 +260,15 @@ module _ (text : List ℕ) where
   }
   sorted_after (suc i) h = sorted-next i (after i) h (sorted_after i (omega arith))
 
-pub threads-are-the-sections : ThreadsAreTheSections
-threads-are-the-sections text =
+pub threads_are_the_sections : ThreadsAreTheSections
+threads_are_the_sections text =
     let n = length (lines text) in
     let o = subst (Sorted text n) (after-all text) (sorted_after text n (omega arith)) in
     record {
       count = o.ended;
       statements = λ s i h l e. o.held s i h l e;
       held = λ s p h l.
-          let r = number-reach (holdsStatement text s) n p l in
+          let r = number_reach (holds_statement text s) n p l in
           (r.0, r.1, r.2, ap ((threads (lines text)).statement s) (sym r.3) ∙ o.held s r.0 h r.1 r.2);
       ends = λ s h. o.shut s (omega (arith, o.ended));
     }

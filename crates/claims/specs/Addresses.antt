@@ -1,9 +1,9 @@
 -- Effective addresses in traces, change request 2026-07: "The last two bytes of a trace step now hold the effective address of the seven memory words,
 -- 0 otherwise." Statements alone; proofs/Addresses.antt proves them. Assumes nothing.
 use Rattle.std.specs.Prelude.{ℕ, ◌+◌, ◌*◌, ◌<◌, ◌≡◌, Bool, true, false, ◌||◌, List, eqb, length, get_or, take}
-use Rattle.base.specs.Bytes.{wordAt}
-use Rattle.records.specs.Maps.{mapValue}
-use Rattle.records.specs.Sets.{Set, setOf}
+use Rattle.base.specs.Bytes.{word_at}
+use Rattle.records.specs.Maps.{map_value}
+use Rattle.records.specs.Sets.{Set, set_of}
 use Rattle.records.specs.declared.Statement.{Statement}
 use Rattle.machine.specs.Machine.{State, start, current, written, step}
 use Rattle.machine.specs.Runs.{choice_of, choices, after}
@@ -18,8 +18,8 @@ use Rattle.claims.specs.Runs.{Simulates}
 -- ---- the effective address
 
 -- the seven memory words by their numbers: LOAD, STORE, ADD, SUB, MUL, MEM, CAS
-abbrev pub memoryWord : ℕ → Bool
-memoryWord n = eqb n 0 || eqb n 1 || eqb n 3 || eqb n 5 || eqb n 7 || eqb n 15 || eqb n 16
+abbrev pub memory_word : ℕ → Bool
+memory_word n = eqb n 0 || eqb n 1 || eqb n 3 || eqb n 5 || eqb n 7 || eqb n 15 || eqb n 16
 
 -- a thread's buffer holds a store to address a
 abbrev pub Buffers : Thread → ℕ → Type 0
@@ -28,12 +28,12 @@ Buffers x a = (x.full ≡ true) × (x.adr ≡ a)
 -- a is the effective address of statement i, executed with registers x over this memory
 pub record EffectiveOf (i : Statement) (x : Thread) (memory : ℕ → ℕ) (a : ℕ) : Type 0 where
   -- of a direct memory word its argument
-  pub direct : memoryWord i.number ≡ true → i.mode ≡ 0 → a ≡ i.argument
+  pub direct : memory_word i.number ≡ true → i.mode ≡ 0 → a ≡ i.argument
   -- "Arguments in square brackets are indirect: the address is the load of the argument, forwarding included."
-  pub forwarded : memoryWord i.number ≡ true → i.mode ≡ 1 → Buffers x i.argument → a ≡ x.val
-  pub fromCell : memoryWord i.number ≡ true → i.mode ≡ 1 → (Buffers x i.argument → ⊥) → a ≡ memory i.argument
+  pub forwarded : memory_word i.number ≡ true → i.mode ≡ 1 → Buffers x i.argument → a ≡ x.val
+  pub from_cell : memory_word i.number ≡ true → i.mode ≡ 1 → (Buffers x i.argument → ⊥) → a ≡ memory i.argument
   -- "0 otherwise"
-  pub otherwise : memoryWord i.number ≡ false → a ≡ 0
+  pub otherwise : memory_word i.number ≡ false → a ≡ 0
 
 -- "which cell an indirect access touched": thread t's statement touches the cell at address a in state s
 pub record Touches (S : Set) (s : State) (t a : ℕ) : Type 0 where
@@ -52,14 +52,14 @@ IsEffective S s (Flush t) a = a ≡ 0
 -- ---- in traces
 
 -- the last two bytes of step i
-abbrev pub lastTwo : List ℕ → ℕ → ℕ
-lastTwo trace i = wordAt trace (24 * i + 22)
+abbrev pub last_two : List ℕ → ℕ → ℕ
+last_two trace i = word_at trace (24 * i + 22)
 
 -- each step of the trace holds the effective address of its choice, in the state before the step
 abbrev pub HoldsAddresses : (set map schedule trace : List ℕ) → Type 0
 HoldsAddresses set map schedule trace =
     (i : ℕ) → i < length schedule →
-    IsEffective (setOf set) (after (setOf set) (start (mapValue map)) (take i (choices schedule))) (choice_of (get_or schedule i 0)) (lastTwo trace i)
+    IsEffective (set_of set) (after (set_of set) (start (map_value map)) (take i (choices schedule))) (choice_of (get_or schedule i 0)) (last_two trace i)
 
 pub record AddressesInTraces : Type 0 where
   -- "simulation writes the new bytes"

@@ -2,10 +2,10 @@
 -- alone; proofs/Lookups.antt proves them. Assumes nothing.
 use Rattle.std.specs.Prelude.{ℕ, suc, ◌≤◌, ◌<◌, ◌≡◌, cond, List, ◌⊎◌, eqb, length, get_or}
 use Rattle.table.specs.Formulas.{FIRST, IF, READ, WRITE}
-use Rattle.table.specs.Values.{Assignment, asWord, values_of}
+use Rattle.table.specs.Values.{Assignment, as_word, values_of}
 use Rattle.table.specs.declared.Formula.{Formula}
 use Rattle.encoding.specs.Encodings.{table_of}
-use Rattle.evaluation.specs.Evaluations.{recordAt, cellBack, memoriesBack, AtTurn}
+use Rattle.evaluation.specs.Evaluations.{record_at, cell_back, memories_back, AtTurn}
 use Rattle.claims.specs.Runs.{AreBytes}
 use Rattle.claims.specs.Tables.{ForAccepted}
 
@@ -41,23 +41,23 @@ module _ (first : ℕ → ℕ) (formulas : ℕ → Formula) (values : ℕ → �
 -- the look-up for record i of a table: in the memory that is its operand a, at the value of its operand b
 module _ (g : Assignment) (table : List Formula) (i : ℕ) (formulas : ℕ → Formula) (values : ℕ → ℕ) where
   abbrev pub address : ℕ
-  address = values (recordAt table i).b
+  address = values (record_at table i).b
 
   -- what the loop gives, and the memories that it looks at; it may look at as many as the table has records
   abbrev pub cell : ℕ
-  cell = cellBack g.first formulas values (length table) (recordAt table i).a address
+  cell = cell_back g.first formulas values (length table) (record_at table i).a address
 
   abbrev pub visited : List ℕ
-  visited = memoriesBack formulas values (length table) (recordAt table i).a address
+  visited = memories_back formulas values (length table) (record_at table i).a address
 
   -- The loop goes so, in no more turns than the bound has steps, and what it gives is the record's value.
   pub record ReadsBack (bound : ℕ) : Type 0 where
-    pub looksBack : LooksBack g.first formulas values address (recordAt table i).a cell visited
+    pub looks_back : LooksBack g.first formulas values address (record_at table i).a cell visited
     pub few : length visited ≤ bound
-    pub value : asWord (values_of g table i) ≡ cell
+    pub value : as_word (values_of g table i) ≡ cell
 
 -- for each read record at its turn, under every assignment, that of each model among them
 abbrev pub LooksBackOnce : Type 0
 LooksBackOnce = ForAccepted (λ set map bound. AreBytes set → AreBytes map →
-    (g : Assignment) (i : ℕ) (formulas : ℕ → Formula) (values : ℕ → ℕ) → (recordAt (table_of set map bound) i).operation ≡ READ →
+    (g : Assignment) (i : ℕ) (formulas : ℕ → Formula) (values : ℕ → ℕ) → (record_at (table_of set map bound) i).operation ≡ READ →
     AtTurn g (table_of set map bound) i formulas values → ReadsBack g (table_of set map bound) i formulas values bound)

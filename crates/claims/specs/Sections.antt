@@ -2,25 +2,25 @@
 -- proves them. Assumes nothing.
 use Rattle.std.specs.Prelude.{ℕ, ◌+◌, ◌-◌, ◌<◌, ◌≡◌, Bool, true, false, not, ◌&&◌, List, [], ◌∷◌, ◌++◌, eqb, length, get_or}
 use Rattle.base.specs.Below.{number}
-use Rattle.records.specs.Instructions.{isLast}
+use Rattle.records.specs.Instructions.{is_last}
 use Rattle.text_lines.specs.Characters.{name}
-use Rattle.text_lines.specs.Lines.{lines, isDot, isLabel, padded, statementLine, mapLine}
+use Rattle.text_lines.specs.Lines.{lines, is_dot, is_label, padded, statement_line, map_line}
 use Rattle.text_lines.specs.declared.Stated.{Stated}
 use Rattle.text_lines.specs.declared.Cell.{Cell}
-use Rattle.text.specs.Sections.{Threads, isGood, halt, threads, cells}
-use Rattle.text.specs.Records.{isNamed, mapCell}
+use Rattle.text.specs.Sections.{Threads, is_good, halt, threads, cells}
+use Rattle.text.specs.Records.{is_named, map_cell}
 
 -- ---- lines
 
 -- lines one after the other, an LF between two
-unfoldable pub withLF : List (List ℕ) → List ℕ
-withLF [] = []
-withLF (l ∷ []) = l
-withLF (l ∷ m ∷ ls) = l ++ 10 ∷ withLF (m ∷ ls)
+unfoldable pub with_lf : List (List ℕ) → List ℕ
+with_lf [] = []
+with_lf (l ∷ []) = l
+with_lf (l ∷ m ∷ ls) = l ++ 10 ∷ with_lf (m ∷ ls)
 
 -- the lines are the text, and no line has an LF
 pub record LinesOf (text : List ℕ) (ls : List (List ℕ)) : Type 0 where
-  pub joined : withLF ls ≡ text
+  pub joined : with_lf ls ≡ text
   pub parted : (i j : ℕ) → i < length ls → j < length (get_or ls i []) → get_or (get_or ls i []) j 0 ≡ 10 → ⊥
 
 abbrev pub LinesPartTheText : Type 0
@@ -32,35 +32,35 @@ line text i = get_or (lines text) i []
 
 -- Sections end at a dot line: how many there are, and the one that line i stands in, from 0. What follows the last dot is the map.
 abbrev pub sections : List ℕ → ℕ
-sections text = number (length (lines text)) (λ i. isDot (line text i))
+sections text = number (length (lines text)) (λ i. is_dot (line text i))
 
-abbrev pub sectionOf : List ℕ → ℕ → ℕ
-sectionOf text i = number i (λ j. isDot (line text j))
+abbrev pub section_of : List ℕ → ℕ → ℕ
+section_of text i = number i (λ j. is_dot (line text j))
 
 -- ---- threads
 
 -- line i holds a statement of section s
-abbrev pub holdsStatement : List ℕ → ℕ → ℕ → Bool
-holdsStatement text s i = eqb (sectionOf text i) s && not (isDot (line text i)) && isGood (statementLine (line text i)).form
+abbrev pub holds_statement : List ℕ → ℕ → ℕ → Bool
+holds_statement text s i = eqb (section_of text i) s && not (is_dot (line text i)) && is_good (statement_line (line text i)).form
 
 -- how many statements of section s stand before line i
-abbrev pub statementsBefore : List ℕ → ℕ → ℕ → ℕ
-statementsBefore text s i = number i (holdsStatement text s)
+abbrev pub statements_before : List ℕ → ℕ → ℕ → ℕ
+statements_before text s i = number i (holds_statement text s)
 
 -- A thread of which n statements are written gains a HALT where the last is not EXIT, JMP or HALT; an empty one gains none.
 pub record Gains (n count : ℕ) (x : ℕ → Stated) : Type 0 where
   pub empty : n ≡ 0 → count ≡ 0
-  pub ended : 0 < n → isLast (x (n - 1)).number ≡ true → count ≡ n
-  pub gained : 0 < n → isLast (x (n - 1)).number ≡ false → (count ≡ n + 1) × (x n ≡ halt)
+  pub ended : 0 < n → is_last (x (n - 1)).number ≡ true → count ≡ n
+  pub gained : 0 < n → is_last (x (n - 1)).number ≡ false → (count ≡ n + 1) × (x n ≡ halt)
 
 -- Each section is a thread: its statements are those of its lines, in their order, and then the HALT that it may gain.
 pub record ThreadsOf (text : List ℕ) (T : Threads) : Type 0 where
   pub count : T.ended ≡ sections text
-  pub statements : (s i : ℕ) → s < sections text → i < length (lines text) → holdsStatement text s i ≡ true →
-      T.statement s (statementsBefore text s i) ≡ statementLine (line text i)
-  pub held : (s p : ℕ) → s < sections text → p < statementsBefore text s (length (lines text)) →
-      (i : ℕ) × (i < length (lines text)) × (holdsStatement text s i ≡ true) × (T.statement s p ≡ statementLine (line text i))
-  pub ends : (s : ℕ) → s < sections text → Gains (statementsBefore text s (length (lines text))) (T.count s) (T.statement s)
+  pub statements : (s i : ℕ) → s < sections text → i < length (lines text) → holds_statement text s i ≡ true →
+      T.statement s (statements_before text s i) ≡ statement_line (line text i)
+  pub held : (s p : ℕ) → s < sections text → p < statements_before text s (length (lines text)) →
+      (i : ℕ) × (i < length (lines text)) × (holds_statement text s i ≡ true) × (T.statement s p ≡ statement_line (line text i))
+  pub ends : (s : ℕ) → s < sections text → Gains (statements_before text s (length (lines text))) (T.count s) (T.statement s)
 
 abbrev pub ThreadsAreTheSections : Type 0
 ThreadsAreTheSections = (text : List ℕ) → ThreadsOf text (threads (lines text))
@@ -68,14 +68,14 @@ ThreadsAreTheSections = (text : List ℕ) → ThreadsOf text (threads (lines tex
 -- ---- the map
 
 -- line i holds a cell of the map, which follows the last dot
-abbrev pub holdsCell : List ℕ → ℕ → Bool
-holdsCell text i = eqb (sectionOf text i) (sections text) && isGood (mapLine (line text i)).form
+abbrev pub holds_cell : List ℕ → ℕ → Bool
+holds_cell text i = eqb (section_of text i) (sections text) && is_good (map_line (line text i)).form
 
 -- The map's cells are those of its lines.
 pub record CellsOf (text : List ℕ) (cs : List Cell) : Type 0 where
-  pub count : length cs ≡ number (length (lines text)) (holdsCell text)
-  pub listed : (i : ℕ) → i < length (lines text) → holdsCell text i ≡ true → (k : ℕ) × (k < length cs) × (mapCell cs k ≡ mapLine (line text i))
-  pub held : (k : ℕ) → k < length cs → (i : ℕ) × (i < length (lines text)) × (holdsCell text i ≡ true) × (mapCell cs k ≡ mapLine (line text i))
+  pub count : length cs ≡ number (length (lines text)) (holds_cell text)
+  pub listed : (i : ℕ) → i < length (lines text) → holds_cell text i ≡ true → (k : ℕ) × (k < length cs) × (map_cell cs k ≡ map_line (line text i))
+  pub held : (k : ℕ) → k < length cs → (i : ℕ) × (i < length (lines text)) × (holds_cell text i ≡ true) × (map_cell cs k ≡ map_line (line text i))
 
 abbrev pub CellsAreTheMap : Type 0
 CellsAreTheMap = (text : List ℕ) → CellsOf text (cells (lines text))
@@ -85,5 +85,5 @@ CellsAreTheMap = (text : List ℕ) → CellsOf text (cells (lines text))
 -- A label filled up to sixteen bytes is told from no label and from every other label.
 abbrev pub LabelsStayApart : Type 0
 LabelsStayApart =
-    (s other : List ℕ) → isLabel (name s) ≡ true → isLabel (name other) ≡ true →
-    (isNamed (padded (name s)) ≡ true) × (padded (name s) ≡ padded (name other) → name s ≡ name other)
+    (s other : List ℕ) → is_label (name s) ≡ true → is_label (name other) ≡ true →
+    (is_named (padded (name s)) ≡ true) × (padded (name s) ≡ padded (name other) → name s ≡ name other)

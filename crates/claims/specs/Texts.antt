@@ -1,21 +1,21 @@
 -- Demand 2 for texts: "A set text is accepted exactly when it follows document 01, and its records say what the text says." specs/Sections.antt says
 -- what a text's threads and cells are. Statements alone; proofs/Texts.antt proves them. Assumes nothing.
 use Rattle.std.specs.Prelude.{ℕ, ◌+◌, ◌*◌, ◌≤◌, ◌<◌, ◌≡◌, true, false, cond, List, [], ◌∷◌, ◌⊎◌, ◌↔◌, ltb, length, take, drop}
-use Rattle.records.specs.Instructions.{CHECK, isJump}
-use Rattle.records.specs.Maps.{addressAt, value_at, mapAccepted}
+use Rattle.records.specs.Instructions.{CHECK, is_jump}
+use Rattle.records.specs.Maps.{address_at, value_at, map_accepted}
 use Rattle.records.specs.Maps.{cells as cells_in}
-use Rattle.records.specs.Sets.{setOf, setAccepted}
-use Rattle.text_lines.specs.Lines.{lines, isDot, statementLine, mapLine}
+use Rattle.records.specs.Sets.{set_of, set_accepted}
+use Rattle.text_lines.specs.Lines.{lines, is_dot, statement_line, map_line}
 use Rattle.text_lines.specs.declared.Form.{Form}
 use Rattle.text_lines.specs.declared.Form.TheVariants.{Empty, Malformed, Large, Good}
 use Rattle.text_lines.specs.declared.Stated.{Stated}
 use Rattle.text_lines.specs.declared.Cell.{Cell}
 use Rattle.text.specs.Sections.{Threads, threads, cells}
-use Rattle.text.specs.Records.{isNamed, statements, mapCell, setBytes, mapBytes}
-use Rattle.text.specs.Answers.{answer, setOutput, mapOutput}
+use Rattle.text.specs.Records.{is_named, statements, map_cell, set_bytes, map_bytes}
+use Rattle.text.specs.Answers.{answer, set_output, map_output}
 use Rattle.text.specs.declared.ReadAnswer.{ReadAnswer}
 use Rattle.text.specs.declared.ReadAnswer.TheVariants.{Read, Refused}
-use Rattle.claims.specs.Sections.{line, sections, sectionOf}
+use Rattle.claims.specs.Sections.{line, sections, section_of}
 
 -- ---- the rules, by the row that refuses what breaks them
 
@@ -25,11 +25,11 @@ SizeFollows text = length text ≤ 16384
 
 -- the form of line i: as a thread's line where a dot line ends its section, else as one of the map
 abbrev pub form_of : List ℕ → ℕ → Form
-form_of text i = cond (ltb (sectionOf text i) (sections text)) (statementLine (line text i)).form (mapLine (line text i)).form
+form_of text i = cond (ltb (section_of text i) (sections text)) (statement_line (line text i)).form (map_line (line text i)).form
 
 -- 2 and 3: a line is a dot line, or empty, or holds what it may hold
 abbrev pub LineFollows : List ℕ → ℕ → Type 0
-LineFollows text i = (isDot (line text i) ≡ true) ⊎ ((form_of text i ≡ Empty) ⊎ (form_of text i ≡ Good))
+LineFollows text i = (is_dot (line text i) ≡ true) ⊎ ((form_of text i ≡ Empty) ⊎ (form_of text i ≡ Good))
 
 abbrev pub LinesFollow : List ℕ → Type 0
 LinesFollow text = (i : ℕ) → i < length (lines text) → LineFollows text i
@@ -48,17 +48,17 @@ Each T Holds = (t p : ℕ) → t < T.ended → p < T.count t → Holds t p
 
 -- no statement before p has its label
 abbrev pub NotDoubled : (ℕ → Stated) → ℕ → Type 0
-NotDoubled x p = (q : ℕ) → q < p → isNamed (x p).label ≡ true → (x q).label ≡ (x p).label → ⊥
+NotDoubled x p = (q : ℕ) → q < p → is_named (x p).label ≡ true → (x q).label ≡ (x p).label → ⊥
 
 -- a jump's target is one of the n statements of its thread, by number or by label
 pub record TargetKnown (n : ℕ) (x : ℕ → Stated) (jump : Stated) : Type 0 where
-  pub number : isNamed jump.target ≡ false → jump.argument < n
-  pub label : isNamed jump.target ≡ true → (q : ℕ) × (q < n) × ((x q).label ≡ jump.target)
+  pub number : is_named jump.target ≡ false → jump.argument < n
+  pub label : is_named jump.target ≡ true → (q : ℕ) × (q < n) × ((x q).label ≡ jump.target)
 
 -- 6: no label doubled in its thread, every target known
 abbrev pub LabelsFollow : Threads → Type 0
 LabelsFollow T = Each T (λ t p.
-    NotDoubled (T.statement t) p × (isJump (T.statement t p).number ≡ true → TargetKnown (T.count t) (T.statement t) (T.statement t p)))
+    NotDoubled (T.statement t) p × (is_jump (T.statement t p).number ≡ true → TargetKnown (T.count t) (T.statement t) (T.statement t p)))
 
 -- a number is one of a list
 abbrev pub Among : ℕ → List ℕ → Type 0
@@ -71,7 +71,7 @@ CheckpointsFollow T = (eight : List ℕ) × (length eight ≤ 8) × Each T (λ t
 
 -- 8: at most 128 cells, no address doubled
 abbrev pub MapFollows : List Cell → Type 0
-MapFollows cs = (length cs ≤ 128) × ((i j : ℕ) → i < length cs → j < i → (mapCell cs j).address ≡ (mapCell cs i).address → ⊥)
+MapFollows cs = (length cs ≤ 128) × ((i j : ℕ) → i < length cs → j < i → (map_cell cs j).address ≡ (map_cell cs i).address → ⊥)
 
 -- a set text follows document 01
 pub record Follows (text : List ℕ) : Type 0 where
@@ -87,18 +87,18 @@ pub record Follows (text : List ℕ) : Type 0 where
 
 -- 11: the lent outputs have room for the records
 abbrev pub Room : List ℕ → ℕ → ℕ → Type 0
-Room text setRoom mapRoom = (8 * statements (threads (lines text)) ≤ setRoom) × (4 * length (cells (lines text)) ≤ mapRoom)
+Room text set_room map_room = (8 * statements (threads (lines text)) ≤ set_room) × (4 * length (cells (lines text)) ≤ map_room)
 
 -- where there is room, a text that follows document 01 is read, and no other; any other text is refused, whatever the room
-pub record Decided (text : List ℕ) (setRoom mapRoom : ℕ) : Type 0 where
-  pub accepted : Room text setRoom mapRoom →
-      answer text setRoom mapRoom ≡ Read (statements (threads (lines text))) (length (cells (lines text))) ↔ Follows text
-  pub short : Follows text → (Room text setRoom mapRoom → ⊥) → answer text setRoom mapRoom ≡ Refused 11 0
-  pub refused : (Follows text → ⊥) → (number : ℕ) × (place : ℕ) × (answer text setRoom mapRoom ≡ Refused number place)
+pub record Decided (text : List ℕ) (set_room map_room : ℕ) : Type 0 where
+  pub accepted : Room text set_room map_room →
+      answer text set_room map_room ≡ Read (statements (threads (lines text))) (length (cells (lines text))) ↔ Follows text
+  pub short : Follows text → (Room text set_room map_room → ⊥) → answer text set_room map_room ≡ Refused 11 0
+  pub refused : (Follows text → ⊥) → (number : ℕ) × (place : ℕ) × (answer text set_room map_room ≡ Refused number place)
 
 -- A set text is accepted exactly when it follows document 01.
 abbrev pub AcceptedExactly : Type 0
-AcceptedExactly = (text : List ℕ) (setRoom mapRoom : ℕ) → Decided text setRoom mapRoom
+AcceptedExactly = (text : List ℕ) (set_room map_room : ℕ) → Decided text set_room map_room
 
 -- ---- refused by the first row that is broken
 
@@ -106,8 +106,8 @@ AcceptedExactly = (text : List ℕ) (setRoom mapRoom : ℕ) → Decided text set
 pub record FirstLine (text : List ℕ) (i : ℕ) (form : Form) : Type 0 where
   pub inside : i < length (lines text)
   pub before : (j : ℕ) → j < i → LineFollows text j
-  pub noDot : isDot (line text i) ≡ false
-  pub isForm : form_of text i ≡ form
+  pub no_dot : is_dot (line text i) ≡ false
+  pub is_form : form_of text i ≡ form
 
 -- Texts: 1, then lines in order, then 4 to 8. Place is the line (from 1) for 2 and 3, else 0. T and cs are the text's threads and cells.
 pub record Refusals (text : List ℕ) (T : Threads) (cs : List Cell) (r : ReadAnswer) : Type 0 where
@@ -122,32 +122,32 @@ pub record Refusals (text : List ℕ) (T : Threads) (cs : List Cell) (r : ReadAn
       (MapFollows cs → ⊥) → r ≡ Refused 8 0
 
 abbrev pub RefusedInOrder : Type 0
-RefusedInOrder = (text : List ℕ) (setRoom mapRoom : ℕ) → Refusals text (threads (lines text)) (cells (lines text)) (answer text setRoom mapRoom)
+RefusedInOrder = (text : List ℕ) (set_room map_room : ℕ) → Refusals text (threads (lines text)) (cells (lines text)) (answer text set_room map_room)
 
 -- ---- records
 
 -- the set's records hold these threads; labels become pcs
 pub record SetSays (set : List ℕ) (T : Threads) : Type 0 where
-  pub threads : (setOf set).threads ≡ T.ended
-  pub counts : (t : ℕ) → t < T.ended → (setOf set).count t ≡ T.count t
-  pub numbers : Each T (λ t p. ((setOf set).statement t p).number ≡ (T.statement t p).number)
-  pub modes : Each T (λ t p. ((setOf set).statement t p).mode ≡ (T.statement t p).mode)
-  pub arguments : Each T (λ t p. isNamed (T.statement t p).target ≡ false → ((setOf set).statement t p).argument ≡ (T.statement t p).argument)
-  pub labels : Each T (λ t p. isNamed (T.statement t p).target ≡ true →
-      (T.statement t ((setOf set).statement t p).argument).label ≡ (T.statement t p).target)
+  pub threads : (set_of set).threads ≡ T.ended
+  pub counts : (t : ℕ) → t < T.ended → (set_of set).count t ≡ T.count t
+  pub numbers : Each T (λ t p. ((set_of set).statement t p).number ≡ (T.statement t p).number)
+  pub modes : Each T (λ t p. ((set_of set).statement t p).mode ≡ (T.statement t p).mode)
+  pub arguments : Each T (λ t p. is_named (T.statement t p).target ≡ false → ((set_of set).statement t p).argument ≡ (T.statement t p).argument)
+  pub labels : Each T (λ t p. is_named (T.statement t p).target ≡ true →
+      (T.statement t ((set_of set).statement t p).argument).label ≡ (T.statement t p).target)
 
 -- the map's records hold these cells
 pub record MapSays (map : List ℕ) (cs : List Cell) : Type 0 where
   pub count : cells_in map ≡ length cs
-  pub addresses : (k : ℕ) → k < length cs → addressAt map k ≡ (mapCell cs k).address
-  pub values : (k : ℕ) → k < length cs → value_at map k ≡ (mapCell cs k).value
+  pub addresses : (k : ℕ) → k < length cs → address_at map k ≡ (map_cell cs k).address
+  pub values : (k : ℕ) → k < length cs → value_at map k ≡ (map_cell cs k).value
 
 -- the records of a text are accepted and say what it says
 pub record RecordsSay (text : List ℕ) : Type 0 where
-  pub acceptedSet : setAccepted (setBytes (threads (lines text))) ≡ true
-  pub acceptedMap : mapAccepted 128 (mapBytes (cells (lines text))) ≡ true
-  pub setSays : SetSays (setBytes (threads (lines text))) (threads (lines text))
-  pub mapSays : MapSays (mapBytes (cells (lines text))) (cells (lines text))
+  pub accepted_set : set_accepted (set_bytes (threads (lines text))) ≡ true
+  pub accepted_map : map_accepted 128 (map_bytes (cells (lines text))) ≡ true
+  pub set_says : SetSays (set_bytes (threads (lines text))) (threads (lines text))
+  pub map_says : MapSays (map_bytes (cells (lines text))) (cells (lines text))
 
 abbrev pub RecordsSayTheText : Type 0
 RecordsSayTheText = (text : List ℕ) → Follows text → RecordsSay text
@@ -163,9 +163,9 @@ pub record WrittenOver (bytes before after : List ℕ) : Type 0 where
 -- what two lent outputs hold after the answer r
 pub record Outputs (text set map : List ℕ) (r : ReadAnswer) : Type 0 where
   pub read : Follows text → Room text (length set) (length map) →
-      WrittenOver (setBytes (threads (lines text))) set (setOutput r text set) × WrittenOver (mapBytes (cells (lines text))) map (mapOutput r text map)
-  pub short : (Room text (length set) (length map) → ⊥) → (setOutput r text set ≡ set) × (mapOutput r text map ≡ map)
-  pub refused : (Follows text → ⊥) → (setOutput r text set ≡ set) × (mapOutput r text map ≡ map)
+      WrittenOver (set_bytes (threads (lines text))) set (set_output r text set) × WrittenOver (map_bytes (cells (lines text))) map (map_output r text map)
+  pub short : (Room text (length set) (length map) → ⊥) → (set_output r text set ≡ set) × (map_output r text map ≡ map)
+  pub refused : (Follows text → ⊥) → (set_output r text set ≡ set) × (map_output r text map ≡ map)
 
 -- Reading writes the records where it accepts a text, and nothing where it refuses one.
 abbrev pub OutputsHoldTheRecords : Type 0

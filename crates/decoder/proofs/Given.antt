@@ -8,51 +8,51 @@ use borrow.Author.Tests.{le-leb}
 use lib.ListN.{length}
 use Rattle.base.specs.Below.{number}
 use Rattle.base.specs.Bytes.{over}
-use Rattle.base.proofs.Choice.{chosen, and-true}
-use Rattle.records.specs.Maps.{mapAccepted, setCells}
+use Rattle.base.proofs.Choice.{chosen, and_true}
+use Rattle.records.specs.Maps.{map_accepted, set_cells}
 use Rattle.records.specs.Sets.{Set}
-use Rattle.machine.specs.Machine.{start, noWrite}
-use Rattle.machine.specs.Runs.{choices, isRun}
-use Rattle.machine.specs.Traces.{trace, stepLength}
-use Rattle.decoding.specs.Decodings.{cellsBelow, longestMap}
-use Rattle.first_cells.specs.Firsts.{firstCell, fits, foundBy, written_by}
+use Rattle.machine.specs.Machine.{start, no_write}
+use Rattle.machine.specs.Runs.{choices, is_run}
+use Rattle.machine.specs.Traces.{trace, step_length}
+use Rattle.decoding.specs.Decodings.{cells_below, longest_map}
+use Rattle.first_cells.specs.Firsts.{first_cell, fits, found_by, written_by}
 use Rattle.first_cells.specs.declared.Found.{Found}
 
 -- a set's map, and a run of at most 64 steps
 pub record Asked (S : Set) (map : List ℕ) (first : ℕ → ℕ) (schedule : List ℕ) : Type 0 where
-  pub fewThreads : S.threads ≤ 4
-  pub accepted : mapAccepted setCells map ≡ true
-  pub fewSteps : length schedule ≤ 64
-  pub runs : isRun S (start first) (choices schedule) ≡ true
+  pub few_threads : S.threads ≤ 4
+  pub accepted : map_accepted set_cells map ≡ true
+  pub few_steps : length schedule ≤ 64
+  pub runs : is_run S (start first) (choices schedule) ≡ true
 
 -- the run's steps and cells, its trace, and the map
-pub record Given (S : Set) (map : List ℕ) (first : ℕ → ℕ) (schedule before after cellsBefore cellsAfter : List ℕ) (r : Found) : Type 0 where
+pub record Given (S : Set) (map : List ℕ) (first : ℕ → ℕ) (schedule before after cells_before cells_after : List ℕ) (r : Found) : Type 0 where
   pub steps : r.steps ≡ length schedule
-  pub count : r.cells ≡ number 65536 (firstCell S map first schedule)
-  pub traced : after ≡ over (trace S (start first) noWrite (choices schedule)) before
-  pub found : cellsAfter ≡ over (cellsBelow (firstCell S map first schedule) first 65536) cellsBefore
+  pub count : r.cells ≡ number 65536 (first_cell S map first schedule)
+  pub traced : after ≡ over (trace S (start first) no_write (choices schedule)) before
+  pub found : cells_after ≡ over (cells_below (first_cell S map first schedule) first 65536) cells_before
 
-module _ (S : Set) (map : List ℕ) (first : ℕ → ℕ) (schedule before after cellsBefore cellsAfter : List ℕ) (r : Found)
-    (asked : Asked S map first schedule) (room : stepLength * length schedule ≤ length before) (mapRoom : longestMap ≤ length cellsBefore) where
-  ran : (fits S map schedule (length before) (length cellsBefore) && isRun S (start first) (choices schedule)) ≡ true
+module _ (S : Set) (map : List ℕ) (first : ℕ → ℕ) (schedule before after cells_before cells_after : List ℕ) (r : Found)
+    (asked : Asked S map first schedule) (room : step_length * length schedule ≤ length before) (map_room : longest_map ≤ length cells_before) where
+  ran : (fits S map schedule (length before) (length cells_before) && is_run S (start first) (choices schedule)) ≡ true
   ran =
-      let few : length schedule ≤ length before / stepLength = omega arith in
-      and-true (and-true (and-true (and-true (and-true (le-leb S.threads 4 asked.fewThreads) asked.accepted)
-      (le-leb (length schedule) 64 asked.fewSteps)) (le-leb (length schedule) (length before / stepLength) few)) (le-leb longestMap (length cellsBefore) mapRoom)) asked.runs
+      let few : length schedule ≤ length before / step_length = omega arith in
+      and_true (and_true (and_true (and_true (and_true (le-leb S.threads 4 asked.few_threads) asked.accepted)
+      (le-leb (length schedule) 64 asked.few_steps)) (le-leb (length schedule) (length before / step_length) few)) (le-leb longest_map (length cells_before) map_room)) asked.runs
 
   abbrev whole : Found
-  whole = record { ran = true; steps = length schedule; cells = number 65536 (firstCell S map first schedule) }
+  whole = record { ran = true; steps = length schedule; cells = number 65536 (first_cell S map first schedule) }
 
-  pub given : r ≡ foundBy S map first schedule (length before) (length cellsBefore) →
-      after ≡ written_by r (trace S (start first) noWrite (choices schedule)) before →
-      cellsAfter ≡ written_by r (cellsBelow (firstCell S map first schedule) first 65536) cellsBefore →
-      Given S map first schedule before after cellsBefore cellsAfter r
-  unfolding foundBy
+  pub given : r ≡ found_by S map first schedule (length before) (length cells_before) →
+      after ≡ written_by r (trace S (start first) no_write (choices schedule)) before →
+      cells_after ≡ written_by r (cells_below (first_cell S map first schedule) first 65536) cells_before →
+      Given S map first schedule before after cells_before cells_after r
+  unfolding found_by
   given e t m =
       let w : r ≡ whole = e ∙ chosen _ _ ran in
       record {
         steps = ap (λ (x : Found). x.steps) w;
         count = ap (λ (x : Found). x.cells) w;
-        traced = t ∙ ap (λ (x : Found). written_by x (trace S (start first) noWrite (choices schedule)) before) w;
-        found = m ∙ ap (λ (x : Found). written_by x (cellsBelow (firstCell S map first schedule) first 65536) cellsBefore) w;
+        traced = t ∙ ap (λ (x : Found). written_by x (trace S (start first) no_write (choices schedule)) before) w;
+        found = m ∙ ap (λ (x : Found). written_by x (cells_below (first_cell S map first schedule) first 65536) cells_before) w;
       }

@@ -2,15 +2,15 @@
 ghost use Rattle.std.specs.Prelude.{◌≡◌, true, ◌+◌, ◌*◌, ◌≤◌, ◌<◌, eqb, ltb, length, get_or, take, replicate};
 ghost use Rattle.base.specs.Below.{every, least};
 ghost use Rattle.base.specs.Bytes.{over};
-ghost use Rattle.records.specs.Sets.{setOf, layout_of, mostThreads};
-ghost use Rattle.machine.specs.Runs.{choice_of, choices, mostSteps};
-ghost use Rattle.machine.specs.Traces.{stepLength};
+ghost use Rattle.records.specs.Sets.{set_of, layout_of, most_threads};
+ghost use Rattle.machine.specs.Runs.{choice_of, choices, most_steps};
+ghost use Rattle.machine.specs.Traces.{step_length};
 ghost use Rattle.encoding.specs.Encodings.{table_of};
-ghost use Rattle.decoding.specs.Decodings.{choiceNumber, run_of, decodedTrace, decodedMap, longestMap};
-ghost use Rattle.decoding.specs.Models.{modelFits, assigned, workLength};
-ghost use Rattle.encoder.specs.Answers.{sizeAnswer};
+ghost use Rattle.decoding.specs.Decodings.{choice_number, run_of, decoded_trace, decoded_map, longest_map};
+ghost use Rattle.decoding.specs.Models.{model_fits, assigned, work_length};
+ghost use Rattle.encoder.specs.Answers.{size_answer};
 ghost use Rattle.encoder.specs.declared.TableAnswer.TheVariants.{Encoded};
-ghost use Rattle.decoder.specs.Answers.{falseRecord, modelAnswer, checkAnswer, workAfter, decoded, modelDecoding, decodeAnswer, workLeft, traceLeft, mapLeft};
+ghost use Rattle.decoder.specs.Answers.{false_record, model_answer, check_answer, work_after, decoded, model_decoding, decode_answer, work_left, trace_left, map_left};
 
 use decoding::{MAP_BYTES, MODEL_CELLS, WORK};
 use machine::{Choice, Machine};
@@ -48,7 +48,7 @@ fn are_bits(model: &[u8], n: usize) -> bool
 
 // Whether a model is as document 01 has it.
 fn model_fits(model: &[u8], threads: u8, bound: u8) -> bool
-    ensures { result ≡ modelFits threads bound model.now }
+    ensures { result ≡ model_fits threads bound model.now }
 {
     let bits = 2 * (threads as usize) * (bound as usize);
     if model.len() < bits {
@@ -81,9 +81,9 @@ fn false_record(
     n: u32,
     work: &mut [u8],
 ) -> u32
-    requires { (sizeAnswer set.now map.now bound ≡ Encoded n) × (threads ≡ (setOf set.now).threads)
-        × (modelFits threads bound model.now ≡ true) × (workLength * n ≤ length work.old) }
-    ensures { (result ≡ falseRecord (assigned threads bound model.now) (table_of set.now map.now bound))
+    requires { (size_answer set.now map.now bound ≡ Encoded n) × (threads ≡ (set_of set.now).threads)
+        × (model_fits threads bound model.now ≡ true) × (work_length * n ≤ length work.old) }
+    ensures { (result ≡ false_record (assigned threads bound model.now) (table_of set.now map.now bound))
         × (work.new ≡ replicate (length work.old) 0) }
 {
     let steps = bound as u8;
@@ -104,9 +104,9 @@ fn judge(
     n: u32,
     work: &mut [u8],
 ) -> CheckAnswer
-    requires { (sizeAnswer set.now map.now bound ≡ Encoded n) × (threads ≡ (setOf set.now).threads) }
-    ensures { (result ≡ modelAnswer set.now map.now bound model.now (length work.old))
-        × (work.new ≡ workAfter result work.old) }
+    requires { (size_answer set.now map.now bound ≡ Encoded n) × (threads ≡ (set_of set.now).threads) }
+    ensures { (result ≡ model_answer set.now map.now bound model.now (length work.old))
+        × (work.new ≡ work_after result work.old) }
 {
     if !model_fits(model, threads, bound as u8) {
         return CheckAnswer::Refused {
@@ -132,8 +132,8 @@ fn judge(
 
 // Checks a model against the table of a set, a map and a bound, in lent work memory.
 pub fn check(set: &[u8], map: &[u8], bound: u64, model: &[u8], work: &mut [u8]) -> CheckAnswer
-    ensures { (result ≡ checkAnswer set.now map.now bound model.now (length work.old))
-        × (work.new ≡ workAfter result work.old) }
+    ensures { (result ≡ check_answer set.now map.now bound model.now (length work.old))
+        × (work.new ≡ work_after result work.old) }
 {
     let layout = records::set::layout(set);
     let size = encoder::table_size(set, map, bound);
@@ -168,8 +168,8 @@ fn first_bit(model: &[u8], at: usize, n: usize) -> usize
 
 // The schedule byte of choice j: executes by thread, then flushes by thread.
 fn schedule_byte(threads: u8, j: u8) -> u8
-    requires { (threads ≤ mostThreads) × (j < threads + threads) }
-    ensures { choice_of result ≡ choiceNumber threads j }
+    requires { (threads ≤ most_threads) × (j < threads + threads) }
+    ensures { choice_of result ≡ choice_number threads j }
 {
     if j < threads {
         return j;
@@ -179,7 +179,7 @@ fn schedule_byte(threads: u8, j: u8) -> u8
 
 // Writes the schedule of a model's run, and gives its length.
 fn schedule_of(model: &[u8], threads: u8, bound: u8, schedule: &mut [u8]) -> usize
-    requires { (threads ≤ mostThreads) × (bound ≤ mostSteps) × (length schedule.old ≡ mostSteps) }
+    requires { (threads ≤ most_threads) × (bound ≤ most_steps) × (length schedule.old ≡ most_steps) }
     ensures { (result ≤ bound) × (choices (take result schedule.new) ≡ run_of threads bound (assigned threads bound model.now)) }
 {
     let row = 2 * (threads as usize);
@@ -207,12 +207,12 @@ fn show(
     trace: &mut [u8],
     found: &mut [u8],
 ) -> DecodeAnswer
-    requires { (sizeAnswer set.now map.now bound ≡ Encoded n) × (layout ≡ layout_of set.now)
-        × (modelFits layout.threads bound model.now ≡ true) × (n ≤ falseRecord (assigned layout.threads bound model.now) (table_of set.now map.now bound))
-        × (stepLength * bound ≤ length trace.old) × (longestMap ≤ length found.old) }
-    ensures { (result ≡ decoded set.now map.now bound (assigned (setOf set.now).threads bound model.now))
-        × (trace.new ≡ over (decodedTrace set.now bound (assigned (setOf set.now).threads bound model.now)) trace.old)
-        × (found.new ≡ over (decodedMap set.now map.now bound (assigned (setOf set.now).threads bound model.now)) found.old) }
+    requires { (size_answer set.now map.now bound ≡ Encoded n) × (layout ≡ layout_of set.now)
+        × (model_fits layout.threads bound model.now ≡ true) × (n ≤ false_record (assigned layout.threads bound model.now) (table_of set.now map.now bound))
+        × (step_length * bound ≤ length trace.old) × (longest_map ≤ length found.old) }
+    ensures { (result ≡ decoded set.now map.now bound (assigned (set_of set.now).threads bound model.now))
+        × (trace.new ≡ over (decoded_trace set.now bound (assigned (set_of set.now).threads bound model.now)) trace.old)
+        × (found.new ≡ over (decoded_map set.now map.now bound (assigned (set_of set.now).threads bound model.now)) found.old) }
 {
     let threads = layout.threads;
     let steps = bound as u8;
@@ -246,11 +246,11 @@ fn judge_run(
     trace: &mut [u8],
     found: &mut [u8],
 ) -> DecodeAnswer
-    requires { (sizeAnswer set.now map.now bound ≡ Encoded n) × (layout ≡ layout_of set.now) }
-    ensures { (result ≡ modelDecoding set.now map.now bound model.now (length work.old) (length trace.old) (length found.old))
-        × (work.new ≡ workLeft result work.old)
-        × (trace.new ≡ traceLeft result set.now bound model.now trace.old)
-        × (found.new ≡ mapLeft result set.now map.now bound model.now found.old) }
+    requires { (size_answer set.now map.now bound ≡ Encoded n) × (layout ≡ layout_of set.now) }
+    ensures { (result ≡ model_decoding set.now map.now bound model.now (length work.old) (length trace.old) (length found.old))
+        × (work.new ≡ work_left result work.old)
+        × (trace.new ≡ trace_left result set.now bound model.now trace.old)
+        × (found.new ≡ map_left result set.now map.now bound model.now found.old) }
 {
     let threads = layout.threads;
     let steps = bound as u8;
@@ -290,10 +290,10 @@ pub fn decode(
     trace: &mut [u8],
     found: &mut [u8],
 ) -> DecodeAnswer
-    ensures { (result ≡ decodeAnswer set.now map.now bound model.now (length work.old) (length trace.old) (length found.old))
-        × (work.new ≡ workLeft result work.old)
-        × (trace.new ≡ traceLeft result set.now bound model.now trace.old)
-        × (found.new ≡ mapLeft result set.now map.now bound model.now found.old) }
+    ensures { (result ≡ decode_answer set.now map.now bound model.now (length work.old) (length trace.old) (length found.old))
+        × (work.new ≡ work_left result work.old)
+        × (trace.new ≡ trace_left result set.now bound model.now trace.old)
+        × (found.new ≡ map_left result set.now map.now bound model.now found.old) }
 {
     let layout = records::set::layout(set);
     let size = encoder::table_size(set, map, bound);

@@ -10,11 +10,11 @@ use borrow.Author.Tests.{eqb-true}
 use Rattle.base.specs.Below.{number}
 use Rattle.base.proofs.Below.{number-none}
 use Rattle.base.proofs.Choice.{cond_both, and_right, clash}
-use Rattle.records.specs.Instructions.{LOAD, STORE, FENCE, ADD, ADDI, SUB, SUBI, MUL, MULI, MEM, CAS, HALT, EXIT, isMemory}
+use Rattle.records.specs.Instructions.{LOAD, STORE, FENCE, ADD, ADDI, SUB, SUBI, MUL, MULI, MEM, CAS, HALT, EXIT, is_memory}
 use Rattle.records.specs.Sets.{Set}
 use Rattle.records.specs.declared.Statement.{Statement}
 use Rattle.machine.specs.Machine.{State, current, actor, acted, written, reads, step}
-use Rattle.machine.specs.Machine.{forwards, load, address, takesWord, wordTaken, readsArgument, readsAddress, cellsRead, row, executed, withAccu, casMatches}
+use Rattle.machine.specs.Machine.{forwards, load, address, takes_word, word_taken, reads_argument, reads_address, cells_read, row, executed, with_accu, cas_matches}
 use Rattle.machine.specs.Runs.{after}
 use Rattle.machine.specs.declared.Choice.{Choice}
 use Rattle.machine.specs.declared.Choice.TheVariants.{Execute, Flush}
@@ -22,7 +22,7 @@ use Rattle.machine.specs.declared.Thread.{Thread}
 use Rattle.machine.specs.declared.Written.{Written}
 use Rattle.encoding.specs.Checkpoints.{member}
 use Rattle.encoding.proofs.Sorts.{Words}
-use Rattle.decoding.specs.Decodings.{writes, readsFirst}
+use Rattle.decoding.specs.Decodings.{writes, reads_first}
 use Rattle.decoding.proofs.Below.{number-fewer, number-either, number-among}
 
 -- ---- how many
@@ -34,39 +34,39 @@ two-at-most false true x y = omega arith
 two-at-most false false x y = omega arith
 
 reads-few : (S : Set) (s : State) (c : Choice) → length (reads S s c) ≤ 2
-unfolding reads cellsRead
+unfolding reads cells_read
 reads-few S s (Execute t) =
     let i = current S s t in
     let x = s.threads t in
-    two-at-most (readsArgument i x) (readsAddress i x (address i x s.memory)) i.argument (address i x s.memory)
+    two-at-most (reads_argument i x) (reads_address i x (address i x s.memory)) i.argument (address i x s.memory)
 reads-few S s (Flush t) = omega arith
 
-pub first-few : (n : ℕ) (S : Set) (s : State) (run : List Choice) → number n (readsFirst S s run) ≤ 2 * length run
-unfolding readsFirst
+pub first-few : (n : ℕ) (S : Set) (s : State) (run : List Choice) → number n (reads_first S s run) ≤ 2 * length run
+unfolding reads_first
 first-few n S s [] = omega (arith, number-none (λ a. false) n (λ i h. refl))
 first-few n S s (c ∷ run) =
     omega (
       arith,
-      number-either (λ a. member a (reads S s c)) (λ a. not (writes (written S s c) a) && readsFirst S (step S s c) run a) n,
+      number-either (λ a. member a (reads S s c)) (λ a. not (writes (written S s c) a) && reads_first S (step S s c) run a) n,
       number-among (reads S s c) n,
       reads-few S s c,
-      number-fewer (λ a. not (writes (written S s c) a) && readsFirst S (step S s c) run a) (readsFirst S (step S s c) run) n
-          (λ a e. and_right (not (writes (written S s c) a)) (readsFirst S (step S s c) run a) e),
+      number-fewer (λ a. not (writes (written S s c) a) && reads_first S (step S s c) run a) (reads_first S (step S s c) run) n
+          (λ a e. and_right (not (writes (written S s c) a)) (reads_first S (step S s c) run a) e),
       first-few n S (step S s c) run,
     )
 
 -- EXIT reads nothing
-exit-reads : (i : Statement) (x : Thread) (memory : ℕ → ℕ) → i.number ≡ EXIT → cellsRead i x memory ≡ []
-unfolding cellsRead
+exit-reads : (i : Statement) (x : Thread) (memory : ℕ → ℕ) → i.number ≡ EXIT → cells_read i x memory ≡ []
+unfolding cells_read
 exit-reads i x memory e =
     let a = address i x memory in
-    let none : isMemory i.number ≡ false = ap isMemory e in
+    let none : is_memory i.number ≡ false = ap is_memory e in
     ap₂ (λ (p q : Bool). cond (p && eqb i.mode 1 && not (forwards x i.argument)) (i.argument ∷ []) []
     ++ cond (q && not (eqb i.number STORE) && (eqb i.number CAS || not (forwards x a))) (a ∷ []) []) none none
 
 module _ (S : Set) (t : ℕ) where
-  last-reads : (s : State) (a : ℕ) → (current S s t).number ≡ EXIT → readsFirst S s (Execute t ∷ []) a ≡ false
-  unfolding readsFirst reads member
+  last-reads : (s : State) (a : ℕ) → (current S s t).number ≡ EXIT → reads_first S s (Execute t ∷ []) a ≡ false
+  unfolding reads_first reads member
   last-reads s a e =
       ap (λ (xs : List ℕ). member a xs || not (writes (written S s (Execute t)) a) && false) (exit-reads (current S s t) (s.threads t) s.memory e)
       ∙ none (not (writes (written S s (Execute t)) a))
@@ -77,14 +77,14 @@ module _ (S : Set) (t : ℕ) where
 
   -- a last step that executes EXIT adds no first read
   before-reads : (s : State) (before : List Choice) (a : ℕ) → (current S (after S s before) t).number ≡ EXIT →
-      readsFirst S s (before ++ (Execute t ∷ [])) a ≡ readsFirst S s before a
-  unfolding after readsFirst
+      reads_first S s (before ++ (Execute t ∷ [])) a ≡ reads_first S s before a
+  unfolding after reads_first
   before-reads s [] a e = last-reads s a e
   before-reads s (c ∷ before) a e =
       ap (λ (b : Bool). member a (reads S s c) || not (writes (written S s c) a) && b) (before-reads (step S s c) before a e)
 
   pub exit-few : (n : ℕ) (s : State) (before : List Choice) → (current S (after S s before) t).number ≡ EXIT →
-      number n (readsFirst S s (before ++ (Execute t ∷ []))) ≤ 2 * length before
+      number n (reads_first S s (before ++ (Execute t ∷ []))) ≤ 2 * length before
   exit-few n s before e =
       subst⁻¹ (λ (f : ℕ → Bool). number n f ≤ 2 * length before) (fun_ext (λ a. before-reads s before a e)) (first-few n S s before)
 
@@ -92,31 +92,31 @@ module _ (S : Set) (t : ℕ) where
 
 -- what an address comes from has 16 bits: accu and val of each thread, and memory
 pub record Register (x : Thread) : Type 0 where
-  pub accuIs : x.accu < 65536
-  pub valIs : x.val < 65536
+  pub accu_is : x.accu < 65536
+  pub val_is : x.val < 65536
 
 abbrev pub Worded : State → Type 0
 Worded s = ((t : ℕ) → Register (s.threads t)) × ((a : ℕ) → s.memory a < 65536)
 
 module _ (i : Statement) (x : Thread) (memory : ℕ → ℕ) (argued : i.argument < 65536) (held : Register x) (words : (a : ℕ) → memory a < 65536) where
   load_word : (a : ℕ) → load x memory a < 65536
-  load_word a = cond_both (λ (v : ℕ). v < 65536) (forwards x a) held.valIs (words a)
+  load_word a = cond_both (λ (v : ℕ). v < 65536) (forwards x a) held.val_is (words a)
 
   address_word : address i x memory < 65536
   unfolding address
-  address_word = cond_both (λ (v : ℕ). v < 65536) (isMemory i.number)
+  address_word = cond_both (λ (v : ℕ). v < 65536) (is_memory i.number)
       (cond_both (λ (v : ℕ). v < 65536) (eqb i.mode 1) (load_word i.argument) argued) (omega arith)
 
-  taken_word : wordTaken i x memory < 65536
-  unfolding wordTaken
-  taken_word = cond_both (λ (v : ℕ). v < 65536) (takesWord i.number)
+  taken_word : word_taken i x memory < 65536
+  unfolding word_taken
+  taken_word = cond_both (λ (v : ℕ). v < 65536) (takes_word i.number)
       (cond_both (λ (v : ℕ). v < 65536) (eqb i.number CAS) (words (address i x memory)) (load_word (address i x memory))) (omega arith)
 
   row_word : (n a w : ℕ) → w < 65536 → Register (row n i.argument a w x)
   unfolding row
   row_word n a w h =
       both (eqb n LOAD) (kept h)
-      (both (eqb n STORE) (record { accuIs = held.accuIs; valIs = held.accuIs })
+      (both (eqb n STORE) (record { accu_is = held.accu_is; val_is = held.accu_is })
       (both (eqb n FENCE) held
       (both (eqb n ADD) (kept (omega arith))
       (both (eqb n ADDI) (kept (omega arith))
@@ -124,21 +124,21 @@ module _ (i : Statement) (x : Thread) (memory : ℕ → ℕ) (argued : i.argumen
       (both (eqb n SUBI) (kept (omega arith))
       (both (eqb n MUL) (kept (omega arith))
       (both (eqb n MULI) (kept (omega arith))
-      (both (eqb n MEM) (record { accuIs = h; valIs = held.valIs })
+      (both (eqb n MEM) (record { accu_is = h; val_is = held.val_is })
       (both (eqb n CAS) (kept (cond_both (λ (v : ℕ). v < 65536) (eqb w x.mem) (omega arith) (omega arith)))
-      (both (eqb n HALT) (record { accuIs = held.accuIs; valIs = held.valIs }) held)))))))))))
+      (both (eqb n HALT) (record { accu_is = held.accu_is; val_is = held.val_is }) held)))))))))))
     where
       both : (b : Bool) {y z : Thread} → Register y → Register z → Register (cond b y z)
       both b p q = cond_both Register b p q
 
-      kept : {v : ℕ} → v < 65536 → Register (withAccu v x)
-      kept l = record { accuIs = l; valIs = held.valIs }
+      kept : {v : ℕ} → v < 65536 → Register (with_accu v x)
+      kept l = record { accu_is = l; val_is = held.val_is }
 
   executed-word : Register (executed i memory x)
   unfolding executed
   executed-word =
-      let r = row_word i.number (address i x memory) (wordTaken i x memory) taken_word in
-      record { accuIs = r.accuIs; valIs = r.valIs }
+      let r = row_word i.number (address i x memory) (word_taken i x memory) taken_word in
+      record { accu_is = r.accu_is; val_is = r.val_is }
 
   either-read : (b c : Bool) (y z a : ℕ) → y < 65536 → z < 65536 → member a (cond b (y ∷ []) [] ++ cond c (z ∷ []) []) ≡ true → a < 65536
   unfolding member
@@ -160,10 +160,10 @@ module _ (i : Statement) (x : Thread) (memory : ℕ → ℕ) (argued : i.argumen
       go false f h = clash h (ap (λ (b : Bool). b || false) f)
   either-read false false y z a p q e = clash e refl
 
-  read_word : (a : ℕ) → member a (cellsRead i x memory) ≡ true → a < 65536
-  unfolding cellsRead
+  read_word : (a : ℕ) → member a (cells_read i x memory) ≡ true → a < 65536
+  unfolding cells_read
   read_word a e =
-      either-read (readsArgument i x) (readsAddress i x (address i x memory)) i.argument (address i x memory) a argued address_word e
+      either-read (reads_argument i x) (reads_address i x (address i x memory)) i.argument (address i x memory) a argued address_word e
 
 module _ (S : Set) (argued : Words S) where
   reads_word : (s : State) → Worded s → (c : Choice) (a : ℕ) → member a (reads S s c) ≡ true → a < 65536
@@ -176,13 +176,13 @@ module _ (S : Set) (argued : Words S) where
   unfolding acted
   acted-word s (registers, words) (Execute t) =
       executed-word (current S s t) (s.threads t) s.memory (argued t (s.threads t).pc) (registers t) words
-  acted-word s (registers, words) (Flush t) = record { accuIs = (registers t).accuIs; valIs = (registers t).valIs }
+  acted-word s (registers, words) (Flush t) = record { accu_is = (registers t).accu_is; val_is = (registers t).val_is }
 
   written-word : (s : State) → Worded s → (c : Choice) → (written S s c).value < 65536
   unfolding written
   written-word s (registers, words) (Execute t) =
-      cond_both (λ (w : Written). w.value < 65536) (casMatches (current S s t) (s.threads t) s.memory) (registers t).accuIs (omega arith)
-  written-word s (registers, words) (Flush t) = (registers t).valIs
+      cond_both (λ (w : Written). w.value < 65536) (cas_matches (current S s t) (s.threads t) s.memory) (registers t).accu_is (omega arith)
+  written-word s (registers, words) (Flush t) = (registers t).val_is
 
   step-word : (s : State) (c : Choice) → Worded s → Worded (step S s c)
   unfolding step
@@ -191,12 +191,12 @@ module _ (S : Set) (argued : Words S) where
     λ a. cond_both (λ (v : ℕ). v < 65536) ((written S s c).done && eqb (written S s c).address a) (written-word s h c) (h.1 a),
   )
 
-  pub first-words : (s : State) (run : List Choice) → Worded s → (a : ℕ) → readsFirst S s run a ≡ true → a < 65536
-  unfolding readsFirst
+  pub first-words : (s : State) (run : List Choice) → Worded s → (a : ℕ) → reads_first S s run a ≡ true → a < 65536
+  unfolding reads_first
   first-words s [] h a e = clash e refl
   first-words s (c ∷ run) h a e = go (λ f. first-words (step S s c) run (step-word s c h) a f) (member a (reads S s c)) refl e
     where
-      go : (readsFirst S (step S s c) run a ≡ true → a < 65536) → (b : Bool) → member a (reads S s c) ≡ b →
-          (b || not (writes (written S s c) a) && readsFirst S (step S s c) run a) ≡ true → a < 65536
+      go : (reads_first S (step S s c) run a ≡ true → a < 65536) → (b : Bool) → member a (reads S s c) ≡ b →
+          (b || not (writes (written S s c) a) && reads_first S (step S s c) run a) ≡ true → a < 65536
       go rest true f g = reads_word s h c a f
-      go rest false f g = rest (and_right (not (writes (written S s c) a)) (readsFirst S (step S s c) run a) g)
+      go rest false f g = rest (and_right (not (writes (written S s c) a)) (reads_first S (step S s c) run a) g)

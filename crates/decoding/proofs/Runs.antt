@@ -13,14 +13,14 @@ use Rattle.base.proofs.Below.{some_at, least-hit, least-none}
 use Rattle.base.proofs.Choice.{chosen, passed, refuted, clash}
 use Rattle.records.specs.Sets.{Set}
 use Rattle.machine.specs.Machine.{State, actor, step}
-use Rattle.machine.specs.Runs.{isRun}
+use Rattle.machine.specs.Runs.{is_run}
 use Rattle.machine.specs.declared.Choice.{Choice}
 use Rattle.machine.specs.declared.Choice.TheVariants.{Execute, Flush}
 use Rattle.machine.proofs.Runs.{takes-actor, run-first, run-rest}
 use Rattle.table.specs.Values.{Assignment}
-use Rattle.encoding.specs.Assignments.{named, bits_of, assignmentOf}
+use Rattle.encoding.specs.Assignments.{named, bits_of, assignment_of}
 use Rattle.encoding.proofs.Tests.{some-passes}
-use Rattle.decoding.specs.Decodings.{bit_at, choiceNumber, run_from, run_of}
+use Rattle.decoding.specs.Decodings.{bit_at, choice_number, run_from, run_of}
 
 module _ (threads : ℕ) (g : Assignment) where
   -- the place of a choice's bit in a step
@@ -32,7 +32,7 @@ module _ (threads : ℕ) (g : Assignment) where
   place-below (Execute t) h = omega arith
   place-below (Flush t) h = omega arith
 
-  number-place : (c : Choice) → actor c < threads → choiceNumber threads (place_of c) ≡ c
+  number-place : (c : Choice) → actor c < threads → choice_number threads (place_of c) ≡ c
   number-place (Execute t) h = chosen _ _ (lt-ltb t threads h)
   number-place (Flush t) h = passed _ _ (le-ltb (threads + t) threads (omega arith)) ∙ ap Flush (omega arith)
 
@@ -60,9 +60,9 @@ module _ (threads : ℕ) (g : Assignment) where
     bit_found : some (threads + threads) (bit_at threads g k) ≡ true
     bit_found = some_at (bit_at threads g k) (threads + threads) (place_of c) (place-below c h) own-bit
 
-    choice-found : choiceNumber threads (least (threads + threads) (bit_at threads g k)) ≡ c
+    choice-found : choice_number threads (least (threads + threads) (bit_at threads g k)) ≡ c
     choice-found =
-        ap (choiceNumber threads) (least-hit (bit_at threads g k) (threads + threads) (place_of c)
+        ap (choice_number threads) (least-hit (bit_at threads g k) (threads + threads) (place_of c)
         (least-none (bit_at threads g k) (place_of c) other-bits) own-bit (place-below c h))
         ∙ number-place c h
 
@@ -76,7 +76,7 @@ module _ (threads : ℕ) (g : Assignment) where
       none j false e = passed _ _ e ∙ f 1 (j - threads)
 
 module _ (S : Set) (g : Assignment) where
-  run-from : (n k : ℕ) (s : State) (run : List Choice) → isRun S s run ≡ true → length run ≤ n →
+  run-from : (n k : ℕ) (s : State) (run : List Choice) → is_run S s run ≡ true → length run ≤ n →
       ((j kind t : ℕ) → g.choice (k + j) kind t ≡ bits_of run j kind t) → run_from S.threads g k n ≡ run
   unfolding run_from bits_of
   run-from zero k s [] r h f = refl
@@ -90,7 +90,7 @@ module _ (S : Set) (g : Assignment) where
       (λ j kind t. let e : suc k + j ≡ k + suc j = omega arith in ap (λ (i : ℕ). g.choice i kind t) e ∙ f (suc j) kind t) in
       chosen _ _ (bit_found S.threads g k c l names) ∙ ap₂ ◌∷◌ (choice-found S.threads g k c l names) rest
 
-pub run-of : (S : Set) (bound : ℕ) (s : State) (memory : ℕ → ℕ) (run : List Choice) → isRun S s run ≡ true → length run ≤ bound →
-    run_of S.threads bound (assignmentOf memory run) ≡ run
-run-of S bound s memory run r h =
-    run-from S (assignmentOf memory run) bound 0 s run r h (λ j kind t. let e : 0 + j ≡ j = omega arith in ap (λ (i : ℕ). bits_of run i kind t) e)
+pub run_of_lem : (S : Set) (bound : ℕ) (s : State) (memory : ℕ → ℕ) (run : List Choice) → is_run S s run ≡ true → length run ≤ bound →
+    run_of S.threads bound (assignment_of memory run) ≡ run
+run_of_lem S bound s memory run r h =
+    run-from S (assignment_of memory run) bound 0 s run r h (λ j kind t. let e : 0 + j ≡ j = omega arith in ap (λ (i : ℕ). bits_of run i kind t) e)

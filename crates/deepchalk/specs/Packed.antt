@@ -27,42 +27,42 @@ abbrev pub bit48 : ℕ
 bit48 = 281474976710656
 
 -- Bits 0 to 7 are the refusal's number, 0 on success; on a refusal bits 32 to 63 are its place.
-abbrev pub packedRefusal : (number place : ℕ) → ℕ
-packedRefusal number place = number + bit32 * place
+abbrev pub packed_refusal : (number place : ℕ) → ℕ
+packed_refusal number place = number + bit32 * place
 
 -- the end: 0 for a code, 1 stuck, 2 open
-abbrev pub endNumber : End → ℕ
-endNumber (Code code) = 0
-endNumber Stuck = 1
-endNumber Open = 2
+abbrev pub end_number : End → ℕ
+end_number (Code code) = 0
+end_number Stuck = 1
+end_number Open = 2
 
 -- the code, 0 without one
-abbrev pub endCode : End → ℕ
-endCode (Code code) = code
-endCode Stuck = 0
-endCode Open = 0
+abbrev pub end_code : End → ℕ
+end_code (Code code) = code
+end_code Stuck = 0
+end_code Open = 0
 
 -- On success bits 8 to 15 are the end, 16 to 31 the code and 32 to 47 the steps.
 abbrev pub packed : RunAnswer → ℕ
-packed (Ran steps end) = bit8 * endNumber end + bit16 * endCode end + bit32 * steps
-packed (Refused number place) = packedRefusal number place
+packed (Ran steps end) = bit8 * end_number end + bit16 * end_code end + bit32 * steps
+packed (Refused number place) = packed_refusal number place
 
 -- On success bits 16 to 31 are the statements and 32 to 47 the map cells.
-abbrev pub packedRead : Text → ℕ
-packedRead (Read statements cells) = bit16 * statements + bit32 * cells
-packedRead (Unread number place) = packedRefusal number place
+abbrev pub packed_read : Text → ℕ
+packed_read (Read statements cells) = bit16 * statements + bit32 * cells
+packed_read (Unread number place) = packed_refusal number place
 
 -- On success bits 32 to 63 are the records of the table.
-abbrev pub packedTable : Table → ℕ
-packedTable (Encoded records) = bit32 * records
-packedTable (Unencoded number place) = packedRefusal number place
+abbrev pub packed_table : Table → ℕ
+packed_table (Encoded records) = bit32 * records
+packed_table (Unencoded number place) = packed_refusal number place
 
 -- On success no bit is 1.
-abbrev pub packedCheck : Check → ℕ
-packedCheck Accepted = 0
-packedCheck (Unaccepted number place) = packedRefusal number place
+abbrev pub packed_check : Check → ℕ
+packed_check Accepted = 0
+packed_check (Unaccepted number place) = packed_refusal number place
 
 -- On success bits 32 to 47 are the steps and 48 to 63 the map cells.
-abbrev pub packedDecoding : DecodeAnswer → ℕ
-packedDecoding (Decoded steps count) = bit32 * steps + bit48 * count
-packedDecoding (Undecoded number place) = packedRefusal number place
+abbrev pub packed_decoding : DecodeAnswer → ℕ
+packed_decoding (Decoded steps count) = bit32 * steps + bit48 * count
+packed_decoding (Undecoded number place) = packed_refusal number place

@@ -1,11 +1,11 @@
 // The boundary to C and Rust: one exported function for each call. include/deepchalk.h declares them.
 ghost use Rattle.std.specs.Prelude.{◌≡◌, length};
-ghost use Rattle.simulation.specs.Simulation.{simulated, traceOutput};
+ghost use Rattle.simulation.specs.Simulation.{simulated, trace_output};
 ghost use Rattle.replay.specs.Replay.{replayed};
-ghost use Rattle.text.specs.Answers.{answer as answer_of, setOutput, mapOutput};
-ghost use Rattle.encoder.specs.Answers.{sizeAnswer, encodeAnswer, tableOutput};
-ghost use Rattle.decoder.specs.Answers.{checkAnswer, workAfter, decodeAnswer, workLeft, traceLeft, mapLeft};
-ghost use Rattle.deepchalk.specs.Packed.{packed, packedRefusal, packedRead, packedTable, packedCheck, packedDecoding};
+ghost use Rattle.text.specs.Answers.{answer as answer_of, set_output, map_output};
+ghost use Rattle.encoder.specs.Answers.{size_answer, encode_answer, table_output};
+ghost use Rattle.decoder.specs.Answers.{check_answer, work_after, decode_answer, work_left, trace_left, map_left};
+ghost use Rattle.deepchalk.specs.Packed.{packed, packed_refusal, packed_read, packed_table, packed_check, packed_decoding};
 
 use machine::{End, RunAnswer};
 
@@ -20,7 +20,7 @@ const BIT_48: u64 = 281474976710656;
 
 // A refusal as one number.
 fn pack_refusal(number: u8, place: u32) -> u64
-    ensures { result ≡ packedRefusal number place }
+    ensures { result ≡ packed_refusal number place }
 {
     (number as u64) + BIT_32 * (place as u64)
 }
@@ -44,7 +44,7 @@ fn pack(answer: RunAnswer) -> u64
 
 // The answer of reading as one number.
 fn pack_read(answer: text::ReadAnswer) -> u64
-    ensures { result ≡ packedRead answer }
+    ensures { result ≡ packed_read answer }
 {
     match answer {
         text::ReadAnswer::Read { statements, cells } => {
@@ -56,7 +56,7 @@ fn pack_read(answer: text::ReadAnswer) -> u64
 
 // The answer of the encoder as one number.
 fn pack_table(answer: encoder::TableAnswer) -> u64
-    ensures { result ≡ packedTable answer }
+    ensures { result ≡ packed_table answer }
 {
     match answer {
         encoder::TableAnswer::Encoded { records } => BIT_32 * (records as u64),
@@ -66,7 +66,7 @@ fn pack_table(answer: encoder::TableAnswer) -> u64
 
 // The answer of the model check as one number.
 fn pack_check(answer: decoder::CheckAnswer) -> u64
-    ensures { result ≡ packedCheck answer }
+    ensures { result ≡ packed_check answer }
 {
     match answer {
         decoder::CheckAnswer::Accepted => 0,
@@ -76,7 +76,7 @@ fn pack_check(answer: decoder::CheckAnswer) -> u64
 
 // The answer of decoding as one number.
 fn pack_decoding(answer: decoder::DecodeAnswer) -> u64
-    ensures { result ≡ packedDecoding answer }
+    ensures { result ≡ packed_decoding answer }
 {
     match answer {
         decoder::DecodeAnswer::Decoded { steps, cells } => {
@@ -89,9 +89,9 @@ fn pack_decoding(answer: decoder::DecodeAnswer) -> u64
 // Reads a set text, and writes its statement records and its map records.
 #[unsafe(no_mangle)]
 pub extern "C" fn deepchalk_read(text: &[u8], set: &mut [u8], map: &mut [u8]) -> u64
-    ensures { (result ≡ packedRead (answer_of text.now (length set.old) (length map.old)))
-        × (set.new ≡ setOutput (answer_of text.now (length set.old) (length map.old)) text.now set.old)
-        × (map.new ≡ mapOutput (answer_of text.now (length set.old) (length map.old)) text.now map.old) }
+    ensures { (result ≡ packed_read (answer_of text.now (length set.old) (length map.old)))
+        × (set.new ≡ set_output (answer_of text.now (length set.old) (length map.old)) text.now set.old)
+        × (map.new ≡ map_output (answer_of text.now (length set.old) (length map.old)) text.now map.old) }
 {
     let answer = text::read(text, set, map);
     pack_read(answer)
@@ -106,7 +106,7 @@ pub extern "C" fn deepchalk_simulate(
     trace: &mut [u8],
 ) -> u64
     ensures { (result ≡ packed (simulated set.now map.now schedule.now (length trace.old)))
-        × (trace.new ≡ traceOutput (simulated set.now map.now schedule.now (length trace.old))
+        × (trace.new ≡ trace_output (simulated set.now map.now schedule.now (length trace.old))
         set.now map.now schedule.now trace.old) }
 {
     let answer = simulation::simulate(set, map, schedule, trace);
@@ -125,7 +125,7 @@ pub extern "C" fn deepchalk_replay(set: &[u8], map: &[u8], trace: &[u8]) -> u64
 // How many records the table of a set, a map and a bound has.
 #[unsafe(no_mangle)]
 pub extern "C" fn deepchalk_table_size(set: &[u8], map: &[u8], bound: u64) -> u64
-    ensures { result ≡ packedTable (sizeAnswer set.now map.now bound) }
+    ensures { result ≡ packed_table (size_answer set.now map.now bound) }
 {
     let answer = encoder::table_size(set, map, bound);
     pack_table(answer)
@@ -134,8 +134,8 @@ pub extern "C" fn deepchalk_table_size(set: &[u8], map: &[u8], bound: u64) -> u6
 // Writes the table of a set, a map and a bound.
 #[unsafe(no_mangle)]
 pub extern "C" fn deepchalk_encode(set: &[u8], map: &[u8], bound: u64, table: &mut [u8]) -> u64
-    ensures { (result ≡ packedTable (encodeAnswer set.now map.now bound (length table.old)))
-        × (table.new ≡ tableOutput (encodeAnswer set.now map.now bound (length table.old))
+    ensures { (result ≡ packed_table (encode_answer set.now map.now bound (length table.old)))
+        × (table.new ≡ table_output (encode_answer set.now map.now bound (length table.old))
         set.now map.now bound table.old) }
 {
     let answer = encoder::encode(set, map, bound, table);
@@ -151,8 +151,8 @@ pub extern "C" fn deepchalk_check(
     model: &[u8],
     work: &mut [u8],
 ) -> u64
-    ensures { (result ≡ packedCheck (checkAnswer set.now map.now bound model.now (length work.old)))
-        × (work.new ≡ workAfter (checkAnswer set.now map.now bound model.now (length work.old)) work.old) }
+    ensures { (result ≡ packed_check (check_answer set.now map.now bound model.now (length work.old)))
+        × (work.new ≡ work_after (check_answer set.now map.now bound model.now (length work.old)) work.old) }
 {
     let answer = decoder::check(set, map, bound, model, work);
     pack_check(answer)
@@ -169,12 +169,12 @@ pub extern "C" fn deepchalk_decode(
     trace: &mut [u8],
     found: &mut [u8],
 ) -> u64
-    ensures { (result ≡ packedDecoding (decodeAnswer set.now map.now bound model.now (length work.old) (length trace.old) (length found.old)))
-        × (work.new ≡ workLeft (decodeAnswer set.now map.now bound model.now (length work.old) (length trace.old) (length found.old))
+    ensures { (result ≡ packed_decoding (decode_answer set.now map.now bound model.now (length work.old) (length trace.old) (length found.old)))
+        × (work.new ≡ work_left (decode_answer set.now map.now bound model.now (length work.old) (length trace.old) (length found.old))
         work.old)
-        × (trace.new ≡ traceLeft (decodeAnswer set.now map.now bound model.now (length work.old) (length trace.old) (length found.old))
+        × (trace.new ≡ trace_left (decode_answer set.now map.now bound model.now (length work.old) (length trace.old) (length found.old))
         set.now bound model.now trace.old)
-        × (found.new ≡ mapLeft (decodeAnswer set.now map.now bound model.now (length work.old) (length trace.old) (length found.old))
+        × (found.new ≡ map_left (decode_answer set.now map.now bound model.now (length work.old) (length trace.old) (length found.old))
         set.now map.now bound model.now found.old) }
 {
     let answer = decoder::decode(set, map, bound, model, work, trace, found);

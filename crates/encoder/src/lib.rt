@@ -1,22 +1,22 @@
 // The encoder: the size of a table, and its bytes.
 ghost use Rattle.std.specs.Prelude.{◌≡◌, cond, List, [], ◌∷◌, ◌++◌, ℕ, ◌+◌, ◌-◌, ◌*◌, ◌≤◌, ◌<◌, ltb, length};
-ghost use Rattle.records.specs.Maps.{cells, setCells};
-ghost use Rattle.records.specs.Sets.{Set, setBy, layout_of, mostThreads};
-ghost use Rattle.table.specs.Formulas.{writtenAt, formulaLength};
-ghost use Rattle.table.specs.Repeats.{movedBy, lastIndex};
-ghost use Rattle.table.specs.Programs.{leafFormula, choiceBit, aims, upto, compiled, nextAfter};
-ghost use Rattle.encoding.specs.Encodings.{mapDemand, starting, goalTree, firsts as firstsOf, encoded as encodedOf};
-ghost use Rattle.encoding.specs.Slots.{Slot, same, code as codeKind};
+ghost use Rattle.records.specs.Maps.{cells, set_cells};
+ghost use Rattle.records.specs.Sets.{Set, set_by, layout_of, most_threads};
+ghost use Rattle.table.specs.Formulas.{written_at, formula_length};
+ghost use Rattle.table.specs.Repeats.{moved_by, last_index};
+ghost use Rattle.table.specs.Programs.{leaf_formula, choice_bit, aims, upto, compiled, next_after};
+ghost use Rattle.encoding.specs.Encodings.{map_demand, starting, goal_tree, firsts as firsts_of, encoded as encoded_of};
+ghost use Rattle.encoding.specs.Slots.{Slot, same, code as code_kind};
 ghost use Rattle.encoding.specs.Steps.{only, word0, step as step_of};
 ghost use Rattle.encoder_slots.specs.Places.{place_of};
 ghost use Rattle.set_index.specs.Points.{listed};
 ghost use Rattle.set_index.specs.ListTables.{Distinct};
-ghost use Rattle.encoder.specs.Answers.{sizeAnswer, encodeAnswer, tableOutput};
+ghost use Rattle.encoder.specs.Answers.{size_answer, encode_answer, table_output};
 ghost use Rattle.encoder_slots.specs.Pieces.{Writes, Ready};
 ghost use Rattle.encoder.specs.Refusals.{early};
-ghost use Rattle.encoder.specs.Repeating.{Started, Stepped, Ended, earlyRoom, stepsRoom};
+ghost use Rattle.encoder.specs.Repeating.{Started, Stepped, Ended, early_room, steps_room};
 ghost use Rattle.encoder_size.specs.Sizes.{Limits};
-ghost use Rattle.machine.specs.Runs.{mostSteps};
+ghost use Rattle.machine.specs.Runs.{most_steps};
 
 use encoder_slots::kinds::{CODE, SHARED_MEMORY, WORD_ZERO};
 use encoder_slots::start;
@@ -58,10 +58,10 @@ fn steps(
     bound: u8,
     n: u32,
 ) -> u32
-    requires { (Ready (setBy set.now layout) (listed points) members.now lists.now slots.old n) × (n ≤ earlyRoom) × (bound ≤ mostSteps) }
-    ensures { (Writes (upto (step_of (setBy set.now layout) (listed points)) bound)
+    requires { (Ready (set_by set.now layout) (listed points) members.now lists.now slots.old n) × (n ≤ early_room) × (bound ≤ most_steps) }
+    ensures { (Writes (upto (step_of (set_by set.now layout) (listed points)) bound)
         out.old slots.old n out.new slots.new result)
-        × (result ≤ n + stepsRoom) }
+        × (result ≤ n + steps_room) }
 {
     let mut next = n;
     let mut k: u8 = 0;
@@ -74,7 +74,7 @@ fn steps(
 
 // Writes records 0 to 3: bits 0 and 1, the word 0, the first memory.
 fn firsts(out: &mut [u8])
-    ensures { out.new ≡ writtenAt out.old 0 firstsOf }
+    ensures { out.new ≡ written_at out.old 0 firsts_of }
 {
     let bit0 = Formula {
         operation: CONSTANT,
@@ -102,8 +102,8 @@ fn firsts(out: &mut [u8])
 
 // Writes the constraint of map cell j.
 fn demand(map: &[u8], slots: &[u32], out: &mut [u8], j: u32, n: u32) -> u32
-    requires { n ≤ lastIndex }
-    ensures { (Writes (mapDemand map.now j)
+    requires { n ≤ last_index }
+    ensures { (Writes (map_demand map.now j)
         out.old slots.now n out.new slots.now result)
         × (result ≡ n + 5) }
 {
@@ -158,8 +158,8 @@ fn demand(map: &[u8], slots: &[u32], out: &mut [u8], j: u32, n: u32) -> u32
 
 // Writes the constraints of the map.
 fn demands(map: &[u8], slots: &[u32], out: &mut [u8], n: u32) -> u32
-    requires { (n ≤ earlyRoom) × (cells map.now ≤ setCells) }
-    ensures { (Writes (upto (mapDemand map.now) (cells map.now))
+    requires { (n ≤ early_room) × (cells map.now ≤ set_cells) }
+    ensures { (Writes (upto (map_demand map.now) (cells map.now))
         out.old slots.now n out.new slots.now result)
         × (result ≤ n + 640) }
 {
@@ -183,11 +183,11 @@ fn before_steps(
     slots: &mut [u32],
     out: &mut [u8],
 ) -> u32
-    requires { cells map.now ≤ setCells }
-    ensures { ((lists : List ℕ) → Ready (setBy set.now layout) (listed points) members.now lists slots.old 4
-        → Writes (starting (setBy set.now layout) (listed points) ++ upto (mapDemand map.now) (cells map.now))
+    requires { cells map.now ≤ set_cells }
+    ensures { ((lists : List ℕ) → Ready (set_by set.now layout) (listed points) members.now lists slots.old 4
+        → Writes (starting (set_by set.now layout) (listed points) ++ upto (map_demand map.now) (cells map.now))
         out.old slots.old 4 out.new slots.new result)
-        × (result ≤ earlyRoom) }
+        × (result ≤ early_room) }
 {
     let all = encoder_step::shared(set, layout, members, slots, out, 4);
     demands(map, slots, out, all)
@@ -195,9 +195,9 @@ fn before_steps(
 
 // Writes the goal: the code is not 0.
 fn goal(out: &mut [u8], n: u32, code: u64, zero: u64)
-    requires { n ≤ lastIndex }
-    ensures { (places : Slot → ℕ) → code ≡ places (only codeKind) → zero ≡ places word0
-        → out.new ≡ writtenAt out.old n (compiled same places n (aims goalTree ∷ [])) }
+    requires { n ≤ last_index }
+    ensures { (places : Slot → ℕ) → code ≡ places (only code_kind) → zero ≡ places word0
+        → out.new ≡ written_at out.old n (compiled same places n (aims goal_tree ∷ [])) }
 {
     let at = n as u64;
     let equal = Formula {
@@ -233,7 +233,7 @@ fn goal(out: &mut [u8], n: u32, code: u64, zero: u64)
 
 // Choice bit j of a step: executes by thread, then flushes by thread.
 fn choice_bit(threads: u8, step: u8, j: u8) -> Formula
-    ensures { result ≡ leafFormula (cond (ltb j threads) (choiceBit step 0 j) (choiceBit step 1 (j - threads))) }
+    ensures { result ≡ leaf_formula (cond (ltb j threads) (choice_bit step 0 j) (choice_bit step 1 (j - threads))) }
 {
     if j < threads {
         return Formula {
@@ -257,9 +257,9 @@ fn choice_bit(threads: u8, step: u8, j: u8) -> Formula
 
 // Writes the choice bits of a step.
 fn choice_bits(threads: u8, out: &mut [u8], step: u8, n: u32)
-    requires { (n + (threads + threads) ≤ lastIndex) × (threads ≤ mostThreads) }
-    ensures { out.new ≡ writtenAt out.old n
-        (upto (λ j. leafFormula (cond (ltb j threads) (choiceBit step 0 j) (choiceBit step 1 (j - threads))) ∷ []) (threads + threads)) }
+    requires { (n + (threads + threads) ≤ last_index) × (threads ≤ most_threads) }
+    ensures { out.new ≡ written_at out.old n
+        (upto (λ j. leaf_formula (cond (ltb j threads) (choice_bit step 0 j) (choice_bit step 1 (j - threads))) ∷ []) (threads + threads)) }
 {
     let count = threads + threads;
     let mut j: u8 = 0;
@@ -272,9 +272,9 @@ fn choice_bits(threads: u8, out: &mut [u8], step: u8, n: u32)
 
 // Writes step k by repeating the one before it: its choice bits, and the other records with their operands moved on.
 fn repeated_step(threads: u8, out: &mut [u8], k: u8, first: u32, stride: u32, n: u32)
-    requires { (n + stride ≤ lastIndex) × (threads ≤ mostThreads) × (threads + threads ≤ stride) }
+    requires { (n + stride ≤ last_index) × (threads ≤ most_threads) × (threads + threads ≤ stride) }
     ensures { (S : Set) (cs : List ℕ) (start : Slot → ℕ) (begun : List ℕ) → Started S cs start threads first stride → 2 ≤ k
-        → formulaLength * (n + stride) ≤ length begun → Stepped S cs start first k begun out.old n
+        → formula_length * (n + stride) ≤ length begun → Stepped S cs start first k begun out.old n
         → Stepped S cs start first (k + 1) begun out.new (n + stride) }
 {
     choice_bits(threads, out, k, n);
@@ -284,11 +284,11 @@ fn repeated_step(threads: u8, out: &mut [u8], k: u8, first: u32, stride: u32, n:
 
 // Writes the steps after the second.
 fn repeated_steps(threads: u8, out: &mut [u8], bound: u8, first: u32, stride: u32, n: u32) -> u32
-    requires { (n ≤ earlyRoom + stepsRoom) × (threads ≤ mostThreads) × (threads + threads ≤ stride) × (stride ≤ stepsRoom) × (2 ≤ bound) × (bound ≤ mostSteps) }
+    requires { (n ≤ early_room + steps_room) × (threads ≤ most_threads) × (threads + threads ≤ stride) × (stride ≤ steps_room) × (2 ≤ bound) × (bound ≤ most_steps) }
     ensures { ((S : Set) (cs : List ℕ) (start : Slot → ℕ) (begun : List ℕ) → Started S cs start threads first stride
-        → formulaLength * (first + bound * stride) ≤ length begun → Stepped S cs start first 2 begun out.old n
+        → formula_length * (first + bound * stride) ≤ length begun → Stepped S cs start first 2 begun out.old n
         → Stepped S cs start first bound begun out.new result)
-        × (result ≤ n + stepsRoom * bound) }
+        × (result ≤ n + steps_room * bound) }
 {
     let mut next = n;
     let mut k: u8 = 2;
@@ -303,7 +303,7 @@ fn repeated_steps(threads: u8, out: &mut [u8], bound: u8, first: u32, stride: u3
 // Where a value lies that stays where it lies before record `first`, and else lies further by a distance.
 fn further(x: u64, first: u32, distance: u64) -> u64
     requires { (x ≤ 4294967296) × (distance ≤ 4294967296) }
-    ensures { result ≡ movedBy first distance x }
+    ensures { result ≡ moved_by first distance x }
 {
     if x < (first as u64) {
         return x;
@@ -331,10 +331,10 @@ fn few_steps(
     bound: u8,
     first: u32,
 ) -> Last
-    requires { (Ready (setBy set.now layout) (listed points) members.now lists.now slots.old first) × (first ≤ earlyRoom) × (bound ≤ mostSteps) }
-    ensures { (Ended (setBy set.now layout) (listed points) (place_of slots.old) first bound
+    requires { (Ready (set_by set.now layout) (listed points) members.now lists.now slots.old first) × (first ≤ early_room) × (bound ≤ most_steps) }
+    ensures { (Ended (set_by set.now layout) (listed points) (place_of slots.old) first bound
         out.old out.new result.next result.code result.zero)
-        × (result.next ≤ earlyRoom + stepsRoom) }
+        × (result.next ≤ early_room + steps_room) }
 {
     let next = steps(
         set, layout, points, members, lists, slots, out, bound, first,
@@ -348,13 +348,13 @@ fn few_steps(
 
 // Writes the steps after the second, which repeat the one before.
 fn later_steps(threads: u8, out: &mut [u8], bound: u8, first: u32, second: Last) -> Last
-    requires { (threads ≤ mostThreads) × (2 ≤ bound) × (bound ≤ mostSteps) × (first + 4 * threads ≤ second.next) × (second.next ≤ earlyRoom + stepsRoom)
+    requires { (threads ≤ most_threads) × (2 ≤ bound) × (bound ≤ most_steps) × (first + 4 * threads ≤ second.next) × (second.next ≤ early_room + steps_room)
         × (second.code ≤ 4294967296) × (second.zero ≤ 4294967296) }
     ensures { ((S : Set) (cs : List ℕ) (start : Slot → ℕ) (begun : List ℕ) → S.threads ≡ threads → ((s : Slot) → start s < first)
-        → formulaLength * nextAfter same first (upto (step_of S cs) bound) ≤ length begun
+        → formula_length * next_after same first (upto (step_of S cs) bound) ≤ length begun
         → Ended S cs start first 2 begun out.old second.next second.code second.zero
         → Ended S cs start first bound begun out.new result.next result.code result.zero)
-        × (result.next ≤ lastIndex) }
+        × (result.next ≤ last_index) }
 {
     let next = second.next;
     let stride = (next - first) / 2;
@@ -378,11 +378,11 @@ fn all_steps(
     bound: u8,
     first: u32,
 ) -> Last
-    requires { (Ready (setBy set.now layout) (listed points) members.now lists.now slots.old first) × (first ≤ earlyRoom) × (bound ≤ mostSteps)
-        × (formulaLength * nextAfter same first (upto (step_of (setBy set.now layout) (listed points)) bound) ≤ length out.old) }
-    ensures { (Ended (setBy set.now layout) (listed points) (place_of slots.old) first bound
+    requires { (Ready (set_by set.now layout) (listed points) members.now lists.now slots.old first) × (first ≤ early_room) × (bound ≤ most_steps)
+        × (formula_length * next_after same first (upto (step_of (set_by set.now layout) (listed points)) bound) ≤ length out.old) }
+    ensures { (Ended (set_by set.now layout) (listed points) (place_of slots.old) first bound
         out.old out.new result.next result.code result.zero)
-        × (result.next ≤ lastIndex) }
+        × (result.next ≤ last_index) }
 {
     if bound <= 2 {
         return few_steps(
@@ -397,10 +397,10 @@ fn all_steps(
 
 // Writes a table that fits.
 fn write(set: &[u8], layout: Layout, points: Points, map: &[u8], bound: u8, table: &mut [u8])
-    requires { (Limits layout) × (cells map.now ≤ setCells) × (bound ≤ mostSteps)
-        × (formulaLength * length (encodedOf (setBy set.now layout) (listed points) map.now bound) ≤ length table.old)
+    requires { (Limits layout) × (cells map.now ≤ set_cells) × (bound ≤ most_steps)
+        × (formula_length * length (encoded_of (set_by set.now layout) (listed points) map.now bound) ≤ length table.old)
         × (Distinct (listed points)) }
-    ensures { table.new ≡ writtenAt table.old 0 (encodedOf (setBy set.now layout) (listed points) map.now bound) }
+    ensures { table.new ≡ written_at table.old 0 (encoded_of (set_by set.now layout) (listed points) map.now bound) }
 {
     let mut members = [0u8; set_index::members::LENGTH];
     set_index::members::make(set, layout, &mut members);
@@ -438,7 +438,7 @@ fn refusal_of(layout: Layout, map: &[u8], bound: u64) -> u8
 
 // How many records the table of a set, a map and a bound has.
 pub fn table_size(set: &[u8], map: &[u8], bound: u64) -> TableAnswer
-    ensures { result ≡ sizeAnswer set.now map.now bound }
+    ensures { result ≡ size_answer set.now map.now bound }
 {
     let layout = records::set::layout(set);
     let number = refusal_of(layout, map, bound);
@@ -454,8 +454,8 @@ pub fn table_size(set: &[u8], map: &[u8], bound: u64) -> TableAnswer
 
 // Writes the table of a set, a map and a bound.
 pub fn encode(set: &[u8], map: &[u8], bound: u64, table: &mut [u8]) -> TableAnswer
-    ensures { (result ≡ encodeAnswer set.now map.now bound (length table.old))
-        × (table.new ≡ tableOutput result set.now map.now bound table.old) }
+    ensures { (result ≡ encode_answer set.now map.now bound (length table.old))
+        × (table.new ≡ table_output result set.now map.now bound table.old) }
 {
     let layout = records::set::layout(set);
     let number = refusal_of(layout, map, bound);

@@ -2,10 +2,10 @@
 -- Assumes nothing.
 use Rattle.std.specs.Prelude.{ℕ, ◌+◌, ◌≤◌, ◌≡◌, List, [], ◌∷◌, take}
 use Rattle.table.specs.declared.Formula.{Formula}
-use Rattle.table.specs.Formulas.{writtenAt}
+use Rattle.table.specs.Formulas.{written_at}
 use Rattle.table.specs.Programs.{next, root, records}
-use Rattle.encoding.specs.Slots.{Slot, slot, Term, full, adr, val, sharedMemory}
-use Rattle.encoder_slots.specs.Pieces.{treeRoom}
+use Rattle.encoding.specs.Slots.{Slot, slot, Term, full, adr, val, shared_memory}
+use Rattle.encoder_slots.specs.Pieces.{tree_room}
 use Rattle.encoder_bases.specs.declared.written.Load.{Load}
 use Rattle.encoder_bases.specs.declared.written.WrittenTree.{WrittenTree}
 
@@ -23,21 +23,21 @@ formulas few = take few.count (few.first ∷ few.second ∷ few.third ∷ few.fo
 
 -- these are a tree's records from index n on
 pub record Gives (given : SmallTree) (places : Slot → ℕ) (n : ℕ) (t : Term) : Type 0 where
-  pub formulasAre : formulas given ≡ records places n t []
-  pub rootIs : given.root ≡ root places n t
-  pub countIs : n + given.count ≡ next n t
-  pub few : given.count ≤ treeRoom
+  pub formulas_are : formulas given ≡ records places n t []
+  pub root_is : given.root ≡ root places n t
+  pub count_is : n + given.count ≡ next n t
+  pub few : given.count ≤ tree_room
 
 -- a tree's records are written to an output from index n on
 pub record Puts (put : WrittenTree) (places : Slot → ℕ) (n : ℕ) (t : Term) (out after : List ℕ) : Type 0 where
-  pub written : after ≡ writtenAt out n (records places n t [])
-  pub rootPut : put.root ≡ root places n t
-  pub countPut : n + put.count ≡ next n t
-  pub fewPut : put.count ≤ treeRoom
+  pub written : after ≡ written_at out n (records places n t [])
+  pub root_put : put.root ≡ root places n t
+  pub count_put : n + put.count ≡ next n t
+  pub few_put : put.count ≤ tree_room
 
 -- where the values lie that every load of thread t uses
 abbrev pub load_of : (Slot → ℕ) → ℕ → Load
-load_of at t = record { full = at (slot full t 0); adr = at (slot adr t 0); val = at (slot val t 0); memory = at (slot sharedMemory 0 0) }
+load_of at t = record { full = at (slot full t 0); adr = at (slot adr t 0); val = at (slot val t 0); memory = at (slot shared_memory 0 0) }
 
 -- ---- what the code's parts give
 
@@ -55,8 +55,8 @@ Three few n first second third =
     (few.count ≡ 3) × ((few.root ≡ n + 2) × ((few.first ≡ first) × ((few.second ≡ second) × (few.third ≡ third))))
 
 -- the same as trees
-abbrev pub oneRecord : ℕ → Formula → SmallTree
-oneRecord n first = record { count = 1; root = n; first = first; second = first; third = first; fourth = first }
+abbrev pub one_record : ℕ → Formula → SmallTree
+one_record n first = record { count = 1; root = n; first = first; second = first; third = first; fourth = first }
 
-abbrev pub threeRecords : ℕ → (first second third : Formula) → SmallTree
-threeRecords n first second third = record { count = 3; root = n + 2; first = first; second = second; third = third; fourth = third }
+abbrev pub three_records : ℕ → (first second third : Formula) → SmallTree
+three_records n first second third = record { count = 3; root = n + 2; first = first; second = second; third = third; fourth = third }

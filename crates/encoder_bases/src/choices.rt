@@ -1,10 +1,10 @@
 // The choice bits, and what permits a choice.
 ghost use Rattle.std.specs.Prelude.{◌≡◌, cond, ℕ, ◌-◌, ◌≤◌, eqb, ltb};
-ghost use Rattle.table.specs.Programs.{ref, leaf, binary, ternary, choiceBit, and2, if3};
-ghost use Rattle.encoding.specs.Slots.{Slot, slot, choice, mayExecute, none, full, bitZero, bitOne};
+ghost use Rattle.table.specs.Programs.{ref, leaf, binary, ternary, choice_bit, and2, if3};
+ghost use Rattle.encoding.specs.Slots.{Slot, slot, choice, may_execute, none, full, bit_zero, bit_one};
 ghost use Rattle.encoder_slots.specs.Places.{place_of};
 ghost use Rattle.encoder_bases.specs.SmallTrees.{Puts};
-ghost use Rattle.encoder_slots.specs.Pieces.{treeRoom};
+ghost use Rattle.encoder_slots.specs.Pieces.{tree_room};
 
 use crate::written::{WrittenTree, put_none, put_one};
 use encoder_slots::kinds::{BIT_ONE, BIT_ZERO, CHOICE, FULL, MAY_EXECUTE, NONE};
@@ -17,7 +17,7 @@ const THREADS: u16 = Layout::THREADS as u16;
 
 // Choice bit j of a step: executes by thread, then flushes by thread.
 pub fn put_choice(out: &mut [u8], threads: u8, step: u8, j: u16, n: u32) -> WrittenTree
-    ensures { ((at : Slot → ℕ) → Puts result at n (leaf (cond (ltb j threads) (choiceBit step 0 j) (choiceBit step 1 (j - threads)))) out.old out.new) × (result.count ≤ treeRoom) }
+    ensures { ((at : Slot → ℕ) → Puts result at n (leaf (cond (ltb j threads) (choice_bit step 0 j) (choice_bit step 1 (j - threads)))) out.old out.new) × (result.count ≤ tree_room) }
 {
     let t = threads as u16;
     if j < t {
@@ -37,7 +37,7 @@ pub fn put_choice(out: &mut [u8], threads: u8, step: u8, j: u16, n: u32) -> Writ
 // No choice before choice j is taken.
 pub fn put_none_before(slots: &[u32], out: &mut [u8], j: u16, n: u32) -> WrittenTree
     ensures { (Puts result (place_of slots.now) n
-        (cond (eqb j 0) (ref (slot bitOne 0 0)) (ternary (if3 1) (ref (slot choice 0 (j - 1))) (ref (slot bitZero 0 0)) (ref (slot none 0 (j - 1))))) out.old out.new) × (result.count ≤ treeRoom) }
+        (cond (eqb j 0) (ref (slot bit_one 0 0)) (ternary (if3 1) (ref (slot choice 0 (j - 1))) (ref (slot bit_zero 0 0)) (ref (slot none 0 (j - 1))))) out.old out.new) × (result.count ≤ tree_room) }
 {
     if j == 0 {
         return put_none(slots, BIT_ONE, 0, 0, start::BIT1);
@@ -51,7 +51,7 @@ pub fn put_none_before(slots: &[u32], out: &mut [u8], j: u16, n: u32) -> Written
 
 // Where the bit lies that permits choice j.
 fn permit(slots: &[u32], threads: u8, j: u16) -> u64
-    ensures { result ≡ place_of slots.now (cond (ltb j threads) (slot mayExecute j 0) (slot full (j - threads) 0)) }
+    ensures { result ≡ place_of slots.now (cond (ltb j threads) (slot may_execute j 0) (slot full (j - threads) 0)) }
 {
     let t = threads as u16;
     if j < t {
@@ -73,7 +73,7 @@ pub fn put_permitted_first(
     n: u32,
 ) -> WrittenTree
     ensures { (Puts result (place_of slots.now) n
-        (binary and2 (ref (cond (ltb j threads) (slot mayExecute j 0) (slot full (j - threads) 0))) (ref (slot none 0 j))) out.old out.new) × (result.count ≤ treeRoom) }
+        (binary and2 (ref (cond (ltb j threads) (slot may_execute j 0) (slot full (j - threads) 0))) (ref (slot none 0 j))) out.old out.new) × (result.count ≤ tree_room) }
 {
     let permitted = permit(slots, threads, j);
     let none = place(slots, NONE, 0, j, start::BIT0);

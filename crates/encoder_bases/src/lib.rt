@@ -1,13 +1,13 @@
 // The bases of a table's trees (crate encoding, `base`), written: at most four records each.
 ghost use Rattle.std.specs.Prelude.{◌≡◌, false, List, ℕ, ◌≤◌};
 ghost use Rattle.records.specs.Sets.{Set};
-ghost use Rattle.encoding.specs.Slots.{kind_at, kindNumber, flag};
+ghost use Rattle.encoding.specs.Slots.{kind_at, kind_number, flag};
 ghost use Rattle.encoding.specs.Steps.{base as base_of};
 ghost use Rattle.encoder_slots.specs.Places.{place_of};
 ghost use Rattle.encoder_bases.specs.SmallTrees.{Puts};
-ghost use Rattle.encoder_slots.specs.Places.{ofStatement};
-ghost use Rattle.table.specs.Repeats.{lastIndex};
-ghost use Rattle.encoder_slots.specs.Pieces.{treeRoom};
+ghost use Rattle.encoder_slots.specs.Places.{of_statement};
+ghost use Rattle.table.specs.Repeats.{last_index};
+ghost use Rattle.encoder_slots.specs.Pieces.{tree_room};
 
 mod choices;
 mod state;
@@ -36,8 +36,8 @@ pub fn put_base(
     b: u16,
     n: u32,
 ) -> WrittenTree
-    ensures { ((S : Set) (cs : List ℕ) → S.threads ≡ threads → ofStatement kind ≡ false → (kind ≡ kindNumber flag → ⊥) → n ≤ lastIndex
-        → Puts result (place_of slots.now) n (base_of S cs step (kind_at kind) a b) out.old out.new) × (result.count ≤ treeRoom) }
+    ensures { ((S : Set) (cs : List ℕ) → S.threads ≡ threads → of_statement kind ≡ false → (kind ≡ kind_number flag → ⊥) → n ≤ last_index
+        → Puts result (place_of slots.now) n (base_of S cs step (kind_at kind) a b) out.old out.new) × (result.count ≤ tree_room) }
 {
     match kind {
         kinds::CHOICE => put_choice(out, threads, step, b, n),

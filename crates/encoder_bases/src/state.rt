@@ -1,11 +1,11 @@
 // The values of marks, threads and the machine.
 ghost use Rattle.std.specs.Prelude.{◌+◌, ◌≤◌};
 ghost use Rattle.table.specs.Programs.{ref, unary, binary, ternary, not1, and2, or2, read2, if3, write3};
-ghost use Rattle.encoding.specs.Slots.{slot, choice, opening, barred, waits, writeTo, writeValue, sharedMemory, full, bitZero};
+ghost use Rattle.encoding.specs.Slots.{slot, choice, opening, barred, waits, write_to, write_value, shared_memory, full, bit_zero};
 ghost use Rattle.encoder_slots.specs.Places.{place_of};
 ghost use Rattle.encoder_bases.specs.SmallTrees.{Puts};
-ghost use Rattle.table.specs.Repeats.{lastIndex};
-ghost use Rattle.encoder_slots.specs.Pieces.{treeRoom};
+ghost use Rattle.table.specs.Repeats.{last_index};
+ghost use Rattle.encoder_slots.specs.Pieces.{tree_room};
 
 use crate::written::{WrittenTree, formula, put_one, put_three};
 use encoder_slots::kinds::{
@@ -16,7 +16,7 @@ use table::operations::{AND, BIT, IF, MEMORY, NOT, OR, READ, WORD, WRITE};
 
 // Checkpoint p is not open.
 pub fn put_shut(slots: &[u32], out: &mut [u8], p: u16, n: u32) -> WrittenTree
-    ensures { (Puts result (place_of slots.now) n (unary not1 (ref (slot opening 0 p))) out.old out.new) × (result.count ≤ treeRoom) }
+    ensures { (Puts result (place_of slots.now) n (unary not1 (ref (slot opening 0 p))) out.old out.new) × (result.count ≤ tree_room) }
 {
     let opening = place(slots, OPENING, 0, p, start::BIT0);
     put_one(out, n, NOT, BIT, opening, 0, 0)
@@ -24,8 +24,8 @@ pub fn put_shut(slots: &[u32], out: &mut [u8], p: u16, n: u32) -> WrittenTree
 
 // Thread t may execute.
 pub fn put_may_execute(slots: &[u32], out: &mut [u8], t: u8, n: u32) -> WrittenTree
-    ensures { (n ≤ lastIndex → Puts result (place_of slots.now) n
-        (unary not1 (binary or2 (binary and2 (ref (slot full t 0)) (ref (slot barred t 0))) (ref (slot waits t 0)))) out.old out.new) × (result.count ≤ treeRoom) }
+    ensures { (n ≤ last_index → Puts result (place_of slots.now) n
+        (unary not1 (binary or2 (binary and2 (ref (slot full t 0)) (ref (slot barred t 0))) (ref (slot waits t 0)))) out.old out.new) × (result.count ≤ tree_room) }
 {
     let k = n as u64;
     let next = k + 1;
@@ -41,7 +41,7 @@ pub fn put_may_execute(slots: &[u32], out: &mut [u8], t: u8, n: u32) -> WrittenT
 // Thread t's buffer is full unless it is flushed.
 pub fn put_full(slots: &[u32], out: &mut [u8], threads: u8, t: u8, n: u32) -> WrittenTree
     ensures { (Puts result (place_of slots.now) n
-        (ternary (if3 1) (ref (slot choice 0 (threads + t))) (ref (slot bitZero 0 0)) (ref (slot full t 0))) out.old out.new) × (result.count ≤ treeRoom) }
+        (ternary (if3 1) (ref (slot choice 0 (threads + t))) (ref (slot bit_zero 0 0)) (ref (slot full t 0))) out.old out.new) × (result.count ≤ tree_room) }
 {
     let j = (threads as u16) + (t as u16);
     let flushes = place(slots, CHOICE, 0, j, start::BIT0);
@@ -52,7 +52,7 @@ pub fn put_full(slots: &[u32], out: &mut [u8], threads: u8, t: u8, n: u32) -> Wr
 
 // The cell that is written, as it is.
 pub fn put_flush_value(slots: &[u32], out: &mut [u8], threads: u8, n: u32) -> WrittenTree
-    ensures { (Puts result (place_of slots.now) n (binary read2 (ref (slot sharedMemory 0 0)) (ref (slot writeTo 0 threads))) out.old out.new) × (result.count ≤ treeRoom) }
+    ensures { (Puts result (place_of slots.now) n (binary read2 (ref (slot shared_memory 0 0)) (ref (slot write_to 0 threads))) out.old out.new) × (result.count ≤ tree_room) }
 {
     let memory = place(slots, SHARED_MEMORY, 0, 0, start::MEMORY);
     let address = place(slots, WRITE_TO, 0, threads as u16, start::WORD0);
@@ -62,7 +62,7 @@ pub fn put_flush_value(slots: &[u32], out: &mut [u8], threads: u8, n: u32) -> Wr
 // The memory with the cell written.
 pub fn put_memory(slots: &[u32], out: &mut [u8], threads: u8, n: u32) -> WrittenTree
     ensures { (Puts result (place_of slots.now) n
-        (ternary write3 (ref (slot sharedMemory 0 0)) (ref (slot writeTo 0 threads)) (ref (slot writeValue 0 threads))) out.old out.new) × (result.count ≤ treeRoom) }
+        (ternary write3 (ref (slot shared_memory 0 0)) (ref (slot write_to 0 threads)) (ref (slot write_value 0 threads))) out.old out.new) × (result.count ≤ tree_room) }
 {
     let memory = place(slots, SHARED_MEMORY, 0, 0, start::MEMORY);
     let address = place(slots, WRITE_TO, 0, threads as u16, start::WORD0);

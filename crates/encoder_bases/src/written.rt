@@ -1,11 +1,11 @@
 // Trees of few records from the indexes of their operands, written as they are made.
 ghost use Rattle.std.specs.Prelude.{◌≡◌, List, cond, ℕ, ◌+◌, ◌-◌, ◌≤◌, eqb};
-ghost use Rattle.table.specs.Programs.{Binary, binaryNumber, binarySort, ref, leaf, binary, ternary, constantWord, and2, equal2, read2, if3};
-ghost use Rattle.encoding.specs.Slots.{Kind, Slot, slot, Term, kindNumber, startPlace, full, adr, val, sharedMemory};
+ghost use Rattle.table.specs.Programs.{Binary, binary_number, binary_sort, ref, leaf, binary, ternary, constant_word, and2, equal2, read2, if3};
+ghost use Rattle.encoding.specs.Slots.{Kind, Slot, slot, Term, kind_number, start_place, full, adr, val, shared_memory};
 ghost use Rattle.encoder_slots.specs.Places.{place_of};
-ghost use Rattle.encoder_bases.specs.SmallTrees.{Gives, Puts, load_of, plain, oneRecord, threeRecords};
-ghost use Rattle.table.specs.Repeats.{lastIndex};
-ghost use Rattle.encoder_slots.specs.Pieces.{treeRoom};
+ghost use Rattle.encoder_bases.specs.SmallTrees.{Gives, Puts, load_of, plain, one_record, three_records};
+ghost use Rattle.table.specs.Repeats.{last_index};
+ghost use Rattle.encoder_slots.specs.Pieces.{tree_room};
 
 use encoder_slots::kinds::{ADR, FULL, SHARED_MEMORY, VAL};
 use encoder_slots::{place, start};
@@ -24,7 +24,7 @@ const TREE: u32 = 4;
 
 // The index k places on; the last indexes are never reached.
 fn after(n: u32, k: u32) -> u32
-    ensures { n ≤ lastIndex → k ≤ treeRoom → result ≡ n + k }
+    ensures { n ≤ last_index → k ≤ tree_room → result ≡ n + k }
 {
     if k <= TREE {
         if n <= Formula::LAST {
@@ -50,7 +50,7 @@ pub fn formula(operation: u8, sort: u8, a: u64, b: u64, c: u64) -> Formula
 
 // No record: the tree is another value, which lies at `start` unless it was set.
 pub fn put_none(slots: &[u32], kind: u8, a: u8, b: u16, start: u64) -> WrittenTree
-    ensures { ((n : ℕ) (k : Kind) (out : List ℕ) → kind ≡ kindNumber k → start ≡ startPlace (slot k a b) → Puts result (place_of slots.now) n (ref (slot k a b)) out out) × (result.count ≤ treeRoom) }
+    ensures { ((n : ℕ) (k : Kind) (out : List ℕ) → kind ≡ kind_number k → start ≡ start_place (slot k a b) → Puts result (place_of slots.now) n (ref (slot k a b)) out out) × (result.count ≤ tree_room) }
 {
     let root = place(slots, kind, a, b, start);
     WrittenTree { count: 0, root }
@@ -58,7 +58,7 @@ pub fn put_none(slots: &[u32], kind: u8, a: u8, b: u16, start: u64) -> WrittenTr
 
 // No record: the tree is another value, which lies at `root`.
 pub fn put_at(root: u64) -> WrittenTree
-    ensures { ((at : Slot → ℕ) (n : ℕ) (s : Slot) (out : List ℕ) → root ≡ at s → Puts result at n (ref s) out out) × (result.count ≤ treeRoom) }
+    ensures { ((at : Slot → ℕ) (n : ℕ) (s : Slot) (out : List ℕ) → root ≡ at s → Puts result at n (ref s) out out) × (result.count ≤ tree_room) }
 {
     WrittenTree { count: 0, root }
 }
@@ -73,7 +73,7 @@ pub fn put_one(
     b: u64,
     c: u64,
 ) -> WrittenTree
-    ensures { ((at : Slot → ℕ) (t : Term) → Gives (oneRecord n (plain operation sort a b c)) at n t → Puts result at n t out.old out.new) × (result.count ≤ treeRoom) }
+    ensures { ((at : Slot → ℕ) (t : Term) → Gives (one_record n (plain operation sort a b c)) at n t → Puts result at n t out.old out.new) × (result.count ≤ tree_room) }
 {
     let first = formula(operation, sort, a, b, c);
     table::put(out, n, first);
@@ -85,7 +85,7 @@ pub fn put_one(
 
 // A word that is known.
 pub fn put_constant(out: &mut [u8], n: u32, word: u16) -> WrittenTree
-    ensures { ((at : Slot → ℕ) → Puts result at n (leaf (constantWord word)) out.old out.new) × (result.count ≤ treeRoom) }
+    ensures { ((at : Slot → ℕ) → Puts result at n (leaf (constant_word word)) out.old out.new) × (result.count ≤ tree_room) }
 {
     let first = Formula {
         operation: CONSTANT,
@@ -110,7 +110,7 @@ pub fn put_three(
     second: Formula,
     third: Formula,
 ) -> WrittenTree
-    ensures { ((at : Slot → ℕ) (t : Term) → n ≤ lastIndex → Gives (threeRecords n first second third) at n t → Puts result at n t out.old out.new) × (result.count ≤ treeRoom) }
+    ensures { ((at : Slot → ℕ) (t : Term) → n ≤ last_index → Gives (three_records n first second third) at n t → Puts result at n t out.old out.new) × (result.count ≤ tree_room) }
 {
     table::put(out, n, first);
     table::put(out, after(n, 1), second);
@@ -148,8 +148,8 @@ pub fn load_of(slots: &[u32], t: u8) -> Load
 
 // A load of the address at index x: if full and adr is x then val else the cell.
 pub fn put_load(out: &mut [u8], load: Load, x: u64, n: u32) -> WrittenTree
-    ensures { ((at : Slot → ℕ) (t : ℕ) (s : Slot) → load ≡ load_of at t → x ≡ at s → n ≤ lastIndex → Puts result at n
-        (ternary (if3 2) (binary and2 (ref (slot full t 0)) (binary equal2 (ref (slot adr t 0)) (ref s))) (ref (slot val t 0)) (binary read2 (ref (slot sharedMemory 0 0)) (ref s))) out.old out.new) × (result.count ≤ treeRoom) }
+    ensures { ((at : Slot → ℕ) (t : ℕ) (s : Slot) → load ≡ load_of at t → x ≡ at s → n ≤ last_index → Puts result at n
+        (ternary (if3 2) (binary and2 (ref (slot full t 0)) (binary equal2 (ref (slot adr t 0)) (ref s))) (ref (slot val t 0)) (binary read2 (ref (slot shared_memory 0 0)) (ref s))) out.old out.new) × (result.count ≤ tree_room) }
 {
     let k = n as u64;
     let root = k + 3;
@@ -166,8 +166,8 @@ pub fn put_load(out: &mut [u8], load: Load, x: u64, n: u32) -> WrittenTree
 
 // No record: the tree is the value of one kind for the thread before t, or before the first thread the value of another kind.
 pub fn put_previous(slots: &[u32], kind: u8, first: u8, t: u16, start: u64) -> WrittenTree
-    ensures { ((n : ℕ) (k l : Kind) (out : List ℕ) → kind ≡ kindNumber k → first ≡ kindNumber l → start ≡ startPlace (slot k 0 (t - 1)) → start ≡ startPlace (slot l 0 0)
-        → Puts result (place_of slots.now) n (ref (cond (eqb t 0) (slot l 0 0) (slot k 0 (t - 1)))) out out) × (result.count ≤ treeRoom) }
+    ensures { ((n : ℕ) (k l : Kind) (out : List ℕ) → kind ≡ kind_number k → first ≡ kind_number l → start ≡ start_place (slot k 0 (t - 1)) → start ≡ start_place (slot l 0 0)
+        → Puts result (place_of slots.now) n (ref (cond (eqb t 0) (slot l 0 0) (slot k 0 (t - 1)))) out out) × (result.count ≤ tree_room) }
 {
     if t == 0 {
         return put_none(slots, first, 0, 0, start);
@@ -188,8 +188,8 @@ pub fn put_joined(
     d: u16,
     n: u32,
 ) -> WrittenTree
-    ensures { ((o : Binary) (k l : Kind) → operation ≡ binaryNumber o → 1 ≡ binarySort o → kind ≡ kindNumber k → other ≡ kindNumber l
-        → 0 ≡ startPlace (slot k a b) → 0 ≡ startPlace (slot l c d) → Puts result (place_of slots.now) n (binary o (ref (slot k a b)) (ref (slot l c d))) out.old out.new) × (result.count ≤ treeRoom) }
+    ensures { ((o : Binary) (k l : Kind) → operation ≡ binary_number o → 1 ≡ binary_sort o → kind ≡ kind_number k → other ≡ kind_number l
+        → 0 ≡ start_place (slot k a b) → 0 ≡ start_place (slot l c d) → Puts result (place_of slots.now) n (binary o (ref (slot k a b)) (ref (slot l c d))) out.old out.new) × (result.count ≤ tree_room) }
 {
     let first = place(slots, kind, a, b, start::BIT0);
     let second = place(slots, other, c, d, start::BIT0);

@@ -6,30 +6,30 @@ use mathlib.Core.List.{List, [], ◌∷◌}
 use lib.Dec.{eqb}
 use borrow.Author.Tests.{eqb-true}
 use Rattle.records.specs.Sets.{Set}
-use Rattle.encoding.specs.Slots.{kinds, kind_at, kindNumber, flushTo, flushValue, halts, onePermitted}
+use Rattle.encoding.specs.Slots.{kinds, kind_at, kind_number, flush_to, flush_value, halts, one_permitted}
 use Rattle.encoding.specs.Steps.{links}
 use Rattle.encoder_chains.specs.Chained.{chained}
 use Rattle.base.proofs.Choice.{either}
 use Rattle.encoder_slots.proofs.Matches.{Apart}
 
 -- what holds of each of the four
-each : (P : ℕ → Type 0) → P (kindNumber onePermitted) → P (kindNumber flushTo) → P (kindNumber flushValue) → P (kindNumber halts) → (n : ℕ) → chained n ≡ true → P n
+each : (P : ℕ → Type 0) → P (kind_number one_permitted) → P (kind_number flush_to) → P (kind_number flush_value) → P (kind_number halts) → (n : ℕ) → chained n ≡ true → P n
 each P one two three four n e =
-    either (eqb n (kindNumber onePermitted) || eqb n (kindNumber flushTo) || eqb n (kindNumber flushValue)) (eqb n (kindNumber halts)) e
-    (λ e. either (eqb n (kindNumber onePermitted) || eqb n (kindNumber flushTo)) (eqb n (kindNumber flushValue)) e
-    (λ e. either (eqb n (kindNumber onePermitted)) (eqb n (kindNumber flushTo)) e (λ h. subst P (sym (eqb-true n (kindNumber onePermitted) h)) one) (λ h. subst P (sym (eqb-true n (kindNumber flushTo) h)) two))
-    (λ h. subst P (sym (eqb-true n (kindNumber flushValue) h)) three))
-    (λ h. subst P (sym (eqb-true n (kindNumber halts) h)) four)
+    either (eqb n (kind_number one_permitted) || eqb n (kind_number flush_to) || eqb n (kind_number flush_value)) (eqb n (kind_number halts)) e
+    (λ e. either (eqb n (kind_number one_permitted) || eqb n (kind_number flush_to)) (eqb n (kind_number flush_value)) e
+    (λ e. either (eqb n (kind_number one_permitted)) (eqb n (kind_number flush_to)) e (λ h. subst P (sym (eqb-true n (kind_number one_permitted) h)) one) (λ h. subst P (sym (eqb-true n (kind_number flush_to) h)) two))
+    (λ h. subst P (sym (eqb-true n (kind_number flush_value) h)) three))
+    (λ h. subst P (sym (eqb-true n (kind_number halts) h)) four)
 
 -- the last one, as a `match` leaves it
-pub chained-last : (n : ℕ) → chained n ≡ true → Apart n (kindNumber flushValue ∷ kindNumber flushTo ∷ kindNumber onePermitted ∷ []) → n ≡ kindNumber halts
+pub chained-last : (n : ℕ) → chained n ≡ true → Apart n (kind_number flush_value ∷ kind_number flush_to ∷ kind_number one_permitted ∷ []) → n ≡ kind_number halts
 chained-last =
-    each (λ (n : ℕ). Apart n (kindNumber flushValue ∷ kindNumber flushTo ∷ kindNumber onePermitted ∷ []) → n ≡ kindNumber halts)
+    each (λ (n : ℕ). Apart n (kind_number flush_value ∷ kind_number flush_to ∷ kind_number one_permitted ∷ []) → n ≡ kind_number halts)
     (λ r. absurd (r.0.0.1 refl)) (λ r. absurd (r.0.1 refl)) (λ r. absurd (r.1 refl)) (λ r. refl)
 
 -- all but the first have a link for each thread
-pub chained-links : (S : Set) (cs : List ℕ) (n : ℕ) → chained n ≡ true → (n ≡ kindNumber onePermitted → ⊥) → links S cs 0 (kind_at n) 0 0 ≡ S.threads
+pub chained-links : (S : Set) (cs : List ℕ) (n : ℕ) → chained n ≡ true → (n ≡ kind_number one_permitted → ⊥) → links S cs 0 (kind_at n) 0 0 ≡ S.threads
 unfolding kinds
 chained-links S cs =
-    each (λ (n : ℕ). (n ≡ kindNumber onePermitted → ⊥) → links S cs 0 (kind_at n) 0 0 ≡ S.threads)
+    each (λ (n : ℕ). (n ≡ kind_number one_permitted → ⊥) → links S cs 0 (kind_at n) 0 0 ≡ S.threads)
     (λ r. absurd (r refl)) (λ r. refl) (λ r. refl) (λ r. refl)

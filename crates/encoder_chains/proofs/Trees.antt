@@ -7,13 +7,13 @@ use native.Mathlib.Omega.{arith}
 use lib.ListN.{length}
 use Rattle.base.specs.Bytes.{placed}
 use Rattle.table.specs.declared.Formula.{Formula}
-use Rattle.table.specs.Formulas.{formulaBytes, writtenAt, bitSort, AND, OR, IF}
+use Rattle.table.specs.Formulas.{formula_bytes, written_at, bit_sort, AND, OR, IF}
 use Rattle.table.specs.Programs.{next, root, records}
 use Rattle.table.proofs.Sequences.{records-rest, records-length}
 use Rattle.table.proofs.Written.{written-++}
 use Rattle.encoding.specs.Slots.{Slot, Term}
-use Rattle.encoding.specs.Steps.{Link as ChainLink, skip, ifThen, andWith, orWith, linked, chain}
-use Rattle.encoder_chains.specs.Placed.{placedLink}
+use Rattle.encoding.specs.Steps.{Link as ChainLink, skip, if_then, and_with, or_with, linked, chain}
+use Rattle.encoder_chains.specs.Placed.{placed_link}
 use Rattle.encoder_chains.specs.declared.Link.{Link}
 use Rattle.encoder_slots.specs.Pieces.{WritesTree}
 
@@ -22,84 +22,84 @@ use Rattle.encoder_slots.specs.Pieces.{WritesTree}
 module _ (places : Slot → ℕ) where
   -- a tree's records and one more
   pub written_one : (t : Term) (out : List ℕ) (n : ℕ) (f : Formula) →
-      writtenAt out n (records places n t (f ∷ [])) ≡ placed (writtenAt out n (records places n t [])) (16 * next n t) (formulaBytes f)
-  unfolding writtenAt
+      written_at out n (records places n t (f ∷ [])) ≡ placed (written_at out n (records places n t [])) (16 * next n t) (formula_bytes f)
+  unfolding written_at
   written_one t out n f =
       let e : n + length (records places n t []) ≡ next n t = let p = records-length places n t [] in omega arith in
-      ap (writtenAt out n) (records-rest places n t (f ∷ []))
+      ap (written_at out n) (records-rest places n t (f ∷ []))
       ∙ (written-++ out n (records places n t []) (f ∷ [])
-      ∙ ap (λ (m : ℕ). placed (writtenAt out n (records places n t [])) (16 * m) (formulaBytes f)) e)
+      ∙ ap (λ (m : ℕ). placed (written_at out n (records places n t [])) (16 * m) (formula_bytes f)) e)
 
   one : (t : Term) (out now : List ℕ) (n m at : ℕ) → WritesTree places t out n now m at → (f : Formula) →
-      placed now (16 * m) (formulaBytes f) ≡ writtenAt out n (records places n t (f ∷ []))
-  one t out now n m at w f = (λ i. placed (w.treeWritten i) (16 * w.treeNext i) (formulaBytes f)) ∙ sym (written_one t out n f)
+      placed now (16 * m) (formula_bytes f) ≡ written_at out n (records places n t (f ∷ []))
+  one t out now n m at w f = (λ i. placed (w.tree_written i) (16 * w.tree_next i) (formula_bytes f)) ∙ sym (written_one t out n f)
 
   module _ (t : Term) (out now : List ℕ) (n m at : ℕ) (w : WritesTree places t out n now m at) where
     -- a link that adds nothing
-    none : (l : ChainLink) → (placedLink places l).operation ≡ 0 → WritesTree places (linked l t) out n now m at
+    none : (l : ChainLink) → (placed_link places l).operation ≡ 0 → WritesTree places (linked l t) out n now m at
     none skip e = w
-    none (ifThen sort x y) e = absurd (omega arith)
-    none (andWith s) e = absurd (omega arith)
-    none (orWith s) e = absurd (omega arith)
+    none (if_then sort x y) e = absurd (omega arith)
+    none (and_with s) e = absurd (omega arith)
+    none (or_with s) e = absurd (omega arith)
 
-    abbrev ifOf : Link → Formula
-    ifOf link = record { operation = link.operation; sort = link.sort; constant = 0; a = link.a; b = link.b; c = at }
+    abbrev if_of : Link → Formula
+    if_of link = record { operation = link.operation; sort = link.sort; constant = 0; a = link.a; b = link.b; c = at }
 
-    test : (l : ChainLink) → (placedLink places l).operation ≡ IF →
-        WritesTree places (linked l t) out n (placed now (16 * m) (formulaBytes (ifOf (placedLink places l)))) (suc m) m
+    test : (l : ChainLink) → (placed_link places l).operation ≡ IF →
+        WritesTree places (linked l t) out n (placed now (16 * m) (formula_bytes (if_of (placed_link places l)))) (suc m) m
     unfolding records next root
     test skip e = absurd (omega arith)
-    test (ifThen sort x y) e = record {
-      treeWritten = ap (λ (c : ℕ). placed now (16 * m) (formulaBytes (record { operation = IF; sort = sort; constant = 0; a = places x; b = places y; c = c }))) w.treeRoot
+    test (if_then sort x y) e = record {
+      tree_written = ap (λ (c : ℕ). placed now (16 * m) (formula_bytes (record { operation = IF; sort = sort; constant = 0; a = places x; b = places y; c = c }))) w.tree_root
           ∙ one t out now n m at w _;
-      treeNext = ap suc w.treeNext;
-      treeRoot = w.treeNext;
+      tree_next = ap suc w.tree_next;
+      tree_root = w.tree_next;
     }
-    test (andWith s) e = absurd (omega arith)
-    test (orWith s) e = absurd (omega arith)
+    test (and_with s) e = absurd (omega arith)
+    test (or_with s) e = absurd (omega arith)
 
-    abbrev joinedOf : Link → Formula
-    joinedOf link = record { operation = link.operation; sort = link.sort; constant = 0; a = link.a; b = at; c = 0 }
+    abbrev joined_of : Link → Formula
+    joined_of link = record { operation = link.operation; sort = link.sort; constant = 0; a = link.a; b = at; c = 0 }
 
-    joined : (l : ChainLink) → ((placedLink places l).operation ≡ 0 → ⊥) → ((placedLink places l).operation ≡ IF → ⊥) →
-        WritesTree places (linked l t) out n (placed now (16 * m) (formulaBytes (joinedOf (placedLink places l)))) (suc m) m
+    joined : (l : ChainLink) → ((placed_link places l).operation ≡ 0 → ⊥) → ((placed_link places l).operation ≡ IF → ⊥) →
+        WritesTree places (linked l t) out n (placed now (16 * m) (formula_bytes (joined_of (placed_link places l)))) (suc m) m
     unfolding records next root
     joined skip z f = absurd (z refl)
-    joined (ifThen sort x y) z f = absurd (f refl)
-    joined (andWith s) z f = record {
-      treeWritten = ap (λ (b : ℕ). placed now (16 * m) (formulaBytes (record { operation = AND; sort = bitSort; constant = 0; a = places s; b = b; c = 0 }))) w.treeRoot
+    joined (if_then sort x y) z f = absurd (f refl)
+    joined (and_with s) z f = record {
+      tree_written = ap (λ (b : ℕ). placed now (16 * m) (formula_bytes (record { operation = AND; sort = bit_sort; constant = 0; a = places s; b = b; c = 0 }))) w.tree_root
           ∙ one t out now n m at w _;
-      treeNext = ap suc w.treeNext;
-      treeRoot = w.treeNext;
+      tree_next = ap suc w.tree_next;
+      tree_root = w.tree_next;
     }
-    joined (orWith s) z f = record {
-      treeWritten = ap (λ (b : ℕ). placed now (16 * m) (formulaBytes (record { operation = OR; sort = bitSort; constant = 0; a = places s; b = b; c = 0 }))) w.treeRoot
+    joined (or_with s) z f = record {
+      tree_written = ap (λ (b : ℕ). placed now (16 * m) (formula_bytes (record { operation = OR; sort = bit_sort; constant = 0; a = places s; b = b; c = 0 }))) w.tree_root
           ∙ one t out now n m at w _;
-      treeNext = ap suc w.treeNext;
-      treeRoot = w.treeNext;
+      tree_next = ap suc w.tree_next;
+      tree_root = w.tree_next;
     }
 
     -- the same for a link as the code has it
-    module _ (link : Link) (l : ChainLink) (e : link ≡ placedLink places l) where
-      operations : link.operation ≡ (placedLink places l).operation
+    module _ (link : Link) (l : ChainLink) (e : link ≡ placed_link places l) where
+      operations : link.operation ≡ (placed_link places l).operation
       operations = ap (λ (x : Link). x.operation) e
 
       pub link-none : link.operation ≡ 0 → WritesTree places (linked l t) out n now m at
       link-none z = none l (sym operations ∙ z)
 
-      pub link-if : (after : List ℕ) → after ≡ placed now (16 * m) (formulaBytes (ifOf link)) → link.operation ≡ IF → WritesTree places (linked l t) out n after (m + 1) m
-      link-if after put f = let r = test l (sym operations ∙ f) in record {
-        treeWritten = put ∙ (ap (λ (x : Link). placed now (16 * m) (formulaBytes (ifOf x))) e ∙ r.treeWritten);
-        treeNext = add-one m ∙ r.treeNext;
-        treeRoot = r.treeRoot;
+      pub link_if : (after : List ℕ) → after ≡ placed now (16 * m) (formula_bytes (if_of link)) → link.operation ≡ IF → WritesTree places (linked l t) out n after (m + 1) m
+      link_if after put f = let r = test l (sym operations ∙ f) in record {
+        tree_written = put ∙ (ap (λ (x : Link). placed now (16 * m) (formula_bytes (if_of x))) e ∙ r.tree_written);
+        tree_next = add-one m ∙ r.tree_next;
+        tree_root = r.tree_root;
       }
 
-      pub link-joined : (after : List ℕ) → after ≡ placed now (16 * m) (formulaBytes (joinedOf link)) → (link.operation ≡ 0 → ⊥) → (link.operation ≡ IF → ⊥) →
+      pub link-joined : (after : List ℕ) → after ≡ placed now (16 * m) (formula_bytes (joined_of link)) → (link.operation ≡ 0 → ⊥) → (link.operation ≡ IF → ⊥) →
           WritesTree places (linked l t) out n after (m + 1) m
       link-joined after put z f = let r = joined l (λ p. z (operations ∙ p)) (λ p. f (operations ∙ p)) in record {
-        treeWritten = put ∙ (ap (λ (x : Link). placed now (16 * m) (formulaBytes (joinedOf x))) e ∙ r.treeWritten);
-        treeNext = add-one m ∙ r.treeNext;
-        treeRoot = r.treeRoot;
+        tree_written = put ∙ (ap (λ (x : Link). placed now (16 * m) (formula_bytes (joined_of x))) e ∙ r.tree_written);
+        tree_next = add-one m ∙ r.tree_next;
+        tree_root = r.tree_root;
       }
 
 -- ---- chains

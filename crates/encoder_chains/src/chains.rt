@@ -1,13 +1,13 @@
 // The chains of single values, of OPENING, of WAITS and of RAISED, each written at once over a tree.
 ghost use Rattle.std.specs.Prelude.{◌≡◌, true, List, ℕ, ◌+◌, ◌*◌, ◌≤◌, ◌<◌, length};
-ghost use Rattle.records.specs.Sets.{Set, mostThreads};
+ghost use Rattle.records.specs.Sets.{Set, most_threads};
 ghost use Rattle.encoding.specs.Slots.{Term, kind_at, opening, waits, raised};
-ghost use Rattle.encoding.specs.Steps.{link as link_of, links as linksOf, chain as chainOf};
-ghost use Rattle.encoder_slots.specs.Pieces.{WritesTree, Ready, chainRoom};
+ghost use Rattle.encoding.specs.Steps.{link as link_of, links as links_of, chain as chain_of};
+ghost use Rattle.encoder_slots.specs.Pieces.{WritesTree, Ready, chain_room};
 ghost use Rattle.encoder_slots.specs.Places.{place_of};
 ghost use Rattle.encoder_chains.specs.Chained.{chained};
-ghost use Rattle.encoder_chains.specs.Placed.{placedLink};
-ghost use Rattle.table.specs.Repeats.{lastIndex};
+ghost use Rattle.encoder_chains.specs.Placed.{placed_link};
+ghost use Rattle.table.specs.Repeats.{last_index};
 
 use crate::Link;
 use crate::parts::{bit_if, contained, flushed, halts, one_permitted};
@@ -30,11 +30,11 @@ pub fn raised_chain(
     n: u32,
     base: u64,
 ) -> Root
-    ensures { ((S : Set) (cs members : List ℕ) (tree : Term) (start : List ℕ) (m : ℕ) → t < S.threads → p < length cs → n + chainRoom ≤ lastIndex
+    ensures { ((S : Set) (cs members : List ℕ) (tree : Term) (start : List ℕ) (m : ℕ) → t < S.threads → p < length cs → n + chain_room ≤ last_index
         → Ready S cs members table.now slots.now m
         → WritesTree (place_of slots.now) tree start m out.old n base
-        → WritesTree (place_of slots.now) (chainOf (link_of S cs 0 raised t p) (S.count t) tree) start m out.new result.next result.at)
-        × (result.next ≤ n + chainRoom) }
+        → WritesTree (place_of slots.now) (chain_of (link_of S cs 0 raised t p) (S.count t) tree) start m out.new result.next result.at)
+        × (result.next ≤ n + chain_room) }
 {
     let mut tree = Root { next: n, at: base };
     // With these known, the compiler drops the tests of places in the loop.
@@ -58,8 +58,8 @@ pub fn raised_chain(
 
 // How many links the chain of a value that there is one of has.
 fn single_links(threads: u8, kind: u8) -> u16
-    ensures { ((S : Set) (cs : List ℕ) → S.threads ≡ threads → chained kind ≡ true → result ≡ linksOf S cs 0 (kind_at kind) 0 0)
-        × (threads ≤ mostThreads → result ≤ 2 * mostThreads) }
+    ensures { ((S : Set) (cs : List ℕ) → S.threads ≡ threads → chained kind ≡ true → result ≡ links_of S cs 0 (kind_at kind) 0 0)
+        × (threads ≤ most_threads → result ≤ 2 * most_threads) }
 {
     let each = threads as u16;
     if kind == kinds::ONE_PERMITTED {
@@ -71,7 +71,7 @@ fn single_links(threads: u8, kind: u8) -> u16
 // Link i of it.
 fn single_link(slots: &[u32], threads: u8, kind: u8, i: u16) -> Link
     ensures { (S : Set) (cs : List ℕ) → S.threads ≡ threads → chained kind ≡ true
-        → result ≡ placedLink (place_of slots.now) (link_of S cs 0 (kind_at kind) 0 0 i) }
+        → result ≡ placed_link (place_of slots.now) (link_of S cs 0 (kind_at kind) 0 0 i) }
 {
     match kind {
         kinds::ONE_PERMITTED => one_permitted(slots, i),
@@ -83,11 +83,11 @@ fn single_link(slots: &[u32], threads: u8, kind: u8, i: u16) -> Link
 
 // Writes the links of the chain of a value that there is one of: over the choices (ONE_PERMITTED) or the threads (FLUSH_TO, FLUSH_VALUE, HALTS).
 pub fn single_chain(slots: &[u32], out: &mut [u8], threads: u8, kind: u8, n: u32, base: u64) -> Root
-    ensures { ((S : Set) (cs members lists : List ℕ) (tree : Term) (start : List ℕ) (m : ℕ) → S.threads ≡ threads → chained kind ≡ true → n + chainRoom ≤ lastIndex
+    ensures { ((S : Set) (cs members lists : List ℕ) (tree : Term) (start : List ℕ) (m : ℕ) → S.threads ≡ threads → chained kind ≡ true → n + chain_room ≤ last_index
         → Ready S cs members lists slots.now m
         → WritesTree (place_of slots.now) tree start m out.old n base
-        → WritesTree (place_of slots.now) (chainOf (link_of S cs 0 (kind_at kind) 0 0) (linksOf S cs 0 (kind_at kind) 0 0) tree) start m out.new result.next result.at)
-        × (result.next ≤ n + chainRoom) }
+        → WritesTree (place_of slots.now) (chain_of (link_of S cs 0 (kind_at kind) 0 0) (links_of S cs 0 (kind_at kind) 0 0) tree) start m out.new result.next result.at)
+        × (result.next ≤ n + chain_room) }
 {
     let mut tree = Root { next: n, at: base };
     // With these known, the compiler drops the tests of places in the loop.
@@ -117,11 +117,11 @@ pub fn opening_chain(
     n: u32,
     base: u64,
 ) -> Root
-    ensures { ((S : Set) (cs members : List ℕ) (tree : Term) (start : List ℕ) (m : ℕ) → S.threads ≡ threads → p < length cs → n + chainRoom ≤ lastIndex
+    ensures { ((S : Set) (cs members : List ℕ) (tree : Term) (start : List ℕ) (m : ℕ) → S.threads ≡ threads → p < length cs → n + chain_room ≤ last_index
         → Ready S cs members table.now slots.now m
         → WritesTree (place_of slots.now) tree start m out.old n base
-        → WritesTree (place_of slots.now) (chainOf (link_of S cs 0 opening 0 p) S.threads tree) start m out.new result.next result.at)
-        × (result.next ≤ n + chainRoom) }
+        → WritesTree (place_of slots.now) (chain_of (link_of S cs 0 opening 0 p) S.threads tree) start m out.new result.next result.at)
+        × (result.next ≤ n + chain_room) }
 {
     let mut tree = Root { next: n, at: base };
     // With these known, the compiler drops the tests of places in the loop.
@@ -153,11 +153,11 @@ pub fn waits_chain(
     n: u32,
     base: u64,
 ) -> Root
-    ensures { ((S : Set) (cs members : List ℕ) (tree : Term) (start : List ℕ) (m : ℕ) → length cs ≡ count → t < S.threads → n + chainRoom ≤ lastIndex
+    ensures { ((S : Set) (cs members : List ℕ) (tree : Term) (start : List ℕ) (m : ℕ) → length cs ≡ count → t < S.threads → n + chain_room ≤ last_index
         → Ready S cs members table.now slots.now m
         → WritesTree (place_of slots.now) tree start m out.old n base
-        → WritesTree (place_of slots.now) (chainOf (link_of S cs 0 waits t 0) (length cs) tree) start m out.new result.next result.at)
-        × (result.next ≤ n + chainRoom) }
+        → WritesTree (place_of slots.now) (chain_of (link_of S cs 0 waits t 0) (length cs) tree) start m out.new result.next result.at)
+        × (result.next ≤ n + chain_room) }
 {
     let mut tree = Root { next: n, at: base };
     // With these known, the compiler drops the tests of places in the loop.

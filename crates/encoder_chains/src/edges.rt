@@ -1,12 +1,12 @@
 // The links of flags: from which statements control reaches a statement.
 ghost use Rattle.std.specs.Prelude.{◌≡◌, cond, true, false, [], ℕ, ◌+◌};
-ghost use Rattle.table.specs.Formulas.{bitSort};
+ghost use Rattle.table.specs.Formulas.{bit_sort};
 ghost use Rattle.records.specs.Sets.{Set};
-ghost use Rattle.encoding.specs.Slots.{slot, active, test, notTest};
-ghost use Rattle.encoding.specs.Steps.{ifThen, leads as leadsOf};
+ghost use Rattle.encoding.specs.Slots.{slot, active, test, not_test};
+ghost use Rattle.encoding.specs.Steps.{if_then, leads as leads_of};
 ghost use Rattle.encoder_slots.specs.Places.{place_of};
-ghost use Rattle.set_index.specs.Members.{namesTarget};
-ghost use Rattle.encoder_chains.specs.Placed.{placedLink};
+ghost use Rattle.set_index.specs.Members.{names_target};
+ghost use Rattle.encoder_chains.specs.Placed.{placed_link};
 
 use crate::Link;
 use crate::parts::{bit_if, none};
@@ -19,7 +19,7 @@ use table::operations::{BIT, IF};
 
 // If statement i of thread t executes then its test, or the contrary of it.
 fn by_test(slots: &[u32], plain: bool, t: u8, i: u16) -> Link
-    ensures { result ≡ placedLink (place_of slots.now) (ifThen bitSort (slot active t i) (slot (cond plain test notTest) t i)) }
+    ensures { result ≡ placed_link (place_of slots.now) (if_then bit_sort (slot active t i) (slot (cond plain test not_test) t i)) }
 {
     if plain {
         return Link {
@@ -40,7 +40,7 @@ fn by_test(slots: &[u32], plain: bool, t: u8, i: u16) -> Link
 // How statement i of thread t leads to j: always, as its test comes out, or not. Few statements name j or stand before it:
 // of the others nothing more is read.
 pub fn leads(statement: Statement, slots: &[u32], t: u8, j: u16, i: u16) -> Link
-    ensures { (S : Set) → statement ≡ S.statement t i → result ≡ placedLink (place_of slots.now) (leadsOf S [] 0 t j i) }
+    ensures { (S : Set) → statement ≡ S.statement t i → result ≡ placed_link (place_of slots.now) (leads_of S [] 0 t j i) }
 {
     let n = statement.number;
     let argument = statement.argument;
@@ -69,8 +69,8 @@ pub fn leads(statement: Statement, slots: &[u32], t: u8, j: u16, i: u16) -> Link
 
 // How statement i of thread t, of instruction n, leads to the one after it, where it is no jump to that one.
 pub fn follows(n: u8, slots: &[u32], t: u8, i: u16) -> Link
-    ensures { (S : Set) (j : ℕ) → n ≡ (S.statement t i).number → j ≡ i + 1 → namesTarget (S.statement t i) j ≡ false
-        → result ≡ placedLink (place_of slots.now) (leadsOf S [] 0 t j i) }
+    ensures { (S : Set) (j : ℕ) → n ≡ (S.statement t i).number → j ≡ i + 1 → names_target (S.statement t i) j ≡ false
+        → result ≡ placed_link (place_of slots.now) (leads_of S [] 0 t j i) }
 {
     if rests(n) {
         return none();
@@ -86,8 +86,8 @@ pub fn follows(n: u8, slots: &[u32], t: u8, i: u16) -> Link
 
 // How jump i of thread t, of instruction n, leads to the statement that it names, where this is not the one after it.
 pub fn named(n: u8, slots: &[u32], t: u8, i: u16) -> Link
-    ensures { (S : Set) (j : ℕ) → n ≡ (S.statement t i).number → namesTarget (S.statement t i) j ≡ true → (j ≡ i + 1 → ⊥)
-        → result ≡ placedLink (place_of slots.now) (leadsOf S [] 0 t j i) }
+    ensures { (S : Set) (j : ℕ) → n ≡ (S.statement t i).number → names_target (S.statement t i) j ≡ true → (j ≡ i + 1 → ⊥)
+        → result ≡ placed_link (place_of slots.now) (leads_of S [] 0 t j i) }
 {
     if n == JMP {
         return bit_if(slots, true, t, i);

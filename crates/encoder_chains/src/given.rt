@@ -1,15 +1,15 @@
 // The chains whose links the statements of a class give, by the kind of the chain.
 ghost use Rattle.std.specs.Prelude.{◌≡◌, true, false, List, ℕ, ◌+◌, ◌≤◌, ◌<◌};
 ghost use Rattle.records.specs.Sets.{Set};
-ghost use Rattle.encoding.specs.Slots.{Term, kindNumber, kindCount, active, accu, bitOne};
-ghost use Rattle.encoding.specs.Steps.{Link as ChainLink, chain as chainOf};
-ghost use Rattle.encoder_slots.specs.Pieces.{WritesTree, Ready, chainRoom};
-ghost use Rattle.encoder_slots.specs.Places.{place_of, placeFrom};
-ghost use Rattle.encoder_chains.specs.Given.{Gives, givenBy};
-ghost use Rattle.set_index.specs.Members.{ofClass, classCount};
-ghost use Rattle.encoder_chains.specs.Placed.{placedLink, ifLink};
-ghost use Rattle.table.specs.Formulas.{bitSort, wordSort};
-ghost use Rattle.table.specs.Repeats.{lastIndex};
+ghost use Rattle.encoding.specs.Slots.{Term, kind_number, kind_count, active, accu, bit_one};
+ghost use Rattle.encoding.specs.Steps.{Link as ChainLink, chain as chain_of};
+ghost use Rattle.encoder_slots.specs.Pieces.{WritesTree, Ready, chain_room};
+ghost use Rattle.encoder_slots.specs.Places.{place_of, place_from};
+ghost use Rattle.encoder_chains.specs.Given.{Gives, given_by};
+ghost use Rattle.set_index.specs.Members.{of_class, class_count};
+ghost use Rattle.encoder_chains.specs.Placed.{placed_link, if_link};
+ghost use Rattle.table.specs.Formulas.{bit_sort, word_sort};
+ghost use Rattle.table.specs.Repeats.{last_index};
 
 use crate::Link;
 use crate::written::{Root, put_link};
@@ -33,7 +33,7 @@ pub struct Giver {
 
 // Statements of a class that, where they execute, set a bit.
 fn sets_bit(class: u8) -> Giver
-    ensures { result ≡ record { class = class; test = kindNumber active; sort = bitSort; own = false; effect = kindNumber bitOne } }
+    ensures { result ≡ record { class = class; test = kind_number active; sort = bit_sort; own = false; effect = kind_number bit_one } }
 {
     Giver {
         class,
@@ -46,7 +46,7 @@ fn sets_bit(class: u8) -> Giver
 
 // Statements of a class that, where a bit holds, give their thread's accu.
 fn gives_accu(class: u8, test: u8) -> Giver
-    ensures { result ≡ record { class = class; test = test; sort = wordSort; own = false; effect = kindNumber accu } }
+    ensures { result ≡ record { class = class; test = test; sort = word_sort; own = false; effect = kind_number accu } }
 {
     Giver {
         class,
@@ -59,7 +59,7 @@ fn gives_accu(class: u8, test: u8) -> Giver
 
 // Statements of a class that, where a bit holds, give a word of their own.
 fn gives_own(class: u8, test: u8, effect: u8) -> Giver
-    ensures { result ≡ record { class = class; test = test; sort = wordSort; own = true; effect = effect } }
+    ensures { result ≡ record { class = class; test = test; sort = word_sort; own = true; effect = effect } }
 {
     Giver {
         class,
@@ -103,12 +103,12 @@ fn fixed_links(
     n: u32,
     base: u64,
 ) -> Root
-    ensures { ((S : Set) (cs lists : List ℕ) (links : ℕ → ChainLink) (tree : Term) (start : List ℕ) (m : ℕ) → test < kindCount → t < S.threads → n + chainRoom ≤ lastIndex
+    ensures { ((S : Set) (cs lists : List ℕ) (links : ℕ → ChainLink) (tree : Term) (start : List ℕ) (m : ℕ) → test < kind_count → t < S.threads → n + chain_room ≤ last_index
         → Ready S cs members.now lists slots.now m
-        → (class < classCount → (i : ℕ) → ifLink sort (placeFrom slots.now test t i 0) effect ≡ placedLink (place_of slots.now) (links i))
+        → (class < class_count → (i : ℕ) → if_link sort (place_from slots.now test t i 0) effect ≡ placed_link (place_of slots.now) (links i))
         → WritesTree (place_of slots.now) tree start m out.old n base
-        → WritesTree (place_of slots.now) (chainOf (ofClass S class t links) (S.count t) tree) start m out.new result.next result.at)
-        × (result.next ≤ n + chainRoom) }
+        → WritesTree (place_of slots.now) (chain_of (of_class S class t links) (S.count t) tree) start m out.new result.next result.at)
+        × (result.next ≤ n + chain_room) }
 {
     let mut tree = Root { next: n, at: base };
     // With these known, the compiler drops the tests of places in the loop.
@@ -155,13 +155,13 @@ fn own_links(
     n: u32,
     base: u64,
 ) -> Root
-    ensures { ((S : Set) (cs lists : List ℕ) (links : ℕ → ChainLink) (tree : Term) (start : List ℕ) (m : ℕ) → test < kindCount → effect < kindCount → t < S.threads → n + chainRoom ≤ lastIndex
+    ensures { ((S : Set) (cs lists : List ℕ) (links : ℕ → ChainLink) (tree : Term) (start : List ℕ) (m : ℕ) → test < kind_count → effect < kind_count → t < S.threads → n + chain_room ≤ last_index
         → Ready S cs members.now lists slots.now m
-        → (class < classCount → (i : ℕ) → ifLink wordSort (placeFrom slots.now test t i 0) (placeFrom slots.now effect t i 2)
-        ≡ placedLink (place_of slots.now) (links i))
+        → (class < class_count → (i : ℕ) → if_link word_sort (place_from slots.now test t i 0) (place_from slots.now effect t i 2)
+        ≡ placed_link (place_of slots.now) (links i))
         → WritesTree (place_of slots.now) tree start m out.old n base
-        → WritesTree (place_of slots.now) (chainOf (ofClass S class t links) (S.count t) tree) start m out.new result.next result.at)
-        × (result.next ≤ n + chainRoom) }
+        → WritesTree (place_of slots.now) (chain_of (of_class S class t links) (S.count t) tree) start m out.new result.next result.at)
+        × (result.next ≤ n + chain_room) }
 {
     let mut tree = Root { next: n, at: base };
     if LAST < class {
@@ -208,11 +208,11 @@ pub fn given_chain(
     n: u32,
     base: u64,
 ) -> Root
-    ensures { ((S : Set) (cs lists : List ℕ) (tree : Term) (start : List ℕ) (m : ℕ) → t < S.threads → n + chainRoom ≤ lastIndex
+    ensures { ((S : Set) (cs lists : List ℕ) (tree : Term) (start : List ℕ) (m : ℕ) → t < S.threads → n + chain_room ≤ last_index
         → Ready S cs members.now lists slots.now m
         → WritesTree (place_of slots.now) tree start m out.old n base
-        → WritesTree (place_of slots.now) (chainOf (givenBy S kind t) (S.count t) tree) start m out.new result.next result.at)
-        × (result.next ≤ n + chainRoom) }
+        → WritesTree (place_of slots.now) (chain_of (given_by S kind t) (S.count t) tree) start m out.new result.next result.at)
+        × (result.next ≤ n + chain_room) }
 {
     let giver = giver_of(kind);
     let class = giver.class;

@@ -3,8 +3,8 @@ ghost use Rattle.std.specs.Prelude.{◌≡◌, List, ℕ, ◌+◌, ◌≤◌};
 ghost use Rattle.encoding.specs.Slots.{Slot, Term};
 ghost use Rattle.encoding.specs.Steps.{Link as ChainLink, linked};
 ghost use Rattle.encoder_slots.specs.Pieces.{WritesTree};
-ghost use Rattle.encoder_chains.specs.Placed.{placedLink};
-ghost use Rattle.table.specs.Repeats.{lastIndex};
+ghost use Rattle.encoder_chains.specs.Placed.{placed_link};
+ghost use Rattle.table.specs.Repeats.{last_index};
 
 use crate::Link;
 use crate::parts::NONE;
@@ -20,7 +20,7 @@ pub struct Root {
 
 // Writes a link over the tree at index `at`; the last indexes are never reached.
 pub fn put_link(out: &mut [u8], n: u32, at: u64, link: Link) -> Root
-    ensures { ((places : Slot → ℕ) (l : ChainLink) (tree : Term) (start : List ℕ) (m : ℕ) → n ≤ lastIndex → link ≡ placedLink places l
+    ensures { ((places : Slot → ℕ) (l : ChainLink) (tree : Term) (start : List ℕ) (m : ℕ) → n ≤ last_index → link ≡ placed_link places l
         → WritesTree places tree start m out.old n at → WritesTree places (linked l tree) start m out.new result.next result.at)
         × (result.next ≤ n + 1) }
 {

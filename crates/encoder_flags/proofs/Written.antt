@@ -6,15 +6,15 @@ use mathlib.Core.List.{List, []}
 use native.Mathlib.Omega.{arith}
 use lib.ListN.{get_or}
 use borrow.Author.Tests.{ne_eqb}
-use Rattle.records.specs.Sets.{Set, mostStatements}
+use Rattle.records.specs.Sets.{Set, most_statements}
 use Rattle.encoding.specs.Slots.{flag, Slot, Term}
 use Rattle.encoding.specs.Steps.{Link as ChainLink, skip, linked, chain, base, leads}
 use Rattle.encoder_slots.specs.Pieces.{WritesTree}
 use Rattle.encoder_slots.proofs.Entries.{tree_of}
-use Rattle.set_index.specs.Members.{namesTarget}
+use Rattle.set_index.specs.Members.{names_target}
 use Rattle.encoder_chains.proofs.Leads.{leads-elsewhere}
 use Rattle.encoder_chains.proofs.Trees.{chain-none, chain_more, chain-to}
-use Rattle.set_index.specs.ListTables.{JumpsOf, onward, nextJumps}
+use Rattle.set_index.specs.ListTables.{JumpsOf, onward, next_jumps}
 use Rattle.encoder_flags.specs.Named.{NamedFirst}
 use Rattle.encoder_flags.proofs.Lists.{passed_over, named-later, named-next}
 
@@ -25,7 +25,7 @@ flag-chained S cs k t j count e places out n after m at w =
     subst (λ (i : ℕ). WritesTree places (chain (leads S [] 0 t j) i (base S cs k flag t j)) out n after m at) e w
 
 -- no jump of a thread of `count` statements names j
-module _ (places : Slot → ℕ) (S : Set) (t j count : ℕ) (inside : j < count) (names : (x : ℕ) → x < count → namesTarget (S.statement t x) j ≡ false) (tree : Term) (start : List ℕ) (m : ℕ) where
+module _ (places : Slot → ℕ) (S : Set) (t j count : ℕ) (inside : j < count) (names : (x : ℕ) → x < count → names_target (S.statement t x) j ≡ false) (tree : Term) (start : List ℕ) (m : ℕ) where
   abbrev leading : ℕ → ChainLink
   leading = leads S [] 0 t j
 
@@ -33,8 +33,8 @@ module _ (places : Slot → ℕ) (S : Set) (t j count : ℕ) (inside : j < count
   elsewhere x p f = leads-elsewhere (S.statement t x) t j x (suc x) (names x p) (ne_eqb (suc x) j f)
 
   -- no statement stands before j
-  pub none-lead : j ≡ 0 → (out : List ℕ) (n at : ℕ) → WritesTree places tree start m out n at → WritesTree places (chain leading count tree) start m out n at
-  none-lead first out n at w =
+  pub none_lead : j ≡ 0 → (out : List ℕ) (n at : ℕ) → WritesTree places tree start m out n at → WritesTree places (chain leading count tree) start m out n at
+  none_lead first out n at w =
       chain-to places leading tree start m out n at 0 count (omega arith)
       (λ (x : ℕ) (p : 0 ≤ x) (q : x < count). elsewhere x q (λ (e : suc x ≡ j). omega arith))
       (chain-none places leading tree start m out n at w)
@@ -63,7 +63,7 @@ pub record Reached (places : Slot → ℕ) (S : Set) (t j count from end : ℕ) 
   pub written : WritesTree places (chain (leads S [] 0 t j) low tree) start m out n at
 
 -- j does not stand after one of the statements from `from` on and before `end`
-module _ (places : Slot → ℕ) (S : Set) (t j : ℕ) (small : j < mostStatements) (count from end : ℕ) (inside : end ≤ count) (apart : (x : ℕ) → from ≤ x → x < end → (j ≡ x + 1 → ⊥))
+module _ (places : Slot → ℕ) (S : Set) (t j : ℕ) (small : j < most_statements) (count from end : ℕ) (inside : end ≤ count) (apart : (x : ℕ) → from ≤ x → x < end → (j ≡ x + 1 → ⊥))
     (tree : Term) (start : List ℕ) (m hit : ℕ) (out : List ℕ) (n at : ℕ) (r : Reached places S t j count from end tree start m hit out n at) where
   -- the statements before `hit` give no link
   pub reached-to : (k : ℕ) → r.low ≤ k → k ≤ hit → k ≤ end → WritesTree places (chain (leads S [] 0 t j) k tree) start m out n at
@@ -74,8 +74,8 @@ module _ (places : Slot → ℕ) (S : Set) (t j : ℕ) (small : j < mostStatemen
       r.written
 
   -- jump `hit` gives its link
-  pub reached-more : hit < end → namesTarget (S.statement t hit) j ≡ true → (table : List ℕ) → JumpsOf S t count table → (next : ℕ) → hit < next →
-      next ≡ onward hit (get_or table (nextJumps t + hit) 0) → (out1 : List ℕ) (n1 at1 : ℕ) →
+  pub reached-more : hit < end → names_target (S.statement t hit) j ≡ true → (table : List ℕ) → JumpsOf S t count table → (next : ℕ) → hit < next →
+      next ≡ onward hit (get_or table (next_jumps t + hit) 0) → (out1 : List ℕ) (n1 at1 : ℕ) →
       (WritesTree places (chain (leads S [] 0 t j) hit tree) start m out n at → WritesTree places (linked (leads S [] 0 t j hit) (chain (leads S [] 0 t j) hit tree)) start m out1 n1 at1) →
       Reached places S t j count from end tree start m next out1 n1 at1
   reached-more more names table w next greater is out1 n1 at1 put = record {

@@ -1,15 +1,15 @@
 // The flags of a thread's statements, which say the next one, each with the links of the statements that lead to it.
 // A thread's statements stand from record `first` of the set on: the layout is read once.
 ghost use Rattle.std.specs.Prelude.{◌≡◌, List, [], ℕ, ◌+◌, ◌-◌, ◌≤◌, ◌<◌, get_or};
-ghost use Rattle.records.specs.Sets.{Set, setBy, mostThreads, mostStatements};
-ghost use Rattle.encoding.specs.Slots.{slot, Term, choice, flag as flagKind, bitZero};
-ghost use Rattle.encoding.specs.Steps.{chain as chainOf, leads as leadsOf, entry as entry_of, line as line_of};
+ghost use Rattle.records.specs.Sets.{Set, set_by, most_threads, most_statements};
+ghost use Rattle.encoding.specs.Slots.{slot, Term, choice, flag as flag_kind, bit_zero};
+ghost use Rattle.encoding.specs.Steps.{chain as chain_of, leads as leads_of, entry as entry_of, line as line_of};
 ghost use Rattle.encoder_slots.specs.Places.{place_of};
-ghost use Rattle.encoder_slots.specs.Pieces.{Writes, WritesTree, Ready, chainRoom, entryRoom, lineRoom};
+ghost use Rattle.encoder_slots.specs.Pieces.{Writes, WritesTree, Ready, chain_room, entry_room, line_room};
 ghost use Rattle.records.specs.StatementRecords.{Stands};
-ghost use Rattle.set_index.specs.ListTables.{onward, nextJumps};
+ghost use Rattle.set_index.specs.ListTables.{onward, next_jumps};
 ghost use Rattle.encoder_flags.specs.Named.{NamedFirst};
-ghost use Rattle.table.specs.Repeats.{lastIndex};
+ghost use Rattle.table.specs.Repeats.{last_index};
 
 use encoder_chains::{Root, edges, put_link};
 use encoder_slots::kinds::{BIT_ZERO, CHOICE, FLAG};
@@ -24,7 +24,7 @@ const LIMIT: u32 = Formula::LAST - LINE;
 
 // The jump to look for after statement i: `hit` where it comes later, else the one after jump i.
 fn past(lists: &[u8], t: u8, hit: u16, i: u16) -> u16
-    ensures { (i < hit → result ≡ hit) × (hit ≤ i → result ≡ onward i (get_or lists.now (nextJumps t + i) 0)) }
+    ensures { (i < hit → result ≡ hit) × (hit ≤ i → result ≡ onward i (get_or lists.now (next_jumps t + i) 0)) }
 {
     if i < hit {
         return hit;
@@ -52,12 +52,12 @@ fn named_links(
     n: u32,
     base: u64,
 ) -> Named
-    requires { (first < 65536) × (end ≤ mostStatements) × (n + (end - hit) ≤ lastIndex) × (t < mostThreads) }
-    ensures { ((S : Set) (cs members : List ℕ) (tree : Term) (start : List ℕ) (m j count from : ℕ) → j < mostStatements → from ≤ hit → from ≤ end → end ≤ count
+    requires { (first < 65536) × (end ≤ most_statements) × (n + (end - hit) ≤ last_index) × (t < most_threads) }
+    ensures { ((S : Set) (cs members : List ℕ) (tree : Term) (start : List ℕ) (m j count from : ℕ) → j < most_statements → from ≤ hit → from ≤ end → end ≤ count
         → ((x : ℕ) → from ≤ x → x < end → (j ≡ x + 1 → ⊥)) → t < S.threads → Stands S set.now first count t
         → Ready S cs members lists.now slots.now m → NamedFirst S t count hit from j
-        → WritesTree (place_of slots.now) (chainOf (leadsOf S [] 0 t j) from tree) start m out.old n base
-        → (WritesTree (place_of slots.now) (chainOf (leadsOf S [] 0 t j) end tree) start m out.new result.tree.next result.tree.at)
+        → WritesTree (place_of slots.now) (chain_of (leads_of S [] 0 t j) from tree) start m out.old n base
+        → (WritesTree (place_of slots.now) (chain_of (leads_of S [] 0 t j) end tree) start m out.new result.tree.next result.tree.at)
         × (NamedFirst S t count result.hit end j))
         × (end ≤ result.hit) × (result.tree.next ≤ n + (end - hit)) }
 {
@@ -85,12 +85,12 @@ fn jump_links(
     n: u32,
     base: u64,
 ) -> Root
-    requires { (first < 65536) × (count ≤ mostStatements) × (j < count) × (n + chainRoom ≤ lastIndex) × (t < mostThreads) }
+    requires { (first < 65536) × (count ≤ most_statements) × (j < count) × (n + chain_room ≤ last_index) × (t < most_threads) }
     ensures { ((S : Set) (cs members : List ℕ) (tree : Term) (start : List ℕ) (m : ℕ) → t < S.threads → Stands S set.now first count t
         → Ready S cs members lists.now slots.now m
         → WritesTree (place_of slots.now) tree start m out.old n base
-        → WritesTree (place_of slots.now) (chainOf (leadsOf S [] 0 t j) count tree) start m out.new result.next result.at)
-        × (result.next ≤ n + chainRoom) }
+        → WritesTree (place_of slots.now) (chain_of (leads_of S [] 0 t j) count tree) start m out.new result.next result.at)
+        × (result.next ≤ n + chain_room) }
 {
     let hit = first_jump(lists, t, j);
     if j == 0 {
@@ -122,12 +122,12 @@ fn flag_links(
     n: u32,
     base: u64,
 ) -> Root
-    requires { (first < 65536) × (count ≤ mostStatements) × (j < count) × (n + chainRoom ≤ lastIndex) × (t < mostThreads) }
+    requires { (first < 65536) × (count ≤ most_statements) × (j < count) × (n + chain_room ≤ last_index) × (t < most_threads) }
     ensures { ((S : Set) (cs members : List ℕ) (tree : Term) (start : List ℕ) (m : ℕ) → t < S.threads → Stands S set.now first count t
         → Ready S cs members lists.now slots.now m
         → WritesTree (place_of slots.now) tree start m out.old n base
-        → WritesTree (place_of slots.now) (chainOf (leadsOf S [] 0 t j) count tree) start m out.new result.next result.at)
-        × (result.next ≤ n + chainRoom) }
+        → WritesTree (place_of slots.now) (chain_of (leads_of S [] 0 t j) count tree) start m out.new result.next result.at)
+        × (result.next ≤ n + chain_room) }
 {
     if first_jump(lists, t, j) < lists::NONE {
         return jump_links(set, first, lists, slots, out, t, j, count, n, base);
@@ -155,11 +155,11 @@ fn flag(
     zero: u64,
     n: u32,
 ) -> u32
-    requires { (first < 65536) × (count ≤ mostStatements) × (j < count) × (t < mostThreads) × (n + entryRoom ≤ lastIndex) }
+    requires { (first < 65536) × (count ≤ most_statements) × (j < count) × (t < most_threads) × (n + entry_room ≤ last_index) }
     ensures { ((S : Set) (cs members : List ℕ) (k : ℕ) → t < S.threads → Stands S set.now first count t → Ready S cs members lists.now slots.old n
-        → executes ≡ place_of slots.old (slot choice 0 t) → zero ≡ place_of slots.old (slot bitZero 0 0)
-        → Writes (entry_of S cs k flagKind t j) out.old slots.old n out.new slots.new result)
-        × (result ≤ n + entryRoom) }
+        → executes ≡ place_of slots.old (slot choice 0 t) → zero ≡ place_of slots.old (slot bit_zero 0 0)
+        → Writes (entry_of S cs k flag_kind t j) out.old slots.old n out.new slots.new result)
+        × (result ≤ n + entry_room) }
 {
     let statement = records::statement_at(set, first + (j as u32));
     let base = encoder_bases::put_flag(statement, slots, out, executes, zero, t, j, n);
@@ -180,10 +180,10 @@ fn each_flag(
     count: u16,
     n: u32,
 ) -> u32
-    requires { (first < 65536) × (count ≤ mostStatements) × (t < mostThreads) × (n + lineRoom ≤ lastIndex) }
+    requires { (first < 65536) × (count ≤ most_statements) × (t < most_threads) × (n + line_room ≤ last_index) }
     ensures { ((S : Set) (cs members : List ℕ) (k : ℕ) → t < S.threads → Stands S set.now first count t → Ready S cs members lists.now slots.old n
-        → Writes (line_of S cs k flagKind t) out.old slots.old n out.new slots.new result)
-        × (result ≤ n + lineRoom) }
+        → Writes (line_of S cs k flag_kind t) out.old slots.old n out.new slots.new result)
+        × (result ≤ n + line_room) }
 {
     let executes = encoder_slots::place(slots, CHOICE, 0, t as u16, start::BIT0);
     let zero = encoder_slots::place(slots, BIT_ZERO, 0, 0, start::BIT0);
@@ -208,11 +208,11 @@ pub fn flags(
     t: u8,
     n: u32,
 ) -> u32
-    ensures { ((cs members : List ℕ) (k : ℕ) → t < layout.threads → n + lineRoom ≤ lastIndex
-        → Ready (setBy set.now layout) cs members lists.now slots.old n
-        → Writes (line_of (setBy set.now layout) cs k flagKind t)
+    ensures { ((cs members : List ℕ) (k : ℕ) → t < layout.threads → n + line_room ≤ last_index
+        → Ready (set_by set.now layout) cs members lists.now slots.old n
+        → Writes (line_of (set_by set.now layout) cs k flag_kind t)
         out.old slots.old n out.new slots.new result)
-        × (result ≤ n + lineRoom) }
+        × (result ≤ n + line_room) }
 {
     let thread = t as usize;
     if Layout::THREADS <= thread {

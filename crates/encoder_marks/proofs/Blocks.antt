@@ -10,14 +10,14 @@ use Rattle.encoding.specs.Steps.{entry, line, block}
 use Rattle.encoder_slots.specs.Pieces.{Writes}
 use Rattle.encoder_slots.proofs.Pieces.{writes-row, writes_more}
 
-module _ (S : Set) (cs : List ℕ) (k : ℕ) (out slots : List ℕ) (n : ℕ) (after slotsAfter : List ℕ) (m : ℕ) where
+module _ (S : Set) (cs : List ℕ) (k : ℕ) (out slots : List ℕ) (n : ℕ) (after slots_after : List ℕ) (m : ℕ) where
   -- one value for each checkpoint, in one row
-  pub openings-written : (p : ℕ) → p ≡ length cs → Writes (upto (entry S cs k opening 0) p) out slots n after slotsAfter m → Writes (block S cs k opening) out slots n after slotsAfter m
-  openings-written p all w =
-      writes_more (line S cs k opening) 0 out slots n out slots n after slotsAfter m (writes-row (line S cs k opening) out slots n)
-      (subst (λ (j : ℕ). Writes (upto (entry S cs k opening 0) j) out slots n after slotsAfter m) all w)
+  pub openings_written : (p : ℕ) → p ≡ length cs → Writes (upto (entry S cs k opening 0) p) out slots n after slots_after m → Writes (block S cs k opening) out slots n after slots_after m
+  openings_written p all w =
+      writes_more (line S cs k opening) 0 out slots n out slots n after slots_after m (writes-row (line S cs k opening) out slots n)
+      (subst (λ (j : ℕ). Writes (upto (entry S cs k opening 0) j) out slots n after slots_after m) all w)
 
   -- one value for each thread
-  pub waits-line : (t : ℕ) → Writes (entry S cs k waits t 0) out slots n after slotsAfter m → Writes (line S cs k waits t) out slots n after slotsAfter m
+  pub waits-line : (t : ℕ) → Writes (entry S cs k waits t 0) out slots n after slots_after m → Writes (line S cs k waits t) out slots n after slots_after m
   waits-line t w =
-      writes_more (entry S cs k waits t) 0 out slots n out slots n after slotsAfter m (writes-row (entry S cs k waits t) out slots n) w
+      writes_more (entry S cs k waits t) 0 out slots n out slots n after slots_after m (writes-row (entry S cs k waits t) out slots n) w

@@ -9,7 +9,7 @@ use lib.ListN.{length, get_or}
 use borrow.Author.Tests.{eqb-true}
 use Rattle.records.specs.Sets.{Set}
 use Rattle.machine.specs.Machine.{contains}
-use Rattle.encoding.specs.Slots.{Slot, kinds, kind_at, raised, kindNumber, held, mark, kindCount}
+use Rattle.encoding.specs.Slots.{Slot, kinds, kind_at, raised, kind_number, held, mark, kind_count}
 use Rattle.encoding.specs.Steps.{shape, rows, columns, kept, chain, link, base}
 use Rattle.encoder_slots.specs.Pieces.{WritesTree}
 use Rattle.encoder_slots.proofs.Entries.{tree_of}
@@ -20,18 +20,18 @@ use Rattle.encoder_slots.proofs.Matches.{Apart}
 use Rattle.encoder_marks.specs.Marked.{marked}
 
 -- what holds of each of the three
-each : (P : ℕ → Type 0) → P (kindNumber held) → P (kindNumber raised) → P (kindNumber mark) → (n : ℕ) → marked n ≡ true → P n
+each : (P : ℕ → Type 0) → P (kind_number held) → P (kind_number raised) → P (kind_number mark) → (n : ℕ) → marked n ≡ true → P n
 each P one two three n e =
-    either (eqb n (kindNumber held) || eqb n (kindNumber raised)) (eqb n (kindNumber mark)) e
-    (λ e. either (eqb n (kindNumber held)) (eqb n (kindNumber raised)) e (λ h. subst P (sym (eqb-true n (kindNumber held) h)) one) (λ h. subst P (sym (eqb-true n (kindNumber raised) h)) two))
-    (λ h. subst P (sym (eqb-true n (kindNumber mark) h)) three)
+    either (eqb n (kind_number held) || eqb n (kind_number raised)) (eqb n (kind_number mark)) e
+    (λ e. either (eqb n (kind_number held)) (eqb n (kind_number raised)) e (λ h. subst P (sym (eqb-true n (kind_number held) h)) one) (λ h. subst P (sym (eqb-true n (kind_number raised) h)) two))
+    (λ h. subst P (sym (eqb-true n (kind_number mark) h)) three)
 
-pub marked-known : (n : ℕ) → marked n ≡ true → n < kindCount
-marked-known = each (λ (n : ℕ). n < kindCount) (omega arith) (omega arith) (omega arith)
+pub marked-known : (n : ℕ) → marked n ≡ true → n < kind_count
+marked-known = each (λ (n : ℕ). n < kind_count) (omega arith) (omega arith) (omega arith)
 
 -- the last one, as a `match` leaves it
-pub marked-last : (n : ℕ) → marked n ≡ true → Apart n (kindNumber raised ∷ kindNumber held ∷ []) → n ≡ kindNumber mark
-marked-last = each (λ (n : ℕ). Apart n (kindNumber raised ∷ kindNumber held ∷ []) → n ≡ kindNumber mark) (λ r. absurd (r.0.1 refl)) (λ r. absurd (r.1 refl)) (λ r. refl)
+pub marked-last : (n : ℕ) → marked n ≡ true → Apart n (kind_number raised ∷ kind_number held ∷ []) → n ≡ kind_number mark
+marked-last = each (λ (n : ℕ). Apart n (kind_number raised ∷ kind_number held ∷ []) → n ≡ kind_number mark) (λ r. absurd (r.0.1 refl)) (λ r. absurd (r.1 refl)) (λ r. refl)
 
 module _ (S : Set) (cs : List ℕ) (k : ℕ) where
   pub marked-rows : (n : ℕ) → marked n ≡ true → rows S cs k (shape (kind_at n)) ≡ S.threads
@@ -48,18 +48,18 @@ module _ (S : Set) (cs : List ℕ) (k : ℕ) where
 
   module _ (t p : ℕ) (places : Slot → ℕ) (out : List ℕ) (m : ℕ) (after : List ℕ) (next at : ℕ) where
     -- only RAISED has links
-    pub raised-written : (n : ℕ) → n ≡ kindNumber raised → WritesTree places (chain (link S cs 0 raised t p) (S.count t) (base S cs k (kind_at n) t p)) out m after next at →
+    pub raised_written : (n : ℕ) → n ≡ kind_number raised → WritesTree places (chain (link S cs 0 raised t p) (S.count t) (base S cs k (kind_at n) t p)) out m after next at →
         WritesTree places (tree_of S cs k (kind_at n) t p) out m after next at
     unfolding kinds
-    raised-written n e =
+    raised_written n e =
         subst (λ (x : ℕ). WritesTree places (chain (link S cs 0 raised t p) (S.count t) (base S cs k (kind_at x) t p)) out m after next at →
         WritesTree places (tree_of S cs k (kind_at x) t p) out m after next at) (sym e) (λ w. w)
 
-    pub mark-written : (n : ℕ) → marked n ≡ true → (n ≡ kindNumber raised → ⊥) → WritesTree places (base S cs k (kind_at n) t p) out m after next at →
+    pub mark_written : (n : ℕ) → marked n ≡ true → (n ≡ kind_number raised → ⊥) → WritesTree places (base S cs k (kind_at n) t p) out m after next at →
         WritesTree places (tree_of S cs k (kind_at n) t p) out m after next at
     unfolding kinds chain
-    mark-written =
-        each (λ (n : ℕ). (n ≡ kindNumber raised → ⊥) → WritesTree places (base S cs k (kind_at n) t p) out m after next at → WritesTree places (tree_of S cs k (kind_at n) t p) out m after next at)
+    mark_written =
+        each (λ (n : ℕ). (n ≡ kind_number raised → ⊥) → WritesTree places (base S cs k (kind_at n) t p) out m after next at → WritesTree places (tree_of S cs k (kind_at n) t p) out m after next at)
         (λ r w. w) (λ r. absurd (r refl)) (λ r w. w)
 
 -- a base of a kind by number

@@ -1,13 +1,13 @@
 // The values of checkpoints: which are open, which threads wait, and each thread's marks.
 ghost use Rattle.std.specs.Prelude.{◌≡◌, true, List, ℕ, ◌+◌, ◌*◌, ◌≤◌, ◌<◌, length};
-ghost use Rattle.records.specs.Sets.{Set, mostThreads, mostCheckpoints};
-ghost use Rattle.encoding.specs.Slots.{kind_at, opening as openingKind, waits as waitsKind};
+ghost use Rattle.records.specs.Sets.{Set, most_threads, most_checkpoints};
+ghost use Rattle.encoding.specs.Slots.{kind_at, opening as opening_kind, waits as waits_kind};
 ghost use Rattle.encoding.specs.Steps.{base as base_of, entry as entry_of, line as line_of, block as block_of};
 ghost use Rattle.encoder_slots.specs.Places.{place_of};
-ghost use Rattle.encoder_slots.specs.Pieces.{Writes, Ready, treeRoom, entryRoom, blockRoom};
+ghost use Rattle.encoder_slots.specs.Pieces.{Writes, Ready, tree_room, entry_room, block_room};
 ghost use Rattle.encoder_bases.specs.SmallTrees.{Puts};
 ghost use Rattle.encoder_marks.specs.Marked.{marked};
-ghost use Rattle.table.specs.Repeats.{lastIndex};
+ghost use Rattle.table.specs.Repeats.{last_index};
 
 use encoder_bases::WrittenTree;
 use encoder_slots::{BLOCK, SIZE, THREADS, kinds};
@@ -30,10 +30,10 @@ fn opening(
     p: u16,
     n: u32,
 ) -> u32
-    requires { (n + entryRoom ≤ lastIndex) × (p < mostCheckpoints) }
+    requires { (n + entry_room ≤ last_index) × (p < most_checkpoints) }
     ensures { ((S : Set) (cs members : List ℕ) → S.threads ≡ threads → p < length cs → Ready S cs members table.now slots.old n
-        → Writes (entry_of S cs step openingKind 0 p) out.old slots.old n out.new slots.new result)
-        × (result ≤ n + entryRoom) }
+        → Writes (entry_of S cs step opening_kind 0 p) out.old slots.old n out.new slots.new result)
+        × (result ≤ n + entry_room) }
 {
     let base = encoder_bases::put_base(slots, out, threads, step, kinds::OPENING, 0, p, n);
     let next = n + base.count;
@@ -54,9 +54,9 @@ pub fn openings(
     step: u8,
     n: u32,
 ) -> u32
-    ensures { ((S : Set) (cs members : List ℕ) → S.threads ≡ threads → length cs ≡ count → Ready S cs members table.now slots.old n → n + blockRoom ≤ lastIndex
-        → Writes (block_of S cs step openingKind) out.old slots.old n out.new slots.new result)
-        × (result ≤ n + blockRoom) }
+    ensures { ((S : Set) (cs members : List ℕ) → S.threads ≡ threads → length cs ≡ count → Ready S cs members table.now slots.old n → n + block_room ≤ last_index
+        → Writes (block_of S cs step opening_kind) out.old slots.old n out.new slots.new result)
+        × (result ≤ n + block_room) }
 {
     // With these known, the compiler drops the tests of places in the loop.
     if LIMIT < n {
@@ -94,10 +94,10 @@ fn waiting(
     t: u8,
     n: u32,
 ) -> u32
-    requires { (n + entryRoom ≤ lastIndex) × (t < mostThreads) }
+    requires { (n + entry_room ≤ last_index) × (t < most_threads) }
     ensures { ((S : Set) (cs members : List ℕ) → S.threads ≡ threads → length cs ≡ count → t < S.threads → Ready S cs members table.now slots.old n
-        → Writes (entry_of S cs step waitsKind t 0) out.old slots.old n out.new slots.new result)
-        × (result ≤ n + entryRoom) }
+        → Writes (entry_of S cs step waits_kind t 0) out.old slots.old n out.new slots.new result)
+        × (result ≤ n + entry_room) }
 {
     let base = encoder_bases::put_base(slots, out, threads, step, kinds::WAITS, t, 0, n);
     let next = n + base.count;
@@ -116,9 +116,9 @@ pub fn waits(
     step: u8,
     n: u32,
 ) -> u32
-    ensures { ((S : Set) (cs members : List ℕ) → S.threads ≡ threads → length cs ≡ count → Ready S cs members table.now slots.old n → n + blockRoom ≤ lastIndex
-        → Writes (block_of S cs step waitsKind) out.old slots.old n out.new slots.new result)
-        × (result ≤ n + blockRoom) }
+    ensures { ((S : Set) (cs members : List ℕ) → S.threads ≡ threads → length cs ≡ count → Ready S cs members table.now slots.old n → n + block_room ≤ last_index
+        → Writes (block_of S cs step waits_kind) out.old slots.old n out.new slots.new result)
+        × (result ≤ n + block_room) }
 {
     // With these known, the compiler drops the tests of places in the loop.
     if LIMIT < n {
@@ -156,8 +156,8 @@ fn put_marked(
     p: u16,
     n: u32,
 ) -> WrittenTree
-    ensures { ((S : Set) (cs : List ℕ) → S.threads ≡ threads → marked kind ≡ true → n ≤ lastIndex
-        → Puts result (place_of slots.now) n (base_of S cs step (kind_at kind) t p) out.old out.new) × (result.count ≤ treeRoom) }
+    ensures { ((S : Set) (cs : List ℕ) → S.threads ≡ threads → marked kind ≡ true → n ≤ last_index
+        → Puts result (place_of slots.now) n (base_of S cs step (kind_at kind) t p) out.old out.new) × (result.count ≤ tree_room) }
 {
     match kind {
         kinds::HELD => encoder_bases::put_base(slots, out, threads, step, kinds::HELD, t, p, n),
@@ -178,10 +178,10 @@ fn entry(
     p: u16,
     n: u32,
 ) -> u32
-    requires { (n + entryRoom ≤ lastIndex) × (t < mostThreads) × (p < mostCheckpoints) }
+    requires { (n + entry_room ≤ last_index) × (t < most_threads) × (p < most_checkpoints) }
     ensures { ((S : Set) (cs members : List ℕ) → S.threads ≡ threads → marked kind ≡ true → t < S.threads → p < length cs → Ready S cs members table.now slots.old n
         → Writes (entry_of S cs step (kind_at kind) t p) out.old slots.old n out.new slots.new result)
-        × (result ≤ n + entryRoom) }
+        × (result ≤ n + entry_room) }
 {
     if set_index::checks::contains(table, t, p) {
         let base = put_marked(slots, out, threads, step, kind, t, p, n);
@@ -211,10 +211,10 @@ fn line(
     t: u8,
     n: u32,
 ) -> u32
-    requires { (n + mostCheckpoints * entryRoom ≤ lastIndex) × (count ≤ mostCheckpoints) × (t < mostThreads) }
+    requires { (n + most_checkpoints * entry_room ≤ last_index) × (count ≤ most_checkpoints) × (t < most_threads) }
     ensures { ((S : Set) (cs members : List ℕ) → S.threads ≡ threads → length cs ≡ count → marked kind ≡ true → t < S.threads → Ready S cs members table.now slots.old n
         → Writes (line_of S cs step (kind_at kind) t) out.old slots.old n out.new slots.new result)
-        × (result ≤ n + mostCheckpoints * entryRoom) }
+        × (result ≤ n + most_checkpoints * entry_room) }
 {
     let mut next = n;
     let mut p: u16 = 0;
@@ -236,9 +236,9 @@ pub fn marks(
     kind: u8,
     n: u32,
 ) -> u32
-    ensures { ((S : Set) (cs members : List ℕ) → S.threads ≡ threads → length cs ≡ count → marked kind ≡ true → Ready S cs members table.now slots.old n → n + blockRoom ≤ lastIndex
+    ensures { ((S : Set) (cs members : List ℕ) → S.threads ≡ threads → length cs ≡ count → marked kind ≡ true → Ready S cs members table.now slots.old n → n + block_room ≤ last_index
         → Writes (block_of S cs step (kind_at kind)) out.old slots.old n out.new slots.new result)
-        × (result ≤ n + blockRoom) }
+        × (result ≤ n + block_room) }
 {
     // With these known, the compiler drops the tests of places in the loops.
     if LIMIT < n {

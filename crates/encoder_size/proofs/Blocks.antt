@@ -10,12 +10,12 @@ use lib.ListN.{length, get_or}
 use Rattle.base.proofs.Choice.{cond-ap}
 use Rattle.records.specs.Instructions.{STORE, ADD, ADDI, SUB, SUBI, MUL, MULI, JZ, JNZ, JS, JNS, JNZNS, MEM, CAS, HALT, EXIT}
 use Rattle.records.specs.Sets.{Set}
-use Rattle.machine.specs.Machine.{contains, needsEmpty}
-use Rattle.table.specs.Programs.{next, upto, nextAfter}
-use Rattle.encoding.specs.Slots.{Kind, choice, active, opening, shut, barred, held, waits, mayExecute, none, permittedFirst, onePermitted, address, loaded, swaps, result, test, notTest, flushTo, writeTo, flushValue, writeValue, exits, codes, sharedMemory, val, adr, mem, accu, full, halted, mark, halts, ended, code, Slot}
-use Rattle.encoding.specs.Steps.{loads, setsAccu, isConditional, chain, link, base, entry, line, block}
+use Rattle.machine.specs.Machine.{contains, needs_empty}
+use Rattle.table.specs.Programs.{next, upto, next_after}
+use Rattle.encoding.specs.Slots.{Kind, choice, active, opening, shut, barred, held, waits, may_execute, none, permitted_first, one_permitted, address, loaded, swaps, result, test, not_test, flush_to, write_to, flush_value, write_value, exits, codes, shared_memory, val, adr, mem, accu, full, halted, mark, halts, ended, code, Slot}
+use Rattle.encoding.specs.Steps.{loads, sets_accu, is_conditional, chain, link, base, entry, line, block}
 use Rattle.encoder_size.specs.Sizes.{total}
-use Rattle.encoder_size.proofs.Sums.{total-plus, total-same, total-swap, total-late}
+use Rattle.encoder_size.proofs.Sums.{total-plus, total-same, total_swap, total-late}
 use Rattle.encoder_size.proofs.Counted.{counted, counted-upto, adds, counted-chain}
 
 -- ---- by instruction
@@ -25,13 +25,13 @@ abbrev pub ones : (ℕ → Bool) → ℕ → ℕ
 ones passes n = cond (passes n) 1 0
 
 -- ADD to MULI and CAS have a record for what accu becomes
-abbrev pub resultSize : ℕ → ℕ
-resultSize n =
+abbrev pub result_size : ℕ → ℕ
+result_size n =
     cond (eqb n ADD) 1 (cond (eqb n ADDI) 1 (cond (eqb n SUB) 1 (cond (eqb n SUBI) 1 (cond (eqb n MUL) 1 (cond (eqb n MULI) 1 (cond (eqb n CAS) 1 0))))))
 
 -- a conditional jump has one for its test, JNZNS three
-abbrev pub testSize : ℕ → ℕ
-testSize n = cond (eqb n JZ || eqb n JNZ) 1 (cond (eqb n JS || eqb n JNS) 1 (cond (eqb n JNZNS) 3 0))
+abbrev pub test_size : ℕ → ℕ
+test_size n = cond (eqb n JZ || eqb n JNZ) 1 (cond (eqb n JS || eqb n JNS) 1 (cond (eqb n JNZNS) 3 0))
 
 module _ (S : Set) where
   abbrev pub number_of : ℕ → ℕ → ℕ
@@ -67,15 +67,15 @@ module _ (S : Set) (cs : List ℕ) (k : ℕ) where
       omega arith
 
   pub size-choice : size_of choice ≡ 2 * S.threads
-  unfolding size_of upto nextAfter next chain
+  unfolding size_of upto next_after next chain
   size-choice = choices choice (λ j. refl)
 
-  pub size-fit : size_of permittedFirst ≡ 2 * S.threads
-  unfolding size_of upto nextAfter next chain
-  size-fit = choices permittedFirst (λ j. refl)
+  pub size-fit : size_of permitted_first ≡ 2 * S.threads
+  unfolding size_of upto next_after next chain
+  size-fit = choices permitted_first (λ j. refl)
 
   pub size_none : size_of none ≡ 2 * S.threads
-  unfolding size_of upto nextAfter next chain
+  unfolding size_of upto next_after next chain
   size_none =
       let e = counted-upto (entry S cs k none 0) (λ j. cond (eqb j 0) 0 1) (λ j. cond-ap (next 0) (eqb j 0) _ _) (suc (S.threads + S.threads)) in
       let f = total-late (λ j. 1) (S.threads + S.threads) in
@@ -91,32 +91,32 @@ module _ (S : Set) (cs : List ℕ) (k : ℕ) where
       counted-upto (λ t. upto (entry S cs k kind t) (S.count t)) (λ t. total (g t) (S.count t))
       (λ t. counted-upto (entry S cs k kind t) (g t) (h t) (S.count t)) S.threads
 
-  pub size-active : size_of active ≡ sized S (λ n. 1)
-  unfolding size_of sized upto nextAfter next chain
-  size-active = statements active (λ t i. 1) (λ t i. refl)
+  pub size_active : size_of active ≡ sized S (λ n. 1)
+  unfolding size_of sized upto next_after next chain
+  size_active = statements active (λ t i. 1) (λ t i. refl)
 
   pub size-address : size_of address ≡ over S (λ t i. cond (eqb (S.statement t i).mode 1) 4 0)
-  unfolding size_of upto nextAfter next chain
+  unfolding size_of upto next_after next chain
   size-address = statements address _ (λ t i. cond-ap (next 0) (eqb (S.statement t i).mode 1) _ _)
 
-  pub size-loaded : size_of loaded ≡ sized S (λ n. cond (loads n) 4 0)
-  unfolding size_of sized upto nextAfter next chain
-  size-loaded = statements loaded _ (λ t i. cond-ap (next 0) (loads (number_of S t i)) _ _)
+  pub size_loaded : size_of loaded ≡ sized S (λ n. cond (loads n) 4 0)
+  unfolding size_of sized upto next_after next chain
+  size_loaded = statements loaded _ (λ t i. cond-ap (next 0) (loads (number_of S t i)) _ _)
 
-  pub size-swaps : size_of swaps ≡ sized S (λ n. cond (eqb n CAS) 3 0)
-  unfolding size_of sized upto nextAfter next chain
-  size-swaps = statements swaps _ (λ t i. cond-ap (next 0) (eqb (number_of S t i) CAS) _ _)
+  pub size_swaps : size_of swaps ≡ sized S (λ n. cond (eqb n CAS) 3 0)
+  unfolding size_of sized upto next_after next chain
+  size_swaps = statements swaps _ (λ t i. cond-ap (next 0) (eqb (number_of S t i) CAS) _ _)
 
-  pub size-not-test : size_of notTest ≡ sized S (ones isConditional)
-  unfolding size_of sized upto nextAfter next chain
-  size-not-test = statements notTest _ (λ t i. cond-ap (next 0) (isConditional (number_of S t i)) _ _)
+  pub size-not-test : size_of not_test ≡ sized S (ones is_conditional)
+  unfolding size_of sized upto next_after next chain
+  size-not-test = statements not_test _ (λ t i. cond-ap (next 0) (is_conditional (number_of S t i)) _ _)
 
-  pub size-result : size_of result ≡ sized S resultSize
-  unfolding size_of sized upto nextAfter next chain
-  size-result = statements result _ (λ t i. simp (cond-ap (next {Slot = Slot} 0)))
+  pub size_result : size_of result ≡ sized S result_size
+  unfolding size_of sized upto next_after next chain
+  size_result = statements result _ (λ t i. simp (cond-ap (next {Slot = Slot} 0)))
 
-  pub size-test : size_of test ≡ sized S testSize
-  unfolding size_of sized upto nextAfter next chain
+  pub size-test : size_of test ≡ sized S test_size
+  unfolding size_of sized upto next_after next chain
   size-test = statements test _ (λ t i. simp (cond-ap (next {Slot = Slot} 0)))
 
   -- ---- for each thread, with a link for each statement whose instruction passes
@@ -135,38 +135,38 @@ module _ (S : Set) (cs : List ℕ) (k : ℕ) where
       let turned = mul_comm x S.threads in
       omega arith
 
-  pub size-barred : size_of barred ≡ sized S (ones needsEmpty) + 0 * S.threads
-  unfolding size_of upto nextAfter next
-  size-barred = threads barred needsEmpty 0 (λ t. refl) (λ t. refl) (λ t i. cond-ap adds (needsEmpty (number_of S t i)) _ _)
+  pub size_barred : size_of barred ≡ sized S (ones needs_empty) + 0 * S.threads
+  unfolding size_of upto next_after next
+  size_barred = threads barred needs_empty 0 (λ t. refl) (λ t. refl) (λ t i. cond-ap adds (needs_empty (number_of S t i)) _ _)
 
-  pub size-val : size_of val ≡ sized S (ones (λ n. eqb n STORE)) + 0 * S.threads
-  unfolding size_of upto nextAfter next
-  size-val = threads val (λ n. eqb n STORE) 0 (λ t. refl) (λ t. refl) (λ t i. cond-ap adds (eqb (number_of S t i) STORE) _ _)
+  pub size_val : size_of val ≡ sized S (ones (λ n. eqb n STORE)) + 0 * S.threads
+  unfolding size_of upto next_after next
+  size_val = threads val (λ n. eqb n STORE) 0 (λ t. refl) (λ t. refl) (λ t i. cond-ap adds (eqb (number_of S t i) STORE) _ _)
 
-  pub size-adr : size_of adr ≡ sized S (ones (λ n. eqb n STORE)) + 0 * S.threads
-  unfolding size_of upto nextAfter next
-  size-adr = threads adr (λ n. eqb n STORE) 0 (λ t. refl) (λ t. refl) (λ t i. cond-ap adds (eqb (number_of S t i) STORE) _ _)
+  pub size_adr : size_of adr ≡ sized S (ones (λ n. eqb n STORE)) + 0 * S.threads
+  unfolding size_of upto next_after next
+  size_adr = threads adr (λ n. eqb n STORE) 0 (λ t. refl) (λ t. refl) (λ t i. cond-ap adds (eqb (number_of S t i) STORE) _ _)
 
   pub size-mem : size_of mem ≡ sized S (ones (λ n. eqb n MEM)) + 0 * S.threads
-  unfolding size_of upto nextAfter next
+  unfolding size_of upto next_after next
   size-mem = threads mem (λ n. eqb n MEM) 0 (λ t. refl) (λ t. refl) (λ t i. cond-ap adds (eqb (number_of S t i) MEM) _ _)
 
-  pub size-accu : size_of accu ≡ sized S (ones setsAccu) + 0 * S.threads
-  unfolding size_of upto nextAfter next
-  size-accu = threads accu setsAccu 0 (λ t. refl) (λ t. refl) (λ t i. cond-ap adds (setsAccu (number_of S t i)) _ _)
+  pub size_accu : size_of accu ≡ sized S (ones sets_accu) + 0 * S.threads
+  unfolding size_of upto next_after next
+  size_accu = threads accu sets_accu 0 (λ t. refl) (λ t. refl) (λ t i. cond-ap adds (sets_accu (number_of S t i)) _ _)
 
   pub size-full : size_of full ≡ sized S (ones (λ n. eqb n STORE)) + 1 * S.threads
-  unfolding size_of upto nextAfter next
+  unfolding size_of upto next_after next
   size-full = threads full (λ n. eqb n STORE) 1 (λ t. refl) (λ t. refl) (λ t i. cond-ap adds (eqb (number_of S t i) STORE) _ _)
 
-  pub size-halted : size_of halted ≡ sized S (ones (λ n. eqb n HALT)) + 0 * S.threads
-  unfolding size_of upto nextAfter next
-  size-halted = threads halted (λ n. eqb n HALT) 0 (λ t. refl) (λ t. refl) (λ t i. cond-ap adds (eqb (number_of S t i) HALT) _ _)
+  pub size_halted : size_of halted ≡ sized S (ones (λ n. eqb n HALT)) + 0 * S.threads
+  unfolding size_of upto next_after next
+  size_halted = threads halted (λ n. eqb n HALT) 0 (λ t. refl) (λ t. refl) (λ t i. cond-ap adds (eqb (number_of S t i) HALT) _ _)
 
-  pub size-may : size_of mayExecute ≡ 3 * S.threads
-  unfolding size_of upto nextAfter next chain
-  size-may =
-      let e = counted-upto (line S cs k mayExecute) (λ t. 3) (λ t. refl) S.threads in
+  pub size_may : size_of may_execute ≡ 3 * S.threads
+  unfolding size_of upto next_after next chain
+  size_may =
+      let e = counted-upto (line S cs k may_execute) (λ t. 3) (λ t. refl) S.threads in
       let f = total-same 3 S.threads in
       omega arith
 
@@ -188,21 +188,21 @@ module _ (S : Set) (cs : List ℕ) (k : ℕ) where
           let f = bases t in
           omega arith
 
-  pub size-writeTo : size_of writeTo ≡ sized S (ones (λ n. eqb n CAS))
-  unfolding size_of upto nextAfter next
-  size-writeTo = befores writeTo (λ n. eqb n CAS) (λ t. refl) (λ t. refl) (λ t i. cond-ap adds (eqb (number_of S (t - 1) i) CAS) _ _)
+  pub size_write_to : size_of write_to ≡ sized S (ones (λ n. eqb n CAS))
+  unfolding size_of upto next_after next
+  size_write_to = befores write_to (λ n. eqb n CAS) (λ t. refl) (λ t. refl) (λ t i. cond-ap adds (eqb (number_of S (t - 1) i) CAS) _ _)
 
-  pub size-writeValue : size_of writeValue ≡ sized S (ones (λ n. eqb n CAS))
-  unfolding size_of upto nextAfter next
-  size-writeValue = befores writeValue (λ n. eqb n CAS) (λ t. refl) (λ t. refl) (λ t i. cond-ap adds (eqb (number_of S (t - 1) i) CAS) _ _)
+  pub size_write_value : size_of write_value ≡ sized S (ones (λ n. eqb n CAS))
+  unfolding size_of upto next_after next
+  size_write_value = befores write_value (λ n. eqb n CAS) (λ t. refl) (λ t. refl) (λ t i. cond-ap adds (eqb (number_of S (t - 1) i) CAS) _ _)
 
   pub size-exits : size_of exits ≡ sized S (ones (λ n. eqb n EXIT))
-  unfolding size_of upto nextAfter next
+  unfolding size_of upto next_after next
   size-exits = befores exits (λ n. eqb n EXIT) (λ t. refl) (λ t. refl) (λ t i. cond-ap adds (eqb (number_of S (t - 1) i) EXIT) _ _)
 
-  pub size-codes : size_of codes ≡ sized S (ones (λ n. eqb n EXIT))
-  unfolding size_of upto nextAfter next
-  size-codes = befores codes (λ n. eqb n EXIT) (λ t. refl) (λ t. refl) (λ t i. cond-ap adds (eqb (number_of S (t - 1) i) EXIT) _ _)
+  pub size_codes : size_of codes ≡ sized S (ones (λ n. eqb n EXIT))
+  unfolding size_of upto next_after next
+  size_codes = befores codes (λ n. eqb n EXIT) (λ t. refl) (λ t. refl) (λ t i. cond-ap adds (eqb (number_of S (t - 1) i) EXIT) _ _)
 
   -- ---- single values
 
@@ -214,69 +214,69 @@ module _ (S : Set) (cs : List ℕ) (k : ℕ) where
       let f = total-same 1 n in
       omega arith
 
-  pub size-one : size_of onePermitted ≡ S.threads + S.threads + 0
-  unfolding size_of upto nextAfter next
-  size-one = singles onePermitted (S.threads + S.threads) (λ i. refl)
+  pub size-one : size_of one_permitted ≡ S.threads + S.threads + 0
+  unfolding size_of upto next_after next
+  size-one = singles one_permitted (S.threads + S.threads) (λ i. refl)
 
-  pub size-flushTo : size_of flushTo ≡ S.threads + 0
-  unfolding size_of upto nextAfter next
-  size-flushTo = singles flushTo S.threads (λ i. refl)
+  pub size_flush_to : size_of flush_to ≡ S.threads + 0
+  unfolding size_of upto next_after next
+  size_flush_to = singles flush_to S.threads (λ i. refl)
 
-  pub size-flushValue : size_of flushValue ≡ S.threads + 1
-  unfolding size_of upto nextAfter next
-  size-flushValue = singles flushValue S.threads (λ i. refl)
+  pub size_flush_value : size_of flush_value ≡ S.threads + 1
+  unfolding size_of upto next_after next
+  size_flush_value = singles flush_value S.threads (λ i. refl)
 
-  pub size-halts : size_of halts ≡ S.threads + 0
-  unfolding size_of upto nextAfter next
-  size-halts = singles halts S.threads (λ i. refl)
+  pub size_halts : size_of halts ≡ S.threads + 0
+  unfolding size_of upto next_after next
+  size_halts = singles halts S.threads (λ i. refl)
 
-  pub size-memory : size_of sharedMemory ≡ 1
-  unfolding size_of upto nextAfter next chain
+  pub size-memory : size_of shared_memory ≡ 1
+  unfolding size_of upto next_after next chain
   size-memory = refl
 
   pub size-ended : size_of ended ≡ 1
-  unfolding size_of upto nextAfter next chain
+  unfolding size_of upto next_after next chain
   size-ended = refl
 
   pub size-code : size_of code ≡ 0
-  unfolding size_of upto nextAfter next chain
+  unfolding size_of upto next_after next chain
   size-code = refl
 
   -- ---- checkpoints and marks
 
   pub size-shut : size_of shut ≡ length cs
-  unfolding size_of upto nextAfter next chain
+  unfolding size_of upto next_after next chain
   size-shut =
       let e = counted-upto (entry S cs k shut 0) (λ p. 1) (λ p. refl) (length cs) in
       let f = total-same 1 (length cs) in
       omega arith
 
-  of-marks : (kind : Kind) → ((t p : ℕ) → counted (entry S cs k kind t p) ≡ marked S cs t p) →
+  of_marks : (kind : Kind) → ((t p : ℕ) → counted (entry S cs k kind t p) ≡ marked S cs t p) →
       counted (upto (λ t. upto (entry S cs k kind t) (length cs)) S.threads) ≡ marks S cs
   unfolding marks
-  of-marks kind h =
+  of_marks kind h =
       counted-upto (λ t. upto (entry S cs k kind t) (length cs)) (λ t. total (marked S cs t) (length cs))
       (λ t. counted-upto (entry S cs k kind t) (marked S cs t) (h t) (length cs)) S.threads
 
   pub size-held : size_of held ≡ marks S cs
-  unfolding size_of upto nextAfter next chain
-  size-held = of-marks held (λ t p. cond-ap counted (contains S t (get_or cs p 0)) _ _)
+  unfolding size_of upto next_after next chain
+  size-held = of_marks held (λ t p. cond-ap counted (contains S t (get_or cs p 0)) _ _)
 
-  pub size-mark : size_of mark ≡ marks S cs
-  unfolding size_of upto nextAfter next chain
-  size-mark = of-marks mark (λ t p. cond-ap counted (contains S t (get_or cs p 0)) _ _)
+  pub size_mark : size_of mark ≡ marks S cs
+  unfolding size_of upto next_after next chain
+  size_mark = of_marks mark (λ t p. cond-ap counted (contains S t (get_or cs p 0)) _ _)
 
   pub size-waits : size_of waits ≡ marks S cs
-  unfolding size_of marks upto nextAfter next
+  unfolding size_of marks upto next_after next
   size-waits =
       counted-upto (line S cs k waits) (λ t. total (marked S cs t) (length cs)) (λ t.
       let e = counted-chain (link S cs k waits t 0) (marked S cs t) (λ p. cond-ap adds (contains S t (get_or cs p 0)) _ _) (base S cs k waits t 0) (length cs) in
       omega arith) S.threads
 
-  pub size-opening : size_of opening ≡ marks S cs
-  unfolding size_of marks upto nextAfter next
-  size-opening =
+  pub size_opening : size_of opening ≡ marks S cs
+  unfolding size_of marks upto next_after next
+  size_opening =
       counted-upto (entry S cs k opening 0) (λ p. total (λ t. marked S cs t p) S.threads) (λ p.
       let e = counted-chain (link S cs k opening 0 p) (λ t. marked S cs t p) (λ t. cond-ap adds (contains S t (get_or cs p 0)) _ _) (base S cs k opening 0 p) S.threads in
       omega arith) (length cs)
-      ∙ total-swap (λ p t. marked S cs t p) (length cs) S.threads
+      ∙ total_swap (λ p t. marked S cs t p) (length cs) S.threads

@@ -9,25 +9,25 @@ use lib.ListN.{length, get_or}
 use borrow.Author.Tests.{eqb-true, eq-eqb}
 use Rattle.base.specs.Below.{number}
 use Rattle.base.proofs.Below.{some_at}
-use Rattle.base.proofs.Choice.{passed, cond-ap, and-true, refuted, clash, or_right}
+use Rattle.base.proofs.Choice.{passed, cond-ap, and_true, refuted, clash, or_right}
 use Rattle.records.specs.Instructions.{JMP, CHECK}
 use Rattle.records.specs.Sets.{Set}
 use Rattle.machine.specs.Machine.{contains}
-use Rattle.table.specs.Programs.{next, upto, nextAfter}
-use Rattle.table.specs.Formulas.{bitSort}
-use Rattle.encoding.specs.Slots.{active, test, notTest, raised, flag, bitOne, Slot, slot}
-use Rattle.encoding.specs.Steps.{skip, ifThen, only, is_plain, isConditional, isOneWay, rests, chain, link, base, entry, leads}
-use Rattle.encoder_size.specs.Sizes.{total, within, leadRecords, checkRecords}
-use Rattle.encoder_size.proofs.Sums.{total_ext, total-plus, total-same, total-swap, total-point, total-number}
+use Rattle.table.specs.Programs.{next, upto, next_after}
+use Rattle.table.specs.Formulas.{bit_sort}
+use Rattle.encoding.specs.Slots.{active, test, not_test, raised, flag, bit_one, Slot, slot}
+use Rattle.encoding.specs.Steps.{skip, if_then, only, is_plain, is_conditional, is_one_way, rests, chain, link, base, entry, leads}
+use Rattle.encoder_size.specs.Sizes.{total, within, lead_records, check_records}
+use Rattle.encoder_size.proofs.Sums.{total_ext, total-plus, total-same, total_swap, total-point, total-number}
 use Rattle.encoder_size.proofs.Counted.{counted, counted-upto, adds, counted-chain}
 use Rattle.encoder_size.proofs.Blocks.{number_of, over, sized, size_of, statements}
 
 -- ---- sums over all statements
 
 module _ (S : Set) where
-  pub over-ext : (f g : ℕ → ℕ → ℕ) → ((t i : ℕ) → i < S.count t → f t i ≡ g t i) → over S f ≡ over S g
+  pub over_ext : (f g : ℕ → ℕ → ℕ) → ((t i : ℕ) → i < S.count t → f t i ≡ g t i) → over S f ≡ over S g
   unfolding over
-  over-ext f g h =
+  over_ext f g h =
       total_ext (λ t. total (f t) (S.count t)) (λ t. total (g t) (S.count t)) S.threads
       (λ t l. total_ext (f t) (g t) (S.count t) (h t))
 
@@ -51,17 +51,17 @@ module _ (S : Set) where
   unfolding over
   over-turned f g h =
       total_ext (λ t. total (λ j. total (f t j) (S.count t)) (S.count t)) (λ t. total (g t) (S.count t)) S.threads
-      (λ t l. total-swap (f t) (S.count t) (S.count t) ∙ total_ext (λ i. total (λ j. f t j i) (S.count t)) (g t) (S.count t) (λ i q. h t i))
+      (λ t l. total_swap (f t) (S.count t) (S.count t) ∙ total_ext (λ i. total (λ j. f t j i) (S.count t)) (g t) (S.count t) (λ i q. h t i))
 
 -- ---- the statements that one leads to
 
 -- one link to x
-to_one : (x n : ℕ) (sort : ℕ) (a b : Slot) → total (λ j. adds (cond (eqb x j) (ifThen sort a b) skip)) n ≡ within x n
-to_one x n sort a b = total_ext _ (λ j. cond (eqb x j) 1 0) n (λ j l. cond-ap adds (eqb x j) (ifThen sort a b) skip) ∙ total-point x n
+to_one : (x n : ℕ) (sort : ℕ) (a b : Slot) → total (λ j. adds (cond (eqb x j) (if_then sort a b) skip)) n ≡ within x n
+to_one x n sort a b = total_ext _ (λ j. cond (eqb x j) 1 0) n (λ j l. cond-ap adds (eqb x j) (if_then sort a b) skip) ∙ total-point x n
 
 -- links to two different ones
 to-two : (x y n : ℕ) → (x ≡ y → ⊥) → (sort : ℕ) (a b c d : Slot) →
-    total (λ j. adds (cond (eqb x j) (ifThen sort a b) (cond (eqb y j) (ifThen sort c d) skip))) n ≡ within x n + within y n
+    total (λ j. adds (cond (eqb x j) (if_then sort a b) (cond (eqb y j) (if_then sort c d) skip))) n ≡ within x n + within y n
 to-two x y n apart sort a b c d =
     let both = total_ext _ (λ j. cond (eqb x j) 1 0 + cond (eqb y j) 1 0) n (λ j l. go j (eqb x j) refl (eqb y j) refl) in
     let parts = total-plus (λ j. cond (eqb x j) 1 0) (λ j. cond (eqb y j) 1 0) n in
@@ -69,7 +69,7 @@ to-two x y n apart sort a b c d =
     let second = total-point y n in
     both ∙ (parts ∙ ap₂ (λ u v. u + v) first second)
   where
-    go : (j : ℕ) (s : Bool) → eqb x j ≡ s → (t : Bool) → eqb y j ≡ t → adds (cond s (ifThen sort a b) (cond t (ifThen sort c d) skip)) ≡ cond s 1 0 + cond t 1 0
+    go : (j : ℕ) (s : Bool) → eqb x j ≡ s → (t : Bool) → eqb y j ≡ t → adds (cond s (if_then sort a b) (cond t (if_then sort c d) skip)) ≡ cond s 1 0 + cond t 1 0
     go j true e true f = absurd (apart (eqb-true x j e ∙ sym (eqb-true y j f)))
     go j true e false f = refl
     go j false e true f = refl
@@ -78,9 +78,9 @@ to-two x y n apart sort a b c d =
 -- nowhere; to x; to x and the next; to the next
 to-each : (x i n sort : ℕ) (a b taken missed : Slot) (stays single double : Bool) → (single ≡ false → double ≡ true → x ≡ suc i → ⊥) →
     total (λ j. adds (cond stays skip
-    (cond single (cond (eqb x j) (ifThen sort a b) skip)
-    (cond double (cond (eqb x j) (ifThen sort a taken) (cond (eqb (suc i) j) (ifThen sort a missed) skip))
-    (cond (eqb (suc i) j) (ifThen sort a b) skip))))) n
+    (cond single (cond (eqb x j) (if_then sort a b) skip)
+    (cond double (cond (eqb x j) (if_then sort a taken) (cond (eqb (suc i) j) (if_then sort a missed) skip))
+    (cond (eqb (suc i) j) (if_then sort a b) skip))))) n
     ≡ cond stays 0 (cond single (within x n) (cond double (within x n + within (suc i) n) (within (suc i) n)))
 to-each x i n sort a b taken missed true single double h = let e = total-same 0 n in omega arith
 to-each x i n sort a b taken missed false true double h = to_one x n sort a b
@@ -88,18 +88,18 @@ to-each x i n sort a b taken missed false false true h = to-two x (suc i) n (h r
 to-each x i n sort a b taken missed false false false h = to_one (suc i) n sort a b
 
 module _ (S : Set) (cs : List ℕ) (k : ℕ) where
-  leads-size : (t i n : ℕ) → total (λ j. adds (leads S cs k t j i)) n ≡ leadRecords (number_of S t i) (S.statement t i).argument i n
-  unfolding leadRecords
+  leads-size : (t i n : ℕ) → total (λ j. adds (leads S cs k t j i)) n ≡ lead_records (number_of S t i) (S.statement t i).argument i n
+  unfolding lead_records
   leads-size t i n =
       let m = number_of S t i in
       let x = (S.statement t i).argument in
-      to-each x i n bitSort (slot active t i) (only bitOne) (slot (cond (is_plain m) test notTest) t i) (slot (cond (is_plain m) notTest test) t i)
-      (rests m) (isOneWay m x i) (isConditional m)
-      (λ o d e. clash (and-true d (eq-eqb x (suc i) e)) (or_right (eqb m JMP) (isConditional m && eqb x (suc i)) o))
+      to-each x i n bit_sort (slot active t i) (only bit_one) (slot (cond (is_plain m) test not_test) t i) (slot (cond (is_plain m) not_test test) t i)
+      (rests m) (is_one_way m x i) (is_conditional m)
+      (λ o d e. clash (and_true d (eq-eqb x (suc i) e)) (or_right (eqb m JMP) (is_conditional m && eqb x (suc i)) o))
 
   -- a flag's base, and what leads to it
-  pub size-flag : size_of S cs k flag ≡ over S (λ t i. leadRecords (number_of S t i) (S.statement t i).argument i (S.count t)) + sized S (λ n. cond (rests n) 0 1)
-  unfolding size_of sized upto nextAfter next
+  pub size-flag : size_of S cs k flag ≡ over S (λ t i. lead_records (number_of S t i) (S.statement t i).argument i (S.count t)) + sized S (λ n. cond (rests n) 0 1)
+  unfolding size_of sized upto next_after next
   size-flag =
       let each = statements S cs k flag (λ t j. total (λ i. adds (leads S cs k t j i)) (S.count t) + cond (rests (number_of S t j)) 0 1) (λ t j.
       let e = counted-chain (leads S cs k t j) (λ i. adds (leads S cs k t j i)) (λ i. refl) (base S cs k flag t j) (S.count t) in
@@ -108,7 +108,7 @@ module _ (S : Set) (cs : List ℕ) (k : ℕ) where
       each ∙ (over-plus S (λ t j. total (λ i. adds (leads S cs k t j i)) (S.count t)) (λ t j. cond (rests (number_of S t j)) 0 1)
       ∙ ap (λ (y : ℕ). y + over S (λ t i. cond (rests (number_of S t i)) 0 1)) turned)
     where
-      turned : over S (λ t j. total (λ i. adds (leads S cs k t j i)) (S.count t)) ≡ over S (λ t i. leadRecords (number_of S t i) (S.statement t i).argument i (S.count t))
+      turned : over S (λ t j. total (λ i. adds (leads S cs k t j i)) (S.count t)) ≡ over S (λ t i. lead_records (number_of S t i) (S.statement t i).argument i (S.count t))
       turned = over-turned S (λ t j i. adds (leads S cs k t j i)) _ (λ t i. leads-size t i (S.count t))
 
   -- ---- the marks that one raises
@@ -117,9 +117,9 @@ module _ (S : Set) (cs : List ℕ) (k : ℕ) where
   raises t p i = eqb (number_of S t i) CHECK && eqb (S.statement t i).argument (get_or cs p 0)
 
   -- a thread raises no mark at a checkpoint that it does not contain
-  raised-none : (t p : ℕ) → cond (contains S t (get_or cs p 0)) (total (λ i. cond (raises t p i) 1 0) (S.count t)) 0 ≡ total (λ i. cond (raises t p i) 1 0) (S.count t)
+  raised_none : (t p : ℕ) → cond (contains S t (get_or cs p 0)) (total (λ i. cond (raises t p i) 1 0) (S.count t)) 0 ≡ total (λ i. cond (raises t p i) 1 0) (S.count t)
   unfolding contains
-  raised-none t p = go (contains S t (get_or cs p 0)) refl
+  raised_none t p = go (contains S t (get_or cs p 0)) refl
     where
       go : (b : Bool) → contains S t (get_or cs p 0) ≡ b → cond b (total (λ i. cond (raises t p i) 1 0) (S.count t)) 0 ≡ total (λ i. cond (raises t p i) 1 0) (S.count t)
       go true e = refl
@@ -129,8 +129,8 @@ module _ (S : Set) (cs : List ℕ) (k : ℕ) where
           let none = total-same 0 (S.count t) in
           omega arith
 
-  checks-size : (t i : ℕ) → total (λ p. cond (raises t p i) 1 0) (length cs) ≡ checkRecords cs (number_of S t i) (S.statement t i).argument
-  unfolding checkRecords
+  checks-size : (t i : ℕ) → total (λ p. cond (raises t p i) 1 0) (length cs) ≡ check_records cs (number_of S t i) (S.statement t i).argument
+  unfolding check_records
   checks-size t i = go (eqb (number_of S t i) CHECK)
     where
       go : (b : Bool) → total (λ p. cond (b && eqb (S.statement t i).argument (get_or cs p 0)) 1 0) (length cs)
@@ -138,12 +138,12 @@ module _ (S : Set) (cs : List ℕ) (k : ℕ) where
       go true = sym (total-number (λ p. eqb (S.statement t i).argument (get_or cs p 0)) (length cs))
       go false = let e = total-same 0 (length cs) in omega arith
 
-  pub size-raised : size_of S cs k raised ≡ over S (λ t i. checkRecords cs (number_of S t i) (S.statement t i).argument)
-  unfolding size_of over upto nextAfter next
-  size-raised =
-      counted-upto (λ t. upto (entry S cs k raised t) (length cs)) (λ t. total (λ i. checkRecords cs (number_of S t i) (S.statement t i).argument) (S.count t))
+  pub size_raised : size_of S cs k raised ≡ over S (λ t i. check_records cs (number_of S t i) (S.statement t i).argument)
+  unfolding size_of over upto next_after next
+  size_raised =
+      counted-upto (λ t. upto (entry S cs k raised t) (length cs)) (λ t. total (λ i. check_records cs (number_of S t i) (S.statement t i).argument) (S.count t))
       (λ t. counted-upto (entry S cs k raised t) (λ p. total (λ i. cond (raises t p i) 1 0) (S.count t)) (λ p. each t p) (length cs)
-      ∙ (total-swap (λ p i. cond (raises t p i) 1 0) (length cs) (S.count t)
+      ∙ (total_swap (λ p i. cond (raises t p i) 1 0) (length cs) (S.count t)
       ∙ total_ext _ _ (S.count t) (λ i l. checks-size t i))) S.threads
     where
       each : (t p : ℕ) → counted (entry S cs k raised t p) ≡ total (λ i. cond (raises t p i) 1 0) (S.count t)
@@ -151,4 +151,4 @@ module _ (S : Set) (cs : List ℕ) (k : ℕ) where
           let e = counted-chain (link S cs k raised t p) (λ i. cond (raises t p i) 1 0) (λ i. cond-ap adds (raises t p i) _ _) (base S cs k raised t p) (S.count t) in
           let f : next 0 (chain (link S cs k raised t p) (S.count t) (base S cs k raised t p)) ≡ total (λ i. cond (raises t p i) 1 0) (S.count t) = omega arith in
           cond-ap counted (contains S t (get_or cs p 0)) _ _
-          ∙ (ap (λ (y : ℕ). cond (contains S t (get_or cs p 0)) y 0) f ∙ raised-none t p)
+          ∙ (ap (λ (y : ℕ). cond (contains S t (get_or cs p 0)) y 0) f ∙ raised_none t p)

@@ -10,28 +10,28 @@ use lib.Dec.{eqb}
 use lib.ListN.{length, get_or, set, replicate, length-replicate, get_or-replicate, get_or-eq_default}
 use lib.Seq.{get_or-set_same, get_or-set_other}
 use Rattle.base.specs.Below.{some, number}
-use Rattle.base.proofs.Below.{number-stays, number-ext}
-use Rattle.base.proofs.Choice.{or_no, or-three, or-right-true}
-use Rattle.encoder_size.specs.Seen.{isSeen, Notes}
+use Rattle.base.proofs.Below.{number-stays, number_ext}
+use Rattle.base.proofs.Choice.{or_no, or_three, or_right_true}
+use Rattle.encoder_size.specs.Seen.{is_seen, Notes}
 
 -- ---- one checkpoint after the other
 
 -- none was looked at
-pub notes-none : (test : ℕ → Bool) (seen : List ℕ) → Notes 0 test seen seen
-notes-none test seen = record {
+pub notes_none : (test : ℕ → Bool) (seen : List ℕ) → Notes 0 test seen seen
+notes_none test seen = record {
   below = λ (p : ℕ) (h : p < 0). absurd (omega arith);
   past = λ (p : ℕ) h. refl;
 }
 
 module _ (n : ℕ) (test : ℕ → Bool) (seen after : List ℕ) where
   -- one that passes is noted, at its own place
-  pub notes-more : (at : ℕ) → at ≡ n → n < length after → test n ≡ true → Notes n test seen after → Notes (n + 1) test seen (set after at 1)
-  notes-more at here room e w = record {
+  pub notes_more : (at : ℕ) → at ≡ n → n < length after → test n ≡ true → Notes n test seen after → Notes (n + 1) test seen (set after at 1)
+  notes_more at here room e w = record {
     below = λ (p : ℕ) (h : p < n + 1). elim (ℕ_discrete p at) [
       | yes f ↦
-          ap (λ (i : ℕ). isSeen (set after at 1) i) f
+          ap (λ (i : ℕ). is_seen (set after at 1) i) f
           ∙ (ap (λ (x : ℕ). not (eqb x 0)) (get_or-set_same after at 1 0 (omega arith))
-          ∙ sym (or-right-true (isSeen seen p) (ap test (f ∙ here) ∙ e)))
+          ∙ sym (or_right_true (is_seen seen p) (ap test (f ∙ here) ∙ e)))
       | no f ↦ ap (λ (x : ℕ). not (eqb x 0)) (get_or-set_other after at p 1 0 f) ∙ w.below p (omega arith)
     ];
     past = λ (p : ℕ) (h : n + 1 ≤ p).
@@ -40,12 +40,12 @@ module _ (n : ℕ) (test : ℕ → Bool) (seen after : List ℕ) where
   }
 
   -- another stays as it was
-  pub notes-same : test n ≡ false → Notes n test seen after → Notes (n + 1) test seen after
-  notes-same e w = record {
+  pub notes_same : test n ≡ false → Notes n test seen after → Notes (n + 1) test seen after
+  notes_same e w = record {
     below = λ (p : ℕ) (h : p < n + 1). elim (ℕ_discrete p n) [
       | yes f ↦
           w.past p (omega arith)
-          ∙ (sym (or_no (isSeen seen p)) ∙ ap (λ (b : Bool). isSeen seen p || b) (sym (ap test f ∙ e)))
+          ∙ (sym (or_no (is_seen seen p)) ∙ ap (λ (b : Bool). is_seen seen p || b) (sym (ap test f ∙ e)))
       | no f ↦ w.below p (omega arith)
     ];
     past = λ (p : ℕ) (h : n + 1 ≤ p). w.past p (omega arith);
@@ -54,40 +54,40 @@ module _ (n : ℕ) (test : ℕ → Bool) (seen after : List ℕ) where
 -- ---- one statement after the other
 
 -- nothing is noted
-pub notes-nothing : (n : ℕ) (test : ℕ → Bool) (seen : List ℕ) → ((p : ℕ) → test p ≡ false) → Notes n test seen seen
-notes-nothing n test seen e = record {
-  below = λ (p : ℕ) h. sym (ap (λ (b : Bool). isSeen seen p || b) (e p) ∙ or_no (isSeen seen p));
+pub notes_nothing : (n : ℕ) (test : ℕ → Bool) (seen : List ℕ) → ((p : ℕ) → test p ≡ false) → Notes n test seen seen
+notes_nothing n test seen e = record {
+  below = λ (p : ℕ) h. sym (ap (λ (b : Bool). is_seen seen p || b) (e p) ∙ or_no (is_seen seen p));
   past = λ (p : ℕ) h. refl;
 }
 
 -- another test that agrees
-pub notes-ext : (n : ℕ) (f g : ℕ → Bool) (seen after : List ℕ) → ((p : ℕ) → f p ≡ g p) → Notes n f seen after → Notes n g seen after
-notes-ext n f g seen after e w = record {
-  below = λ (p : ℕ) h. w.below p h ∙ ap (λ (b : Bool). isSeen seen p || b) (e p);
+pub notes_ext : (n : ℕ) (f g : ℕ → Bool) (seen after : List ℕ) → ((p : ℕ) → f p ≡ g p) → Notes n f seen after → Notes n g seen after
+notes_ext n f g seen after e w = record {
+  below = λ (p : ℕ) h. w.below p h ∙ ap (λ (b : Bool). is_seen seen p || b) (e p);
   past = w.past;
 }
 
 -- two tests
-pub notes-then : (n : ℕ) (f g : ℕ → Bool) (seen between after : List ℕ) → Notes n f seen between → Notes n g between after →
+pub notes_then : (n : ℕ) (f g : ℕ → Bool) (seen between after : List ℕ) → Notes n f seen between → Notes n g between after →
     Notes n (λ p. f p || g p) seen after
-notes-then n f g seen between after v w = record {
-  below = λ (p : ℕ) h. w.below p h ∙ (ap (λ (b : Bool). b || g p) (v.below p h) ∙ or-three (isSeen seen p) (f p) (g p));
+notes_then n f g seen between after v w = record {
+  below = λ (p : ℕ) h. w.below p h ∙ (ap (λ (b : Bool). b || g p) (v.below p h) ∙ or_three (is_seen seen p) (f p) (g p));
   past = λ (p : ℕ) h. w.past p h ∙ v.past p h;
 }
 
 -- one statement more
-pub notes-next : (n i : ℕ) (f : ℕ → ℕ → Bool) (seen between after : List ℕ) → Notes n (λ p. some i (λ j. f j p)) seen between → Notes n (f i) between after →
+pub notes_next : (n i : ℕ) (f : ℕ → ℕ → Bool) (seen between after : List ℕ) → Notes n (λ p. some i (λ j. f j p)) seen between → Notes n (f i) between after →
     Notes n (λ p. some (i + 1) (λ j. f j p)) seen after
 unfolding some
-notes-next n i f seen between after v w =
-    notes-ext n (λ p. some i (λ j. f j p) || f i p) (λ p. some (i + 1) (λ j. f j p)) seen after
+notes_next n i f seen between after v w =
+    notes_ext n (λ p. some i (λ j. f j p) || f i p) (λ p. some (i + 1) (λ j. f j p)) seen after
     (λ p. sym (ap (λ (k : ℕ). some k (λ j. f j p)) (add-one i)))
-    (notes-then n (λ p. some i (λ j. f j p)) (f i) seen between after v w)
+    (notes_then n (λ p. some i (λ j. f j p)) (f i) seen between after v w)
 
 -- ---- how many are noted
 
 -- at first none is
-seen_none : (n p : ℕ) → isSeen (replicate n 0) p ≡ false
+seen_none : (n p : ℕ) → is_seen (replicate n 0) p ≡ false
 seen_none n p = ap (λ (x : ℕ). not (eqb x 0)) zero-at
   where
     zero-at : ◌≡◌ {A = ℕ} (get_or (replicate n 0) p 0) 0
@@ -99,7 +99,7 @@ seen_none n p = ap (λ (x : ℕ). not (eqb x 0)) zero-at
     ]
 
 -- as many as pass
-pub seen-number : (n m : ℕ) (test : ℕ → Bool) (after : List ℕ) → n ≤ m → Notes n test (replicate m 0) after → number m (isSeen after) ≡ number n test
+pub seen-number : (n m : ℕ) (test : ℕ → Bool) (after : List ℕ) → n ≤ m → Notes n test (replicate m 0) after → number m (is_seen after) ≡ number n test
 seen-number n m test after few w =
-    number-stays (isSeen after) n m few (λ p h l. w.past p h ∙ seen_none m p)
-    ∙ number-ext (isSeen after) test n (λ p h. w.below p h ∙ ap (λ (b : Bool). b || test p) (seen_none m p))
+    number-stays (is_seen after) n m few (λ p h l. w.past p h ∙ seen_none m p)
+    ∙ number_ext (is_seen after) test n (λ p h. w.below p h ∙ ap (λ (b : Bool). b || test p) (seen_none m p))

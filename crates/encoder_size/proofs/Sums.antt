@@ -44,10 +44,10 @@ total-same x zero = omega arith
 total-same x (suc n) = let e = total-same x n in let m = suc-mul n x in omega arith
 
 -- two sums in the other order
-pub total-swap : (f : ℕ → ℕ → ℕ) (n m : ℕ) → total (λ i. total (f i) m) n ≡ total (λ j. total (λ i. f i j) n) m
+pub total_swap : (f : ℕ → ℕ → ℕ) (n m : ℕ) → total (λ i. total (f i) m) n ≡ total (λ j. total (λ i. f i j) n) m
 unfolding total
-total-swap f zero m = let e = total-same 0 m in omega arith
-total-swap f (suc n) m = ap (λ (x : ℕ). x + total (f n) m) (total-swap f n m) ∙ sym (total-plus (λ j. total (λ i. f i j) n) (f n) m)
+total_swap f zero m = let e = total-same 0 m in omega arith
+total_swap f (suc n) m = ap (λ (x : ℕ). x + total (f n) m) (total_swap f n m) ∙ sym (total-plus (λ j. total (λ i. f i j) n) (f n) m)
 
 -- how many pass is a sum of ones
 pub total-number : (test : ℕ → Bool) (n : ℕ) → number n test ≡ total (λ i. cond (test i) 1 0) n

@@ -1,17 +1,17 @@
 // The size of a table in closed form (docs/TABLE.md, "The size"): of one step, and of the whole table.
 ghost use Rattle.std.specs.Prelude.{◌≡◌, cond, ℕ, ◌+◌, ◌*◌, ◌≤◌, eqb, length, get_or};
-ghost use Rattle.base.specs.Below.{number as numberBelow};
-ghost use Rattle.records.specs.Maps.{cells, setCells};
-ghost use Rattle.records.specs.Sets.{setBy, mostCheckpoints, mostRecords};
+ghost use Rattle.base.specs.Below.{number as number_below};
+ghost use Rattle.records.specs.Maps.{cells, set_cells};
+ghost use Rattle.records.specs.Sets.{set_by, most_checkpoints, most_records};
 ghost use Rattle.machine.specs.Machine.{contains};
-ghost use Rattle.table.specs.Programs.{nextAfter};
-ghost use Rattle.encoding.specs.Encodings.{encoded as encodedOf};
+ghost use Rattle.table.specs.Programs.{next_after};
+ghost use Rattle.encoding.specs.Encodings.{encoded as encoded_of};
 ghost use Rattle.encoding.specs.Slots.{same};
 ghost use Rattle.encoding.specs.Steps.{step as step_of};
 ghost use Rattle.set_index.specs.Points.{listed};
-ghost use Rattle.encoder_size.specs.Seen.{isSeen, checksAt, Notes};
-ghost use Rattle.encoder_size.specs.Sizes.{Limits, total, ownRecords, within as withinOf, leadRecords, checkRecords, statementRecords, threadRecords, tableRoom};
-ghost use Rattle.machine.specs.Runs.{mostSteps};
+ghost use Rattle.encoder_size.specs.Seen.{is_seen, checks_at, Notes};
+ghost use Rattle.encoder_size.specs.Sizes.{Limits, total, own_records, within as within_of, lead_records, check_records, statement_records, thread_records, table_room};
+ghost use Rattle.machine.specs.Runs.{most_steps};
 
 use records::instructions::{CHECK, EXIT, HALT, JMP};
 use records::{Layout, Statement};
@@ -44,7 +44,7 @@ const GOAL: u64 = 3;
 
 // The records of a direct statement of instruction n, without those of the links that lead from it and that raise its mark.
 fn own(n: u8) -> u64
-    ensures { (result ≡ ownRecords n) × (result ≤ 10) }
+    ensures { (result ≡ own_records n) × (result ≤ 10) }
 {
     if n < Statement::INSTRUCTIONS {
         // The bytes of a literal lie in the program: an array would be made anew for each statement. By instruction:
@@ -59,7 +59,7 @@ fn own(n: u8) -> u64
 
 // 1 for a statement j that a thread of `count` statements has.
 fn within(j: u32, count: u16) -> u64
-    ensures { (result ≡ withinOf j count) × (result ≤ 1) }
+    ensures { (result ≡ within_of j count) × (result ≤ 1) }
 {
     if j < (count as u32) {
         return 1;
@@ -69,7 +69,7 @@ fn within(j: u32, count: u16) -> u64
 
 // To how many statements of its thread statement i leads.
 fn leads(n: u8, target: u16, i: u16, count: u16) -> u64
-    ensures { (result ≡ leadRecords n target i count) × (result ≤ 2) }
+    ensures { (result ≡ lead_records n target i count) × (result ≤ 2) }
 {
     if (n == HALT) | (n == EXIT) {
         return 0;
@@ -89,8 +89,8 @@ fn leads(n: u8, target: u16, i: u16, count: u16) -> u64
 
 // How many of the checkpoints have number c; each of them is noted as seen.
 fn checks(points: Points, c: u16, seen: &mut [u8]) -> u64
-    requires { length seen.old ≡ mostCheckpoints }
-    ensures { (result ≡ numberBelow (length (listed points)) (λ p. eqb c (get_or (listed points) p 0))) × (result ≤ mostCheckpoints)
+    requires { length seen.old ≡ most_checkpoints }
+    ensures { (result ≡ number_below (length (listed points)) (λ p. eqb c (get_or (listed points) p 0))) × (result ≤ most_checkpoints)
         × (length seen.new ≡ length seen.old)
         × Notes (length (listed points)) (λ p. eqb c (get_or (listed points) p 0)) seen.old seen.new }
 {
@@ -113,10 +113,10 @@ fn checks(points: Points, c: u16, seen: &mut [u8]) -> u64
 
 // How many of them a statement is a CHECK of; each of them is noted as seen.
 fn raises(points: Points, n: u8, argument: u16, seen: &mut [u8]) -> u64
-    requires { length seen.old ≡ mostCheckpoints }
-    ensures { (result ≡ checkRecords (listed points) n argument) × (result ≤ mostCheckpoints)
+    requires { length seen.old ≡ most_checkpoints }
+    ensures { (result ≡ check_records (listed points) n argument) × (result ≤ most_checkpoints)
         × (length seen.new ≡ length seen.old)
-        × Notes (length (listed points)) (checksAt (listed points) n argument) seen.old seen.new }
+        × Notes (length (listed points)) (checks_at (listed points) n argument) seen.old seen.new }
 {
     if n == CHECK {
         return checks(points, argument, seen);
@@ -136,10 +136,10 @@ fn indirect(mode: u8) -> u64
 
 // The records of statement i in a thread of `count`; the checkpoints that it is a CHECK of are noted as seen.
 fn statement(points: Points, s: Statement, i: u16, count: u16, seen: &mut [u8]) -> u64
-    requires { length seen.old ≡ mostCheckpoints }
-    ensures { (result ≡ statementRecords (listed points) count i s) × (result ≤ 24)
+    requires { length seen.old ≡ most_checkpoints }
+    ensures { (result ≡ statement_records (listed points) count i s) × (result ≤ 24)
         × (length seen.new ≡ length seen.old)
-        × Notes (length (listed points)) (checksAt (listed points) s.number s.argument) seen.old seen.new }
+        × Notes (length (listed points)) (checks_at (listed points) s.number s.argument) seen.old seen.new }
 {
     own(s.number)
         + indirect(s.mode)
@@ -151,10 +151,10 @@ fn statement(points: Points, s: Statement, i: u16, count: u16, seen: &mut [u8]) 
 
 // The records of the statements of thread t, which has `count` of them; the checkpoints that it contains are noted as seen.
 fn statements(set: &[u8], layout: Layout, points: Points, t: u8, count: u16, seen: &mut [u8]) -> u64
-    requires { (count ≡ get_or layout.counts t 0) × (length seen.old ≡ mostCheckpoints) }
-    ensures { (result ≡ total (λ i. statementRecords (listed points) count i ((setBy set.now layout).statement t i)) count) × (result ≤ 24 * count)
+    requires { (count ≡ get_or layout.counts t 0) × (length seen.old ≡ most_checkpoints) }
+    ensures { (result ≡ total (λ i. statement_records (listed points) count i ((set_by set.now layout).statement t i)) count) × (result ≤ 24 * count)
         × (length seen.new ≡ length seen.old)
-        × Notes (length (listed points)) (λ p. contains (setBy set.now layout) t (get_or (listed points) p 0)) seen.old seen.new }
+        × Notes (length (listed points)) (λ p. contains (set_by set.now layout) t (get_or (listed points) p 0)) seen.old seen.new }
 {
     let first = records::first(layout, t);
     let mut n: u64 = 0;
@@ -169,7 +169,7 @@ fn statements(set: &[u8], layout: Layout, points: Points, t: u8, count: u16, see
 
 // How many checkpoints are noted as seen.
 fn marks(seen: &[u8]) -> u64
-    ensures { (result ≡ numberBelow mostCheckpoints (isSeen seen.now)) × (result ≤ mostCheckpoints) }
+    ensures { (result ≡ number_below most_checkpoints (is_seen seen.now)) × (result ≤ most_checkpoints) }
 {
     let mut found: u64 = 0;
     let mut p: usize = 0;
@@ -184,7 +184,7 @@ fn marks(seen: &[u8]) -> u64
 
 // The records of thread t.
 fn thread(set: &[u8], layout: Layout, points: Points, t: u8) -> u64
-    ensures { (result ≡ threadRecords (setBy set.now layout) (listed points) t) × (result ≤ 24 * get_or layout.counts t 0 + 47) × (result ≤ 1572887) }
+    ensures { (result ≡ thread_records (set_by set.now layout) (listed points) t) × (result ≤ 24 * get_or layout.counts t 0 + 47) × (result ≤ 1572887) }
 {
     let count = records::count(layout, t);
     let mut seen = [0u8; POINTS];
@@ -196,7 +196,7 @@ fn thread(set: &[u8], layout: Layout, points: Points, t: u8) -> u64
 
 // How many records a step has, whichever it is and wherever it starts.
 fn step_records(set: &[u8], layout: Layout, points: Points) -> u64
-    ensures { ((m k : ℕ) → nextAfter same m (step_of (setBy set.now layout) (listed points) k) ≡ m + result)
+    ensures { ((m k : ℕ) → next_after same m (step_of (set_by set.now layout) (listed points) k) ≡ m + result)
         × (Limits layout → result ≤ 3273)
         × (result ≤ 401086198) }
 {
@@ -213,7 +213,7 @@ fn step_records(set: &[u8], layout: Layout, points: Points) -> u64
 // How many statements there are.
 fn all_statements(layout: Layout) -> u64
     ensures { (result ≡ total (λ t. get_or layout.counts t 0) layout.threads)
-        × (Limits layout → result ≤ mostRecords)
+        × (Limits layout → result ≤ most_records)
         × (result ≤ 16711425) }
 {
     let threads = layout.threads;
@@ -228,8 +228,8 @@ fn all_statements(layout: Layout) -> u64
 
 // How many records the table of a set, a map and a bound has.
 pub fn table_records(set: &[u8], layout: Layout, points: Points, map: &[u8], bound: u8) -> u64
-    ensures { (result ≡ length (encodedOf (setBy set.now layout) (listed points) map.now bound))
-        × (Limits layout → cells map.now ≤ setCells → bound ≤ mostSteps → result ≤ tableRoom) }
+    ensures { (result ≡ length (encoded_of (set_by set.now layout) (listed points) map.now bound))
+        × (Limits layout → cells map.now ≤ set_cells → bound ≤ most_steps → result ≤ table_room) }
 {
     let step = step_records(set, layout, points);
     let before = FIRST + all_statements(layout) + CELL * ((map.len() / Layout::CELL) as u64);

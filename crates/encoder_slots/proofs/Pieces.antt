@@ -5,8 +5,8 @@ use mathlib.Core.Bool.{Bool, true, false, cond}
 use mathlib.Core.List.{List, [], ◌∷◌, ◌++◌}
 use native.Mathlib.Numerals.{add-one}
 use native.Mathlib.Omega.{arith}
-use Rattle.table.specs.Formulas.{writtenAt}
-use Rattle.table.specs.Programs.{next, root, upto, Command, sets, needs, aims, put, compiled, nextAfter, placesAfter}
+use Rattle.table.specs.Formulas.{written_at}
+use Rattle.table.specs.Programs.{next, root, upto, Command, sets, needs, aims, put, compiled, next_after, places_after}
 use Rattle.table.proofs.Sequences.{grows, inside, next-++, places-++, compiled-++, compiled-length}
 use Rattle.table.proofs.Written.{written-++}
 use Rattle.encoding.specs.Slots.{Slot, same}
@@ -14,28 +14,28 @@ use Rattle.encoder_slots.specs.Places.{place_of}
 use Rattle.encoder_slots.specs.Pieces.{Writes}
 
 pub writes-none : (out slots : List ℕ) (n : ℕ) → Writes [] out slots n out slots n
-unfolding writtenAt compiled placesAfter nextAfter
-writes-none out slots n = record { written = refl; places = refl; next = refl; slotsStay = refl }
+unfolding written_at compiled places_after next_after
+writes-none out slots n = record { written = refl; places = refl; next = refl; slots_stay = refl }
 
 -- a program and then another, at any places
 pub written-cut : (P Q : List (Command Slot)) (places : Slot → ℕ) (out : List ℕ) (n : ℕ) (out1 : List ℕ) (n1 : ℕ) (out2 : List ℕ) →
-    out1 ≡ writtenAt out n (compiled same places n P) → n1 ≡ nextAfter same n P → out2 ≡ writtenAt out1 n1 (compiled same (placesAfter same places n P) n1 Q) →
-    out2 ≡ writtenAt out n (compiled same places n (P ++ Q))
+    out1 ≡ written_at out n (compiled same places n P) → n1 ≡ next_after same n P → out2 ≡ written_at out1 n1 (compiled same (places_after same places n P) n1 Q) →
+    out2 ≡ written_at out n (compiled same places n (P ++ Q))
 written-cut P Q places out n out1 n1 out2 p e q =
-    q ∙ ((λ i. writtenAt (p i) (e i) (compiled same (placesAfter same places n P) (e i) Q))
-    ∙ (ap (λ (m : ℕ). writtenAt (writtenAt out n (compiled same places n P)) m (compiled same (placesAfter same places n P) (nextAfter same n P) Q)) (sym (compiled-length same places n P))
-    ∙ (sym (written-++ out n (compiled same places n P) (compiled same (placesAfter same places n P) (nextAfter same n P) Q))
-    ∙ ap (writtenAt out n) (sym (compiled-++ same places n P Q)))))
+    q ∙ ((λ i. written_at (p i) (e i) (compiled same (places_after same places n P) (e i) Q))
+    ∙ (ap (λ (m : ℕ). written_at (written_at out n (compiled same places n P)) m (compiled same (places_after same places n P) (next_after same n P) Q)) (sym (compiled-length same places n P))
+    ∙ (sym (written-++ out n (compiled same places n P) (compiled same (places_after same places n P) (next_after same n P) Q))
+    ∙ ap (written_at out n) (sym (compiled-++ same places n P Q)))))
 
 pub writes-++ : (P Q : List (Command Slot)) (out slots : List ℕ) (n : ℕ) (out1 slots1 : List ℕ) (n1 : ℕ) (out2 slots2 : List ℕ) (n2 : ℕ) →
     Writes P out slots n out1 slots1 n1 → Writes Q out1 slots1 n1 out2 slots2 n2 → Writes (P ++ Q) out slots n out2 slots2 n2
 writes-++ P Q out slots n out1 slots1 n1 out2 slots2 n2 p q =
     let places = place_of slots in
     record {
-      written = written-cut P Q places out n out1 n1 out2 p.written p.next (q.written ∙ ap (λ (f : Slot → ℕ). writtenAt out1 n1 (compiled same f n1 Q)) p.places);
-      places = q.places ∙ ((λ i. placesAfter same (p.places i) (p.next i) Q) ∙ sym (places-++ same places n P Q));
-      next = q.next ∙ (ap (λ (m : ℕ). nextAfter same m Q) p.next ∙ sym (next-++ same n P Q));
-      slotsStay = q.slotsStay ∙ p.slotsStay;
+      written = written-cut P Q places out n out1 n1 out2 p.written p.next (q.written ∙ ap (λ (f : Slot → ℕ). written_at out1 n1 (compiled same f n1 Q)) p.places);
+      places = q.places ∙ ((λ i. places_after same (p.places i) (p.next i) Q) ∙ sym (places-++ same places n P Q));
+      next = q.next ∙ (ap (λ (m : ℕ). next_after same m Q) p.next ∙ sym (next-++ same n P Q));
+      slots_stay = q.slots_stay ∙ p.slots_stay;
     }
 
 -- one more of a row of pieces
@@ -58,8 +58,8 @@ put-below places s v n m h le lt x = go (same x s)
     go true = lt
     go false = let k = h x in omega arith
 
-pub program-below : (P : List (Command Slot)) (places : Slot → ℕ) (n : ℕ) → ((x : Slot) → places x < n) → (x : Slot) → placesAfter same places n P x < nextAfter same n P
-unfolding placesAfter nextAfter
+pub program-below : (P : List (Command Slot)) (places : Slot → ℕ) (n : ℕ) → ((x : Slot) → places x < n) → (x : Slot) → places_after same places n P x < next_after same n P
+unfolding places_after next_after
 program-below [] places n h x = h x
 program-below (sets s t ∷ P) places n h x =
     program-below P (put same places s (root places n t)) (next n t) (put-below places s (root places n t) n (next n t) h (grows t n) (inside places t n h)) x
@@ -71,4 +71,4 @@ pub below-after : (P : List (Command Slot)) (out slots : List ℕ) (n : ℕ) (ou
     Writes P out slots n out1 slots1 n1 → ((s : Slot) → place_of slots s < n) → (s : Slot) → place_of slots1 s < n1
 below-after P out slots n out1 slots1 n1 w below s =
     subst (λ (x : ℕ). x < n1) (ap (λ (f : Slot → ℕ). f s) (sym w.places))
-    (subst (λ (m : ℕ). placesAfter same (place_of slots) n P s < m) (sym w.next) (program-below P (place_of slots) n below s))
+    (subst (λ (m : ℕ). places_after same (place_of slots) n P s < m) (sym w.next) (program-below P (place_of slots) n below s))

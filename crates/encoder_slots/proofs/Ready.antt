@@ -3,9 +3,9 @@ use Prim.Native.Nat.{ℕ, ◌≤◌, ◌<◌}
 use mathlib.Core.Path.{◌∙◌, subst}
 use mathlib.Core.List.{List}
 use native.Mathlib.Omega.{arith}
-use Rattle.records.specs.Sets.{Set, mostThreads}
+use Rattle.records.specs.Sets.{Set, most_threads}
 use Rattle.table.specs.Programs.{Command}
-use Rattle.table.specs.Repeats.{lastIndex}
+use Rattle.table.specs.Repeats.{last_index}
 use Rattle.table.proofs.Sequences.{inside}
 use Rattle.set_index.specs.ListTables.{JumpsOf}
 use Rattle.records.specs.StatementRecords.{Stands}
@@ -19,9 +19,9 @@ use Rattle.encoder_slots.proofs.Idle.{Keeps, idle-entry, idle-line, idle-block, 
 module _ {S : Set} {cs members lists : List ℕ} {out slots : List ℕ} {n : ℕ} {out1 slots1 : List ℕ} {n1 : ℕ} where
   pub ready-after : (P : List (Command Slot)) → Keeps S P → Writes P out slots n out1 slots1 n1 → Ready S cs members lists slots n → Ready S cs members lists slots1 n1
   ready-after P keeps w r = record {
-    byClass = r.byClass;
-    byName = r.byName;
-    allPlaces = w.slotsStay ∙ r.allPlaces;
+    by_class = r.by_class;
+    by_name = r.by_name;
+    all_places = w.slots_stay ∙ r.all_places;
     below = below-after P _ _ _ _ _ _ w r.below;
     idle = idle-written S P keeps _ _ _ _ _ _ w r.idle;
   }
@@ -40,20 +40,20 @@ module _ {S : Set} {cs members lists : List ℕ} {out slots : List ℕ} {n : ℕ
 
 -- the index of a tree that was written below the last index can be kept
 pub ready-root : {S : Set} {cs members lists slots : List ℕ} {n : ℕ} → Ready S cs members lists slots n →
-    {tree : Term} {out after : List ℕ} {m at : ℕ} → WritesTree (place_of slots) tree out n after m at → m ≤ lastIndex → at < 4294967295
+    {tree : Term} {out after : List ℕ} {m at : ℕ} → WritesTree (place_of slots) tree out n after m at → m ≤ last_index → at < 4294967295
 ready-root {slots = slots} {n = n} r {tree = tree} w most =
     let i = inside (place_of slots) tree n r.below in
-    let e = w.treeRoot in
-    let f = w.treeNext in
+    let e = w.tree_root in
+    let f = w.tree_next in
     omega arith
 
 -- ---- a thread of the set
 
 module _ {S : Set} {cs members lists slots : List ℕ} {n t : ℕ} (r : Ready S cs members lists slots n) (inside : t < S.threads) where
   -- it is one of four
-  pub ready-thread : t < mostThreads
-  ready-thread = let few = r.byName.fourThreads in omega arith
+  pub ready-thread : t < most_threads
+  ready-thread = let few = r.by_name.four_threads in omega arith
 
   -- the lists of its jumps, where it has `count` statements
   pub ready-jumps : {set : List ℕ} {first count : ℕ} → Stands S set first count t → JumpsOf S t count lists
-  ready-jumps known = subst (λ (k : ℕ). JumpsOf S t k lists) known.countIs (r.byName.jumps t inside)
+  ready-jumps known = subst (λ (k : ℕ). JumpsOf S t k lists) known.count_is (r.by_name.jumps t inside)

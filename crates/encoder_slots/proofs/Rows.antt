@@ -10,7 +10,7 @@ use Rattle.base.specs.Below.{every, number}
 use Rattle.base.proofs.Below.{every-at, number-below}
 use Rattle.base.proofs.Choice.{cond_both}
 use Rattle.encoder_slots.specs.Places.{wide, width, begin, index_of, size}
-use Rattle.encoding.specs.Slots.{kindCount}
+use Rattle.encoding.specs.Slots.{kind_count}
 
 -- ---- how long rows are
 
@@ -48,7 +48,7 @@ begin-later kind (suc later) h = elim (ℕ_discrete kind later) [
 ]
 
 -- the rows of the 41 kinds are the whole array
-pub begin-most : (kind : ℕ) → kind < kindCount → begin kind + 4 * width kind ≤ size
+pub begin-most : (kind : ℕ) → kind < kind_count → begin kind + 4 * width kind ≤ size
 unfolding begin
 begin-most kind h = begin-later kind 41 h
 
@@ -77,12 +77,12 @@ number-counted kind h = eqb-true (number kind wide) (counted kind) (every-at (λ
 
 -- within the kind's rows, and in all
 pub record Counted (kind a b rows index : ℕ) : Type 0 where
-  pub isIndex : index ≡ index_of kind a b
+  pub is_index : index ≡ index_of kind a b
   pub column : b < width kind
-  pub rowsSmall : rows < 128
+  pub rows_small : rows < 128
   pub small : index < 32768
-  pub within : kind < kindCount → index < size
-  pub past : kindCount ≤ kind → size ≤ index
+  pub within : kind < kind_count → index < size
+  pub past : kind_count ≤ kind → size ≤ index
 
 module _ (kind a b : ℕ) (h : kind < 256) (row : a < 4) (column : b < width kind) where
   at_rows : Counted kind a b (width kind * a + b) (begin kind + (width kind * a + b))
@@ -93,9 +93,9 @@ module _ (kind a b : ℕ) (h : kind < 256) (row : a < 4) (column : b < width kin
       let begins = begin-counted kind in
       let some = number-below wide kind in
       record {
-        isIndex = refl;
+        is_index = refl;
         column = column;
-        rowsSmall = omega arith;
+        rows_small = omega arith;
         small = omega arith;
         within = λ k. let q = begin-most kind k in omega arith;
         past = λ k. let q = begin-later 40 kind (omega arith) in omega arith;

@@ -4,9 +4,9 @@ use mathlib.Core.Path.{◌≡◌, refl, fun_ext}
 use mathlib.Core.Bool.{Bool, true, false, cond}
 use mathlib.Core.List.{List}
 use lib.ListN.{get_or, replicate}
-use Rattle.encoding.specs.Slots.{Slot, slot, kindNumber, startPlace}
+use Rattle.encoding.specs.Slots.{Slot, slot, kind_number, start_place}
 use Rattle.encoder_slots.specs.Places.{index_of, fits, kept_at, place_of}
-use Rattle.encoder_slots.proofs.Stores.{place-unset}
+use Rattle.encoder_slots.proofs.Stores.{place_unset}
 use Rattle.set_index.proofs.Filling.{zero-at}
 
 module _ (slots : List ℕ) (zeros : (i : ℕ) → get_or slots i 0 ≡ 0) where
@@ -17,11 +17,11 @@ module _ (slots : List ℕ) (zeros : (i : ℕ) → get_or slots i 0 ≡ 0) where
       go true = zeros (index_of kind a b)
       go false = refl
 
-  pub place-start : place_of slots ≡ startPlace
+  pub place-start : place_of slots ≡ start_place
   place-start = fun_ext at
     where
-      at : (s : Slot) → place_of slots s ≡ startPlace s
-      at (slot k a b) = place-unset slots (kindNumber k) a b (startPlace (slot k a b)) (kept-zero (kindNumber k) a b)
+      at : (s : Slot) → place_of slots s ≡ start_place s
+      at (slot k a b) = place_unset slots (kind_number k) a b (start_place (slot k a b)) (kept-zero (kind_number k) a b)
 
-pub place-replicate : (n : ℕ) → place_of (replicate n 0) ≡ startPlace
+pub place-replicate : (n : ℕ) → place_of (replicate n 0) ≡ start_place
 place-replicate n = place-start (replicate n 0) (zero-at n)

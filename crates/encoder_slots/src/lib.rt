@@ -2,9 +2,9 @@
 ghost use Rattle.std.specs.Prelude.{◌≡◌, ◌<◌, length};
 ghost use Rattle.base.specs.Below.{number};
 ghost use Rattle.table.specs.Programs.{put};
-ghost use Rattle.encoding.specs.Slots.{slot, same, kind_at, kindCount};
-ghost use Rattle.encoder_slots.specs.Places.{wide, width, begin, kept_at, placeFrom, place_of, size};
-ghost use Rattle.records.specs.Sets.{mostThreads};
+ghost use Rattle.encoding.specs.Slots.{slot, same, kind_at, kind_count};
+ghost use Rattle.encoder_slots.specs.Places.{wide, width, begin, kept_at, place_from, place_of, size};
+ghost use Rattle.records.specs.Sets.{most_threads};
 
 pub mod kinds;
 pub mod start;
@@ -115,7 +115,7 @@ fn kept(slots: &[u32], kind: u8, a: u8, b: u16) -> u32
 
 // The record of a kind's value for a and b, which lies at `start` unless it was set.
 pub fn place(slots: &[u32], kind: u8, a: u8, b: u16, start: u64) -> u64
-    ensures { result ≡ placeFrom slots.now kind a b start }
+    ensures { result ≡ place_from slots.now kind a b start }
 {
     let number = kept(slots, kind, a, b);
     if number == 0 {
@@ -127,7 +127,7 @@ pub fn place(slots: &[u32], kind: u8, a: u8, b: u16, start: u64) -> u64
 // Sets the record of a kind's value for a and b, if there is a place for it.
 pub fn set_place(slots: &mut [u32], kind: u8, a: u8, b: u16, index: u64)
     ensures { (length slots.new ≡ length slots.old)
-        × (length slots.old ≡ size → kind < kindCount → a < mostThreads → b < width kind → index < 4294967295
+        × (length slots.old ≡ size → kind < kind_count → a < most_threads → b < width kind → index < 4294967295
         → place_of slots.new ≡ put same (place_of slots.old) (slot (kind_at kind) a b) index) }
 {
     if a < THREADS {

@@ -8,7 +8,7 @@ use native.Mathlib.Decide.{ℕ_discrete}
 use lib.ListN.{length, get_or, length-append, get_or-append}
 use lib.Seq.{get_or-append_seam}
 use Rattle.records.specs.Sets.{Set}
-use Rattle.set_index.specs.Members.{inClass, added, members}
+use Rattle.set_index.specs.Members.{in_class, added, members}
 
 -- ---- one number more at the end, or not
 
@@ -22,7 +22,7 @@ added-keeps false ms k j h = refl
 
 module _ (S : Set) (c t : ℕ) where
   abbrev pub belongs : ℕ → Bool
-  belongs i = inClass c (S.statement t i).number
+  belongs i = in_class c (S.statement t i).number
 
   members-next : (i : ℕ) → members S c t (suc i) ≡ added (belongs i) (members S c t i) i
   unfolding members
@@ -33,18 +33,18 @@ module _ (S : Set) (c t : ℕ) where
   members-none = refl
 
   -- a statement that belongs to the class stands last when it was added
-  pub members-in : (i : ℕ) → belongs i ≡ true → length (members S c t (suc i)) ≡ suc (length (members S c t i))
-  members-in i e = ap length (members-next i ∙ ap (λ (b : Bool). added b (members S c t i) i) e) ∙ (length-append (members S c t i) (i ∷ []) ∙ omega arith)
+  pub members_in : (i : ℕ) → belongs i ≡ true → length (members S c t (suc i)) ≡ suc (length (members S c t i))
+  members_in i e = ap length (members-next i ∙ ap (λ (b : Bool). added b (members S c t i) i) e) ∙ (length-append (members S c t i) (i ∷ []) ∙ omega arith)
 
   pub members-out : (i : ℕ) → belongs i ≡ false → length (members S c t (suc i)) ≡ length (members S c t i)
   members-out i e = ap length (members-next i ∙ ap (λ (b : Bool). added b (members S c t i) i) e)
 
-  members-grow : (k i : ℕ) → i ≤ k → length (members S c t i) ≤ length (members S c t k)
-  members-grow zero i h = let e : i ≡ 0 = omega arith in subst (λ (j : ℕ). length (members S c t j) ≤ length (members S c t 0)) (sym e) (omega arith)
-  members-grow (suc k) i h = elim (ℕ_discrete i (suc k)) [
+  members_grow : (k i : ℕ) → i ≤ k → length (members S c t i) ≤ length (members S c t k)
+  members_grow zero i h = let e : i ≡ 0 = omega arith in subst (λ (j : ℕ). length (members S c t j) ≤ length (members S c t 0)) (sym e) (omega arith)
+  members_grow (suc k) i h = elim (ℕ_discrete i (suc k)) [
     | yes e ↦ subst (λ (j : ℕ). length (members S c t j) ≤ length (members S c t (suc k))) (sym e) (omega arith)
     | no e ↦
-        let r = members-grow k i (omega arith) in
+        let r = members_grow k i (omega arith) in
         let s = added-grows (belongs k) (members S c t k) k in
         let n = ap length (members-next k) in
         omega arith
@@ -59,7 +59,7 @@ module _ (S : Set) (c t : ℕ) where
         (ap (λ (ms : List ℕ). get_or ms (length (members S c t i)) 0) (members-next i ∙ ap (λ (b : Bool). added b (members S c t i) i) e)
         ∙ get_or-append_seam (members S c t i) i [] 0)
     | no p ↦
-        let less : length (members S c t i) < length (members S c t k) = let a = members-in i e in let b = members-grow k (suc i) (omega arith) in omega arith in
+        let less : length (members S c t i) < length (members S c t k) = let a = members_in i e in let b = members_grow k (suc i) (omega arith) in omega arith in
         ap (λ (ms : List ℕ). get_or ms (length (members S c t i)) 0) (members-next k)
         ∙ (added-keeps (belongs k) (members S c t k) k (length (members S c t i)) less ∙ member-at k i (omega arith) e)
   ]

@@ -4,21 +4,21 @@ use mathlib.Core.Path.{◌≡◌, refl, ◌∙◌}
 use mathlib.Core.List.{List, [], ◌∷◌}
 use native.Mathlib.Omega.{arith}
 use Rattle.records.specs.Sets.{Set}
-use Rattle.table.specs.Programs.{ternaryFormula, constraint, if3, next, root, records, needs, compiled, nextAfter, placesAfter}
-use Rattle.encoding.specs.Slots.{slot, none, onePermitted, ended}
+use Rattle.table.specs.Programs.{ternary_formula, constraint, if3, next, root, records, needs, compiled, next_after, places_after}
+use Rattle.encoding.specs.Slots.{slot, none, one_permitted, ended}
 use Rattle.encoding.specs.Steps.{only, ruled}
 use Rattle.encoder_slots.specs.Places.{place_of}
 use Rattle.encoder_slots.specs.Pieces.{Writes}
-use Rattle.encoder_bases.proofs.Records.{recordAt, written_2}
+use Rattle.encoder_bases.proofs.Records.{record_at, written_2}
 
 module _ (out slots : List ℕ) (n : ℕ) where
   pub rule-writes : (S : Set) (cs : List ℕ) (k : ℕ) (after : List ℕ) →
-      after ≡ recordAt (n + 1) (constraint n) (recordAt n (ternaryFormula (if3 1) (place_of slots (only ended)) (place_of slots (slot none 0 (S.threads + S.threads))) (place_of slots (only onePermitted))) out) →
+      after ≡ record_at (n + 1) (constraint n) (record_at n (ternary_formula (if3 1) (place_of slots (only ended)) (place_of slots (slot none 0 (S.threads + S.threads))) (place_of slots (only one_permitted))) out) →
       Writes (needs (ruled S cs k) ∷ []) out slots n after slots (n + 2)
-  unfolding compiled placesAfter nextAfter records root next
+  unfolding compiled places_after next_after records root next
   rule-writes S cs k after e = record {
     written = e ∙ written_2 out n _ _;
     places = refl;
     next = omega arith;
-    slotsStay = refl;
+    slots_stay = refl;
   }

@@ -11,45 +11,45 @@ use Rattle.base.proofs.Below.{every-at}
 use Rattle.base.proofs.Choice.{and_left, and_right, or_left, or_right, clash}
 use Rattle.records.specs.Sets.{Set}
 use Rattle.table.specs.Programs.{upto}
-use Rattle.encoding.specs.Slots.{Slot, kinds, kind_at, kindNumber, kindCount, choice, shut, mayExecute, none, permittedFirst, sharedMemory, ended, code, wordOne, flag}
-use Rattle.encoding.specs.Steps.{Shape, perThread, beforeThread, shape, chain, link, links, base, rows, columns, kept, entry, line, block}
+use Rattle.encoding.specs.Slots.{Slot, kinds, kind_at, kind_number, kind_count, choice, shut, may_execute, none, permitted_first, shared_memory, ended, code, word_one, flag}
+use Rattle.encoding.specs.Steps.{Shape, per_thread, before_thread, shape, chain, link, links, base, rows, columns, kept, entry, line, block}
 use Rattle.encoder_slots.specs.Pieces.{Writes, WritesTree}
 use Rattle.encoder_slots.proofs.Pieces.{writes-row, writes_more}
 use Rattle.encoder_slots.proofs.Entries.{tree_of}
-use Rattle.encoder_slots.specs.Places.{ofStatement}
+use Rattle.encoder_slots.specs.Places.{of_statement}
 use Rattle.encoder_step.specs.Entries.{BareEntry}
 use Rattle.encoder_statements.proofs.Values.{statement-shape}
 
-module _ (S : Set) (cs : List ℕ) (k kind : ℕ) (out slots : List ℕ) (n : ℕ) (after slotsAfter : List ℕ) (m : ℕ) where
+module _ (S : Set) (cs : List ℕ) (k kind : ℕ) (out slots : List ℕ) (n : ℕ) (after slots_after : List ℕ) (m : ℕ) where
   -- ---- one value for each thread
 
-  module _ (e : shape (kind_at kind) ≡ perThread) where
-    pub line-one : (t : ℕ) → Writes (entry S cs k (kind_at kind) t 0) out slots n after slotsAfter m → Writes (line S cs k (kind_at kind) t) out slots n after slotsAfter m
+  module _ (e : shape (kind_at kind) ≡ per_thread) where
+    pub line-one : (t : ℕ) → Writes (entry S cs k (kind_at kind) t 0) out slots n after slots_after m → Writes (line S cs k (kind_at kind) t) out slots n after slots_after m
     line-one t w =
-        subst (λ (j : ℕ). Writes (upto (entry S cs k (kind_at kind) t) j) out slots n after slotsAfter m) (sym (ap (λ (s : Shape). columns S cs k s t) e))
-        (writes_more (entry S cs k (kind_at kind) t) 0 out slots n out slots n after slotsAfter m (writes-row (entry S cs k (kind_at kind) t) out slots n) w)
+        subst (λ (j : ℕ). Writes (upto (entry S cs k (kind_at kind) t) j) out slots n after slots_after m) (sym (ap (λ (s : Shape). columns S cs k s t) e))
+        (writes_more (entry S cs k (kind_at kind) t) 0 out slots n out slots n after slots_after m (writes-row (entry S cs k (kind_at kind) t) out slots n) w)
 
-    pub registers : (t : ℕ) → t ≡ S.threads → Writes (upto (line S cs k (kind_at kind)) t) out slots n after slotsAfter m → Writes (block S cs k (kind_at kind)) out slots n after slotsAfter m
-    registers t all w = subst (λ (j : ℕ). Writes (upto (line S cs k (kind_at kind)) j) out slots n after slotsAfter m) (all ∙ sym (ap (rows S cs k) e)) w
+    pub registers : (t : ℕ) → t ≡ S.threads → Writes (upto (line S cs k (kind_at kind)) t) out slots n after slots_after m → Writes (block S cs k (kind_at kind)) out slots n after slots_after m
+    registers t all w = subst (λ (j : ℕ). Writes (upto (line S cs k (kind_at kind)) j) out slots n after slots_after m) (all ∙ sym (ap (rows S cs k) e)) w
 
   -- ---- one row
 
-  pub one_line : rows S cs k (shape (kind_at kind)) ≡ 1 → (c : ℕ) → c ≡ columns S cs k (shape (kind_at kind)) 0 → Writes (upto (entry S cs k (kind_at kind) 0) c) out slots n after slotsAfter m →
-      Writes (block S cs k (kind_at kind)) out slots n after slotsAfter m
+  pub one_line : rows S cs k (shape (kind_at kind)) ≡ 1 → (c : ℕ) → c ≡ columns S cs k (shape (kind_at kind)) 0 → Writes (upto (entry S cs k (kind_at kind) 0) c) out slots n after slots_after m →
+      Writes (block S cs k (kind_at kind)) out slots n after slots_after m
   one_line row c all w =
-      subst (λ (j : ℕ). Writes (upto (line S cs k (kind_at kind)) j) out slots n after slotsAfter m) (sym row)
-      (writes_more (line S cs k (kind_at kind)) 0 out slots n out slots n after slotsAfter m (writes-row (line S cs k (kind_at kind)) out slots n)
-      (subst (λ (j : ℕ). Writes (upto (entry S cs k (kind_at kind) 0) j) out slots n after slotsAfter m) all w))
+      subst (λ (j : ℕ). Writes (upto (line S cs k (kind_at kind)) j) out slots n after slots_after m) (sym row)
+      (writes_more (line S cs k (kind_at kind)) 0 out slots n out slots n after slots_after m (writes-row (line S cs k (kind_at kind)) out slots n)
+      (subst (λ (j : ℕ). Writes (upto (entry S cs k (kind_at kind) 0) j) out slots n after slots_after m) all w))
 
-  pub one_value : rows S cs k (shape (kind_at kind)) ≡ 1 → columns S cs k (shape (kind_at kind)) 0 ≡ 1 → Writes (entry S cs k (kind_at kind) 0 0) out slots n after slotsAfter m →
-      Writes (block S cs k (kind_at kind)) out slots n after slotsAfter m
+  pub one_value : rows S cs k (shape (kind_at kind)) ≡ 1 → columns S cs k (shape (kind_at kind)) 0 ≡ 1 → Writes (entry S cs k (kind_at kind) 0 0) out slots n after slots_after m →
+      Writes (block S cs k (kind_at kind)) out slots n after slots_after m
   one_value row column w =
-      one_line row 1 (sym column) (writes_more (entry S cs k (kind_at kind) 0) 0 out slots n out slots n after slotsAfter m (writes-row (entry S cs k (kind_at kind) 0) out slots n) w)
+      one_line row 1 (sym column) (writes_more (entry S cs k (kind_at kind) 0) 0 out slots n out slots n after slots_after m (writes-row (entry S cs k (kind_at kind) 0) out slots n) w)
 
   -- ---- one before the first thread, and one after each
 
-  pub running : shape (kind_at kind) ≡ beforeThread → (t : ℕ) → t ≡ S.threads → Writes (upto (entry S cs k (kind_at kind) 0) (t + 1)) out slots n after slotsAfter m →
-      Writes (block S cs k (kind_at kind)) out slots n after slotsAfter m
+  pub running : shape (kind_at kind) ≡ before_thread → (t : ℕ) → t ≡ S.threads → Writes (upto (entry S cs k (kind_at kind) 0) (t + 1)) out slots n after slots_after m →
+      Writes (block S cs k (kind_at kind)) out slots n after slots_after m
   running e t all w =
       one_line (ap (rows S cs k) e) (t + 1) (add-one t ∙ (ap suc all ∙ sym (ap (λ (s : Shape). columns S cs k s 0) e))) w
 
@@ -65,12 +65,12 @@ bare-written S cs k kind a b bare places out n after m at w =
 -- the kinds by number whose values are all there and have no links
 abbrev bare : ℕ → Bool
 bare kind =
-    eqb kind (kindNumber choice) || eqb kind (kindNumber shut) || eqb kind (kindNumber mayExecute) || eqb kind (kindNumber none) || eqb kind (kindNumber permittedFirst)
-    || eqb kind (kindNumber sharedMemory) || eqb kind (kindNumber ended) || eqb kind (kindNumber code) || eqb kind (kindNumber wordOne)
+    eqb kind (kind_number choice) || eqb kind (kind_number shut) || eqb kind (kind_number may_execute) || eqb kind (kind_number none) || eqb kind (kind_number permitted_first)
+    || eqb kind (kind_number shared_memory) || eqb kind (kind_number ended) || eqb kind (kind_number code) || eqb kind (kind_number word_one)
 
 -- none of them is of statements, nor a flag
 abbrev apart : ℕ → Bool
-apart kind = not (ofStatement kind || eqb kind (kindNumber flag))
+apart kind = not (of_statement kind || eqb kind (kind_number flag))
 
 refused : (b : Bool) → not b ≡ true → b ≡ false
 refused true e = sym e
@@ -81,27 +81,27 @@ module _ (S : Set) (cs : List ℕ) (a b : ℕ) where
   lone : ℕ → Bool
   lone n = eqb (links S cs 0 (kind_at n) a b) 0 && (kept S cs 0 (shape (kind_at n)) a b && apart n)
 
-  lone-tabled : every kindCount (λ n. not (bare n) || lone n) ≡ true
+  lone-tabled : every kind_count (λ n. not (bare n) || lone n) ≡ true
   unfolding every kinds lone
   lone-tabled = refl
 
-  pub lone-at : (kind : ℕ) → kind < kindCount → bare kind ≡ true → BareEntry S cs kind a b
+  pub lone-at : (kind : ℕ) → kind < kind_count → bare kind ≡ true → BareEntry S cs kind a b
   unfolding lone
   lone-at kind h is =
       let none = eqb (links S cs 0 (kind_at kind) a b) 0 in
       let is-kept = kept S cs 0 (shape (kind_at kind)) a b in
-      let holds : lone kind ≡ true = sym (ap (λ (t : Bool). not t || lone kind) is) ∙ every-at (λ n. not (bare n) || lone n) kindCount kind lone-tabled h in
+      let holds : lone kind ≡ true = sym (ap (λ (t : Bool). not t || lone kind) is) ∙ every-at (λ n. not (bare n) || lone n) kind_count kind lone-tabled h in
       let rest : (is-kept && apart kind) ≡ true = and_right none (is-kept && apart kind) holds in
-      let others : (ofStatement kind || eqb kind (kindNumber flag)) ≡ false = refused (ofStatement kind || eqb kind (kindNumber flag)) (and_right is-kept (apart kind) rest) in
+      let others : (of_statement kind || eqb kind (kind_number flag)) ≡ false = refused (of_statement kind || eqb kind (kind_number flag)) (and_right is-kept (apart kind) rest) in
       record {
         linkless = eqb-true (links S cs 0 (kind_at kind) a b) 0 (and_left none (is-kept && apart kind) holds);
         there = and_left is-kept (apart kind) rest;
         known = h;
-        plain = or_left (ofStatement kind) (eqb kind (kindNumber flag)) others;
-        noFlag = λ e. clash (eq-eqb kind (kindNumber flag) e) (or_right (ofStatement kind) (eqb kind (kindNumber flag)) others);
+        plain = or_left (of_statement kind) (eqb kind (kind_number flag)) others;
+        no_flag = λ e. clash (eq-eqb kind (kind_number flag) e) (or_right (of_statement kind) (eqb kind (kind_number flag)) others);
       }
 
 -- ---- a line for each thread
 
-pub statement-rows : (S : Set) (cs : List ℕ) (k kind : ℕ) → kind < kindCount → ofStatement kind ≡ true → S.threads ≡ rows S cs k (shape (kind_at kind))
+pub statement-rows : (S : Set) (cs : List ℕ) (k kind : ℕ) → kind < kind_count → of_statement kind ≡ true → S.threads ≡ rows S cs k (shape (kind_at kind))
 statement-rows S cs k kind h of = sym (ap (rows S cs k) (statement-shape kind h of))

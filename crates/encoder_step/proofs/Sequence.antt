@@ -5,7 +5,7 @@ use mathlib.Core.List.{List, ◌++◌}
 use native.Mathlib.Omega.{arith}
 use Rattle.records.specs.Sets.{Set}
 use Rattle.table.specs.Programs.{upto, Command}
-use Rattle.table.proofs.Sequences.{upto-more, upto-ext}
+use Rattle.table.proofs.Sequences.{upto-more, upto_ext}
 use Rattle.encoding.specs.Slots.{Slot, kind_at}
 use Rattle.encoding.specs.Steps.{block, blocks}
 use Rattle.encoder_slots.specs.Pieces.{Writes}
@@ -33,6 +33,6 @@ module _ (S : Set) (cs : List ℕ) (k : ℕ) where
       Writes (blocks S cs k j (m + l)) out slots n out2 slots2 n2
   blocks_more j m l {out} {slots} {n} {out1} {slots1} {n1} {out2} {slots2} {n2} v w =
       let f : ℕ → List (Command Slot) = λ i. block S cs k (kind_at (j + i)) in
-      let same = upto-ext (λ i. f (m + i)) (λ i. block S cs k (kind_at (j + m + i))) l (λ (i : ℕ) (h : i < l). ap (λ (x : ℕ). block S cs k (kind_at x)) (omega arith)) in
+      let same = upto_ext (λ i. f (m + i)) (λ i. block S cs k (kind_at (j + m + i))) l (λ (i : ℕ) (h : i < l). ap (λ (x : ℕ). block S cs k (kind_at x)) (omega arith)) in
       subst (λ (P : List (Command Slot)). Writes P out slots n out2 slots2 n2) (sym (upto-more f m l ∙ ap (λ (P : List (Command Slot)). upto f m ++ P) same))
       (writes-++ (blocks S cs k j m) (blocks S cs k (j + m) l) _ _ _ _ _ _ _ _ _ v w)

@@ -1,16 +1,16 @@
 // One step of a table, written kind by kind, and what the steps share.
 ghost use Rattle.std.specs.Prelude.{◌≡◌, true, false, List, [], ◌∷◌, ℕ, ◌+◌, ◌*◌, ◌≤◌, ◌<◌, length};
-ghost use Rattle.records.specs.Sets.{Set, setBy, mostThreads, mostCheckpoints};
+ghost use Rattle.records.specs.Sets.{Set, set_by, most_threads, most_checkpoints};
 ghost use Rattle.table.specs.Programs.{needs};
 ghost use Rattle.encoding.specs.Encodings.{starting};
-ghost use Rattle.encoding.specs.Slots.{kind_at, kindNumber, kindCount, mayExecute, flag};
-ghost use Rattle.encoding.specs.Steps.{single, shape, rows as rows_of, columns as columnsOf, entry as entry_of, block as block_of, blocks as blocksOf, ruled, step as step_of};
+ghost use Rattle.encoding.specs.Slots.{kind_at, kind_number, kind_count, may_execute, flag};
+ghost use Rattle.encoding.specs.Steps.{single, shape, rows as rows_of, columns as columns_of, entry as entry_of, block as block_of, blocks as blocks_of, ruled, step as step_of};
 ghost use Rattle.set_index.specs.Points.{listed};
-ghost use Rattle.encoder_slots.specs.Pieces.{Writes, Ready, treeRoom, entryRoom, blockRoom};
-ghost use Rattle.encoder_slots.specs.Places.{ofStatement, mostColumns};
+ghost use Rattle.encoder_slots.specs.Pieces.{Writes, Ready, tree_room, entry_room, block_room};
+ghost use Rattle.encoder_slots.specs.Places.{of_statement, most_columns};
 ghost use Rattle.encoder_chains.specs.Chained.{chained};
-ghost use Rattle.encoder_step.specs.Entries.{stepRoom, BareEntry, GivenEntry, ByThread, AfterThread};
-ghost use Rattle.table.specs.Repeats.{lastIndex};
+ghost use Rattle.encoder_step.specs.Entries.{step_room, BareEntry, GivenEntry, ByThread, AfterThread};
+ghost use Rattle.table.specs.Repeats.{last_index};
 
 use encoder_slots::kinds::{
     ACCU, ACTIVE, ADDRESS, ADR, ARGUMENT, BARRED, CHOICE, CODE, CODES, ENDED, EXITS, FLUSH_TO,
@@ -43,10 +43,10 @@ fn bare_entry(
     b: u16,
     n: u32,
 ) -> u32
-    requires { (n + treeRoom ≤ lastIndex) × (a < mostThreads) × (b < mostColumns) }
+    requires { (n + tree_room ≤ last_index) × (a < most_threads) × (b < most_columns) }
     ensures { ((S : Set) (cs members lists : List ℕ) → S.threads ≡ threads → BareEntry S cs kind a b → Ready S cs members lists slots.old n
         → Writes (entry_of S cs step (kind_at kind) a b) out.old slots.old n out.new slots.new result)
-        × (result ≤ n + treeRoom) }
+        × (result ≤ n + tree_room) }
 {
     let base = encoder_bases::put_base(slots, out, threads, step, kind, a, b, n);
     encoder_slots::set_place(slots, kind, a, b, base.root);
@@ -63,11 +63,11 @@ fn bare_line(
     columns: u16,
     n: u32,
 ) -> u32
-    requires { (n + mostColumns * treeRoom ≤ lastIndex) × (columns ≤ mostColumns) }
+    requires { (n + most_columns * tree_room ≤ last_index) × (columns ≤ most_columns) }
     ensures { ((S : Set) (cs members lists : List ℕ) → S.threads ≡ threads → ((b : ℕ) → BareEntry S cs kind 0 b) → rows_of S cs step (shape (kind_at kind)) ≡ 1
-        → columns ≡ columnsOf S cs step (shape (kind_at kind)) 0 → Ready S cs members lists slots.old n
+        → columns ≡ columns_of S cs step (shape (kind_at kind)) 0 → Ready S cs members lists slots.old n
         → Writes (block_of S cs step (kind_at kind)) out.old slots.old n out.new slots.new result)
-        × (result ≤ n + mostColumns * treeRoom) }
+        × (result ≤ n + most_columns * tree_room) }
 {
     let mut next = n;
     let mut b: u16 = 0;
@@ -80,10 +80,10 @@ fn bare_line(
 
 // Writes for each thread whether it may execute.
 fn may_execute_block(slots: &mut [u32], out: &mut [u8], threads: u8, step: u8, n: u32) -> u32
-    requires { (n + mostThreads * treeRoom ≤ lastIndex) × (threads ≤ mostThreads) }
+    requires { (n + most_threads * tree_room ≤ last_index) × (threads ≤ most_threads) }
     ensures { ((S : Set) (cs members lists : List ℕ) → S.threads ≡ threads → Ready S cs members lists slots.old n
-        → Writes (block_of S cs step mayExecute) out.old slots.old n out.new slots.new result)
-        × (result ≤ n + mostThreads * treeRoom) }
+        → Writes (block_of S cs step may_execute) out.old slots.old n out.new slots.new result)
+        × (result ≤ n + most_threads * tree_room) }
 {
     let mut next = n;
     let mut t: u8 = 0;
@@ -96,10 +96,10 @@ fn may_execute_block(slots: &mut [u32], out: &mut [u8], threads: u8, step: u8, n
 
 // Writes a value that there is one of, whose links the choices or the threads give.
 fn single_block(slots: &mut [u32], out: &mut [u8], threads: u8, step: u8, kind: u8, n: u32) -> u32
-    requires { (n + entryRoom ≤ lastIndex) × (kind < kindCount) × (ofStatement kind ≡ false) × (kind ≡ kindNumber flag → ⊥) }
+    requires { (n + entry_room ≤ last_index) × (kind < kind_count) × (of_statement kind ≡ false) × (kind ≡ kind_number flag → ⊥) }
     ensures { ((S : Set) (cs members lists : List ℕ) → S.threads ≡ threads → chained kind ≡ true → shape (kind_at kind) ≡ single → Ready S cs members lists slots.old n
         → Writes (block_of S cs step (kind_at kind)) out.old slots.old n out.new slots.new result)
-        × (result ≤ n + entryRoom) }
+        × (result ≤ n + entry_room) }
 {
     let base = encoder_bases::put_base(slots, out, threads, step, kind, 0, 0, n);
     let next = n + base.count;
@@ -121,10 +121,10 @@ fn given_entry(
     t: u8,
     n: u32,
 ) -> u32
-    requires { (n + entryRoom ≤ lastIndex) × (a < mostThreads) × (b < mostColumns) }
+    requires { (n + entry_room ≤ last_index) × (a < most_threads) × (b < most_columns) }
     ensures { ((S : Set) (cs lists : List ℕ) → S.threads ≡ threads → t < S.threads → GivenEntry S cs kind a b t → Ready S cs members.now lists slots.old n
         → Writes (entry_of S cs step (kind_at kind) a b) out.old slots.old n out.new slots.new result)
-        × (result ≤ n + entryRoom) }
+        × (result ≤ n + entry_room) }
 {
     let base = encoder_bases::put_base(slots, out, threads, step, kind, a, b, n);
     let next = n + base.count;
@@ -143,10 +143,10 @@ fn register_block(
     kind: u8,
     n: u32,
 ) -> u32
-    requires { (n + mostThreads * entryRoom ≤ lastIndex) × (threads ≤ mostThreads) }
+    requires { (n + most_threads * entry_room ≤ last_index) × (threads ≤ most_threads) }
     ensures { ((S : Set) (cs lists : List ℕ) → S.threads ≡ threads → ByThread S cs kind → Ready S cs members.now lists slots.old n
         → Writes (block_of S cs step (kind_at kind)) out.old slots.old n out.new slots.new result)
-        × (result ≤ n + mostThreads * entryRoom) }
+        × (result ≤ n + most_threads * entry_room) }
 {
     let mut next = n;
     let mut t: u8 = 0;
@@ -167,10 +167,10 @@ fn running_block(
     kind: u8,
     n: u32,
 ) -> u32
-    requires { (n + treeRoom + mostThreads * entryRoom ≤ lastIndex) × (threads ≤ mostThreads) }
+    requires { (n + tree_room + most_threads * entry_room ≤ last_index) × (threads ≤ most_threads) }
     ensures { ((S : Set) (cs lists : List ℕ) → S.threads ≡ threads → AfterThread S cs kind → Ready S cs members.now lists slots.old n
         → Writes (block_of S cs step (kind_at kind)) out.old slots.old n out.new slots.new result)
-        × (result ≤ n + treeRoom + mostThreads * entryRoom) }
+        × (result ≤ n + tree_room + most_threads * entry_room) }
 {
     let mut next = bare_entry(slots, out, threads, step, kind, 0, 0, n);
     let mut t: u8 = 0;
@@ -192,10 +192,10 @@ fn statement_block(
     kind: u8,
     n: u32,
 ) -> u32
-    requires { (n + blockRoom ≤ lastIndex) × (layout.threads ≤ mostThreads) × (kind < kindCount) × (ofStatement kind ≡ true) }
-    ensures { ((cs lists : List ℕ) (step : ℕ) → Ready (setBy set.now layout) cs members.now lists slots.old n
-        → Writes (block_of (setBy set.now layout) cs step (kind_at kind)) out.old slots.old n out.new slots.new result)
-        × (result ≤ n + blockRoom) }
+    requires { (n + block_room ≤ last_index) × (layout.threads ≤ most_threads) × (kind < kind_count) × (of_statement kind ≡ true) }
+    ensures { ((cs lists : List ℕ) (step : ℕ) → Ready (set_by set.now layout) cs members.now lists slots.old n
+        → Writes (block_of (set_by set.now layout) cs step (kind_at kind)) out.old slots.old n out.new slots.new result)
+        × (result ≤ n + block_room) }
 {
     let threads = layout.threads;
     let mut next = n;
@@ -216,10 +216,10 @@ fn flag_block(
     out: &mut [u8],
     n: u32,
 ) -> u32
-    requires { (n + blockRoom ≤ lastIndex) × (layout.threads ≤ mostThreads) }
-    ensures { ((cs members : List ℕ) (step : ℕ) → Ready (setBy set.now layout) cs members lists.now slots.old n
-        → Writes (block_of (setBy set.now layout) cs step flag) out.old slots.old n out.new slots.new result)
-        × (result ≤ n + blockRoom) }
+    requires { (n + block_room ≤ last_index) × (layout.threads ≤ most_threads) }
+    ensures { ((cs members : List ℕ) (step : ℕ) → Ready (set_by set.now layout) cs members lists.now slots.old n
+        → Writes (block_of (set_by set.now layout) cs step flag) out.old slots.old n out.new slots.new result)
+        × (result ≤ n + block_room) }
 {
     let threads = layout.threads;
     let mut next = n;
@@ -245,10 +245,10 @@ fn choice_kinds(
     step: u8,
     n: u32,
 ) -> u32
-    requires { (n + 5 * blockRoom ≤ lastIndex) × (layout.threads ≤ mostThreads) × (length (listed points) ≤ mostCheckpoints) }
-    ensures { (Ready (setBy set.now layout) (listed points) members.now lists.now slots.old n
-        → Writes (blocksOf (setBy set.now layout) (listed points) step 0 5) out.old slots.old n out.new slots.new result)
-        × (result ≤ n + 5 * blockRoom) }
+    requires { (n + 5 * block_room ≤ last_index) × (layout.threads ≤ most_threads) × (length (listed points) ≤ most_checkpoints) }
+    ensures { (Ready (set_by set.now layout) (listed points) members.now lists.now slots.old n
+        → Writes (blocks_of (set_by set.now layout) (listed points) step 0 5) out.old slots.old n out.new slots.new result)
+        × (result ≤ n + 5 * block_room) }
 {
     let threads = layout.threads;
     let choices = 2 * (threads as u16);
@@ -270,10 +270,10 @@ fn permit_kinds(
     step: u8,
     n: u32,
 ) -> u32
-    requires { (n + 5 * blockRoom ≤ lastIndex) × (layout.threads ≤ mostThreads) }
-    ensures { ((bytes members : List ℕ) → Ready (setBy bytes layout) (listed points) members lists.now slots.old n
-        → Writes (blocksOf (setBy bytes layout) (listed points) step 5 5) out.old slots.old n out.new slots.new result)
-        × (result ≤ n + 5 * blockRoom) }
+    requires { (n + 5 * block_room ≤ last_index) × (layout.threads ≤ most_threads) }
+    ensures { ((bytes members : List ℕ) → Ready (set_by bytes layout) (listed points) members lists.now slots.old n
+        → Writes (blocks_of (set_by bytes layout) (listed points) step 5 5) out.old slots.old n out.new slots.new result)
+        × (result ≤ n + 5 * block_room) }
 {
     let threads = layout.threads;
     let choices = 2 * (threads as u16);
@@ -297,10 +297,10 @@ fn deciding_kinds(
     step: u8,
     n: u32,
 ) -> u32
-    requires { (n + 11 * blockRoom ≤ lastIndex) × (layout.threads ≤ mostThreads) × (length (listed points) ≤ mostCheckpoints) }
-    ensures { (Ready (setBy set.now layout) (listed points) members.now lists.now slots.old n
-        → Writes (blocksOf (setBy set.now layout) (listed points) step 0 11) out.old slots.old n out.new slots.new result)
-        × (result ≤ n + 11 * blockRoom) }
+    requires { (n + 11 * block_room ≤ last_index) × (layout.threads ≤ most_threads) × (length (listed points) ≤ most_checkpoints) }
+    ensures { (Ready (set_by set.now layout) (listed points) members.now lists.now slots.old n
+        → Writes (blocks_of (set_by set.now layout) (listed points) step 0 11) out.old slots.old n out.new slots.new result)
+        × (result ≤ n + 11 * block_room) }
 {
     let chosen = choice_kinds(set, layout, points, members, lists, slots, out, step, n);
     let permitted = permit_kinds(layout, points, lists, slots, out, step, chosen);
@@ -316,10 +316,10 @@ fn statement_kinds(
     out: &mut [u8],
     n: u32,
 ) -> u32
-    requires { (n + 5 * blockRoom ≤ lastIndex) × (layout.threads ≤ mostThreads) }
-    ensures { ((cs lists : List ℕ) (step : ℕ) → Ready (setBy set.now layout) cs members.now lists slots.old n
-        → Writes (blocksOf (setBy set.now layout) cs step 11 5) out.old slots.old n out.new slots.new result)
-        × (result ≤ n + 5 * blockRoom) }
+    requires { (n + 5 * block_room ≤ last_index) × (layout.threads ≤ most_threads) }
+    ensures { ((cs lists : List ℕ) (step : ℕ) → Ready (set_by set.now layout) cs members.now lists slots.old n
+        → Writes (blocks_of (set_by set.now layout) cs step 11 5) out.old slots.old n out.new slots.new result)
+        × (result ≤ n + 5 * block_room) }
 {
     let addresses = statement_block(set, layout, members, slots, out, ADDRESS, n);
     let loaded = statement_block(set, layout, members, slots, out, LOADED, addresses);
@@ -338,10 +338,10 @@ fn write_kinds(
     step: u8,
     n: u32,
 ) -> u32
-    requires { (n + 5 * blockRoom ≤ lastIndex) × (layout.threads ≤ mostThreads) }
-    ensures { ((cs lists : List ℕ) → Ready (setBy set.now layout) cs members.now lists slots.old n
-        → Writes (blocksOf (setBy set.now layout) cs step 16 5) out.old slots.old n out.new slots.new result)
-        × (result ≤ n + 5 * blockRoom) }
+    requires { (n + 5 * block_room ≤ last_index) × (layout.threads ≤ most_threads) }
+    ensures { ((cs lists : List ℕ) → Ready (set_by set.now layout) cs members.now lists slots.old n
+        → Writes (blocks_of (set_by set.now layout) cs step 16 5) out.old slots.old n out.new slots.new result)
+        × (result ≤ n + 5 * block_room) }
 {
     let threads = layout.threads;
     let not_tests = statement_block(set, layout, members, slots, out, NOT_TEST, n);
@@ -362,10 +362,10 @@ fn exit_kinds(
     step: u8,
     n: u32,
 ) -> u32
-    requires { (n + 5 * blockRoom ≤ lastIndex) × (layout.threads ≤ mostThreads) }
-    ensures { ((bytes : List ℕ) → Ready (setBy bytes layout) (listed points) members.now lists.now slots.old n
-        → Writes (blocksOf (setBy bytes layout) (listed points) step 21 5) out.old slots.old n out.new slots.new result)
-        × (result ≤ n + 5 * blockRoom) }
+    requires { (n + 5 * block_room ≤ last_index) × (layout.threads ≤ most_threads) }
+    ensures { ((bytes : List ℕ) → Ready (set_by bytes layout) (listed points) members.now lists.now slots.old n
+        → Writes (blocks_of (set_by bytes layout) (listed points) step 21 5) out.old slots.old n out.new slots.new result)
+        × (result ≤ n + 5 * block_room) }
 {
     let threads = layout.threads;
     let checkpoints = set_index::points::points_count(points);
@@ -385,10 +385,10 @@ fn register_kinds(
     step: u8,
     n: u32,
 ) -> u32
-    requires { (n + 5 * blockRoom ≤ lastIndex) × (threads ≤ mostThreads) }
+    requires { (n + 5 * block_room ≤ last_index) × (threads ≤ most_threads) }
     ensures { ((S : Set) (cs lists : List ℕ) → S.threads ≡ threads → Ready S cs members.now lists slots.old n
-        → Writes (blocksOf S cs step 26 5) out.old slots.old n out.new slots.new result)
-        × (result ≤ n + 5 * blockRoom) }
+        → Writes (blocks_of S cs step 26 5) out.old slots.old n out.new slots.new result)
+        × (result ≤ n + 5 * block_room) }
 {
     let adr = register_block(members, slots, out, threads, step, ADR, n);
     let mem = register_block(members, slots, out, threads, step, MEM, adr);
@@ -408,10 +408,10 @@ fn end_kinds(
     step: u8,
     n: u32,
 ) -> u32
-    requires { (n + 5 * blockRoom ≤ lastIndex) × (layout.threads ≤ mostThreads) }
-    ensures { ((members : List ℕ) → Ready (setBy set.now layout) (listed points) members lists.now slots.old n
-        → Writes (blocksOf (setBy set.now layout) (listed points) step 31 5) out.old slots.old n out.new slots.new result)
-        × (result ≤ n + 5 * blockRoom) }
+    requires { (n + 5 * block_room ≤ last_index) × (layout.threads ≤ most_threads) }
+    ensures { ((members : List ℕ) → Ready (set_by set.now layout) (listed points) members lists.now slots.old n
+        → Writes (blocks_of (set_by set.now layout) (listed points) step 31 5) out.old slots.old n out.new slots.new result)
+        × (result ≤ n + 5 * block_room) }
 {
     let threads = layout.threads;
     let checkpoints = set_index::points::points_count(points);
@@ -434,10 +434,10 @@ fn acting_kinds(
     step: u8,
     n: u32,
 ) -> u32
-    requires { (n + 25 * blockRoom ≤ lastIndex) × (layout.threads ≤ mostThreads) }
-    ensures { (Ready (setBy set.now layout) (listed points) members.now lists.now slots.old n
-        → Writes (blocksOf (setBy set.now layout) (listed points) step 11 25) out.old slots.old n out.new slots.new result)
-        × (result ≤ n + 25 * blockRoom) }
+    requires { (n + 25 * block_room ≤ last_index) × (layout.threads ≤ most_threads) }
+    ensures { (Ready (set_by set.now layout) (listed points) members.now lists.now slots.old n
+        → Writes (blocks_of (set_by set.now layout) (listed points) step 11 25) out.old slots.old n out.new slots.new result)
+        × (result ≤ n + 25 * block_room) }
 {
     let statements = statement_kinds(set, layout, members, slots, out, n);
     let written = write_kinds(set, layout, members, slots, out, step, statements);
@@ -450,8 +450,8 @@ fn acting_kinds(
 
 // Writes the constraint of a step: before the end exactly one choice, and it permitted; none after.
 fn rule(layout: Layout, slots: &[u32], out: &mut [u8], n: u32) -> u32
-    requires { (n + 2 ≤ lastIndex) × (layout.threads ≤ mostThreads) }
-    ensures { ((bytes cs : List ℕ) (step : ℕ) → Writes (needs (ruled (setBy bytes layout) cs step) ∷ [])
+    requires { (n + 2 ≤ last_index) × (layout.threads ≤ most_threads) }
+    ensures { ((bytes cs : List ℕ) (step : ℕ) → Writes (needs (ruled (set_by bytes layout) cs step) ∷ [])
         out.old slots.now n out.new slots.now result)
         × (result ≡ n + 2) }
 {
@@ -489,9 +489,9 @@ pub fn one_step(
     step: u8,
     n: u32,
 ) -> u32
-    ensures { (Ready (setBy set.now layout) (listed points) members.now lists.now slots.old n → n + stepRoom ≤ lastIndex
-        → Writes (step_of (setBy set.now layout) (listed points) step) out.old slots.old n out.new slots.new result)
-        × (result ≤ n + stepRoom) }
+    ensures { (Ready (set_by set.now layout) (listed points) members.now lists.now slots.old n → n + step_room ≤ last_index
+        → Writes (step_of (set_by set.now layout) (listed points) step) out.old slots.old n out.new slots.new result)
+        × (result ≤ n + step_room) }
 {
     if slots.len() != SIZE {
         return n;
@@ -516,9 +516,9 @@ pub fn shared(
     out: &mut [u8],
     n: u32,
 ) -> u32
-    ensures { ((cs lists : List ℕ) → Ready (setBy set.now layout) cs members.now lists slots.old n → n + stepRoom ≤ lastIndex
-        → Writes (starting (setBy set.now layout) cs) out.old slots.old n out.new slots.new result)
-        × (result ≤ n + treeRoom + blockRoom) }
+    ensures { ((cs lists : List ℕ) → Ready (set_by set.now layout) cs members.now lists slots.old n → n + step_room ≤ last_index
+        → Writes (starting (set_by set.now layout) cs) out.old slots.old n out.new slots.new result)
+        × (result ≤ n + tree_room + block_room) }
 {
     if LIMIT < n {
         return n;

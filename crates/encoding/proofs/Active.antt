@@ -7,18 +7,18 @@ use native.Mathlib.Omega.{arith}
 use native.Mathlib.Decide.{ℕ_discrete, dec_lt}
 use borrow.Author.Tests.{lt-ltb, le-ltb, ltb-true, eqb-true, eq-eqb, ne_eqb}
 use lib.Dec.{eqb, ltb}
-use Rattle.base.proofs.Choice.{eqb_swap, and-true, and_left, and-right-false, and_yes, passed}
+use Rattle.base.proofs.Choice.{eqb_swap, and_true, and_left, and_right_false, and_yes, passed}
 use Rattle.records.specs.Sets.{Set, nothing}
 use Rattle.records.specs.declared.Statement.{Statement}
-use Rattle.machine.specs.Machine.{State, current, executed, flushed, permitted, actor, acted, threadsAfter}
+use Rattle.machine.specs.Machine.{State, current, executed, flushed, permitted, actor, acted, threads_after}
 use Rattle.machine.specs.declared.Choice.{Choice}
 use Rattle.machine.specs.declared.Choice.TheVariants.{Execute, Flush}
 use Rattle.machine.specs.declared.Thread.{Thread}
 use Rattle.table.specs.Values.{Assignment, Value, bit, as_bit}
 use Rattle.encoding.specs.Assignments.{named}
 use Rattle.encoding.specs.Slots.{active, Slot, slot}
-use Rattle.encoding.specs.Steps.{skip, ifThen, ifActive}
-use Rattle.encoding.proofs.Blocks.{linkValue, linksValue, quiet_if, quiet-cond, links-at}
+use Rattle.encoding.specs.Steps.{skip, if_then, if_active}
+use Rattle.encoding.proofs.Blocks.{link_value, links_value, quiet_if, quiet-cond, links-at}
 use Rattle.encoding.proofs.Stages.{Given, stage}
 
 -- ---- choices
@@ -33,10 +33,10 @@ flushing (Flush t) = true
 
 executes-named : (c : Choice) (u : ℕ) → named c 0 u ≡ (eqb (actor c) u && executing c)
 executes-named (Execute t) u = eqb_swap u t ∙ sym (and_yes (eqb t u))
-executes-named (Flush t) u = sym (and-right-false (eqb t u) refl)
+executes-named (Flush t) u = sym (and_right_false (eqb t u) refl)
 
 flushes-named : (c : Choice) (u : ℕ) → named c 1 u ≡ (eqb (actor c) u && flushing c)
-flushes-named (Execute t) u = sym (and-right-false (eqb t u) refl)
+flushes-named (Execute t) u = sym (and_right_false (eqb t u) refl)
 flushes-named (Flush t) u = eqb_swap u t ∙ sym (and_yes (eqb t u))
 
 -- values one after the other, of which at most the one after p changes
@@ -70,7 +70,7 @@ module _ (S : Set) (cs : List ℕ) (g : Assignment) (k : ℕ) (slots : Slot → 
   -- the thread that acts is there
   pub actor-below : actor c < S.threads
   unfolding permitted
-  actor-below = go c given.isPermitted
+  actor-below = go c given.is_permitted
     where
       go : (c : Choice) → permitted S s c ≡ true → actor c < S.threads
       go (Execute t) h = ltb-true t S.threads (and_left _ _ (and_left _ _ (and_left _ _ h)))
@@ -87,7 +87,7 @@ module _ (S : Set) (cs : List ℕ) (g : Assignment) (k : ℕ) (slots : Slot → 
   apart t ht = (λ z. given.bits 0 t (omega arith) ht z && given.bits 1 t (omega arith) ht z) ∙ go c
     where
       go : (c : Choice) → (named c 0 t && named c 1 t) ≡ false
-      go (Execute u) = and-right-false (eqb t u) refl
+      go (Execute u) = and_right_false (eqb t u) refl
       go (Flush u) = refl
 
   module _ (t : ℕ) (ht : t < S.threads) where
@@ -104,11 +104,11 @@ module _ (S : Set) (cs : List ℕ) (g : Assignment) (k : ℕ) (slots : Slot → 
     abbrev f : Bool
     f = g.choice k 1 t
 
-    abbrev pub nextThread : Thread
-    nextThread = cond e (executed i s.memory x) (cond f (flushed x) x)
+    abbrev pub next_thread : Thread
+    next_thread = cond e (executed i s.memory x) (cond f (flushed x) x)
 
     -- that is the machine's
-    pub thread-after : nextThread ≡ threadsAfter S s c t
+    pub thread-after : next_thread ≡ threads_after S s c t
     unfolding acted
     thread-after = (λ z. cond (given.bits 0 t (omega arith) ht z) (executed i s.memory x) (cond (given.bits 1 t (omega arith) ht z) (flushed x) x)) ∙ go c
       where
@@ -120,7 +120,7 @@ module _ (S : Set) (cs : List ℕ) (g : Assignment) (k : ℕ) (slots : Slot → 
         flushes u true p = ap (λ v. flushed (s.threads v)) (eqb-true t u p)
         flushes u false p = refl
 
-        go : (c : Choice) → cond (named c 0 t) (executed i s.memory x) (cond (named c 1 t) (flushed x) x) ≡ threadsAfter S s c t
+        go : (c : Choice) → cond (named c 0 t) (executed i s.memory x) (cond (named c 1 t) (flushed x) x) ≡ threads_after S s c t
         go (Execute u) = executes u (eqb t u) refl
         go (Flush u) = flushes u (eqb t u) refl
 
@@ -130,7 +130,7 @@ module _ (S : Set) (cs : List ℕ) (g : Assignment) (k : ℕ) (slots : Slot → 
 
     pub number_fits : i.number ≤ 20
     number_fits = elim (dec_lt x.pc (S.count t)) [
-      | yes h ↦ let l = given.wellFormed.numbers t x.pc h in omega arith
+      | yes h ↦ let l = given.well_formed.numbers t x.pc h in omega arith
       | no h ↦ let l : i.number ≡ 20 = ap (λ (j : Statement). j.number) (past (omega arith)) in omega arith
     ]
 
@@ -138,28 +138,28 @@ module _ (S : Set) (cs : List ℕ) (g : Assignment) (k : ℕ) (slots : Slot → 
     abbrev pub ShowsActive : (Slot → Value) → Type 0
     ShowsActive v = (j : ℕ) → j < S.count t → v (slot active t j) ≡ bit (eqb x.pc j && e)
 
-    pub active-at : (n : ℕ) → ((j : ℕ) → at n (slot active t j) ≡ slots (slot active t j)) → ShowsActive (at n)
-    active-at n h j l = h j ∙ given.ready.activeIs t j ht l
+    pub active_at : (n : ℕ) → ((j : ℕ) → at n (slot active t j) ≡ slots (slot active t j)) → ShowsActive (at n)
+    active_at n h j l = h j ∙ given.ready.active_is t j ht l
 
     -- the links of statements that count: the effect of the one that executes
-    pub active-links : (v : Slot → Value) → ShowsActive v → (counts : ℕ → Bool) (sort : ℕ) (effect : ℕ → Slot) (A B : Value)
+    pub active_links : (v : Slot → Value) → ShowsActive v → (counts : ℕ → Bool) (sort : ℕ) (effect : ℕ → Slot) (A B : Value)
         → (x.pc < S.count t → v (effect x.pc) ≡ A) → (S.count t ≤ x.pc → counts x.pc ≡ false)
-        → linksValue v (λ j. ifActive S cs k (counts j) sort t j (effect j)) (S.count t) B ≡ cond e (cond (counts x.pc) A B) B
-    active-links v shown counts sort effect A B inside outside =
-        links-at v (λ j. ifActive S cs k (counts j) sort t j (effect j)) (S.count t) x.pc e B
-        (λ j l h. quiet-cond v (counts j) (ifThen sort (slot active t j) (effect j)) skip (quiet_if v sort (slot active t j) (effect j) (ap as_bit (shown j l) ∙ h)) (λ w. refl))
+        → links_value v (λ j. if_active S cs k (counts j) sort t j (effect j)) (S.count t) B ≡ cond e (cond (counts x.pc) A B) B
+    active_links v shown counts sort effect A B inside outside =
+        links-at v (λ j. if_active S cs k (counts j) sort t j (effect j)) (S.count t) x.pc e B
+        (λ j l h. quiet-cond v (counts j) (if_then sort (slot active t j) (effect j)) skip (quiet_if v sort (slot active t j) (effect j) (ap as_bit (shown j l) ∙ h)) (λ w. refl))
         ∙ go e refl
       where
-        here : (b : Bool) → x.pc < S.count t → e ≡ true → linkValue v (cond b (ifThen sort (slot active t x.pc) (effect x.pc)) skip) B ≡ cond b A B
-        here true l h = λ z. cond (as_bit ((shown x.pc l ∙ ap bit (and-true (eq-eqb x.pc x.pc refl) h)) z)) (inside l z) B
+        here : (b : Bool) → x.pc < S.count t → e ≡ true → link_value v (cond b (if_then sort (slot active t x.pc) (effect x.pc)) skip) B ≡ cond b A B
+        here true l h = λ z. cond (as_bit ((shown x.pc l ∙ ap bit (and_true (eq-eqb x.pc x.pc refl) h)) z)) (inside l z) B
         here false l h = refl
 
         go : (b : Bool) → e ≡ b
-            → cond (ltb x.pc (S.count t) && b) (linkValue v (ifActive S cs k (counts x.pc) sort t x.pc (effect x.pc)) B) B ≡ cond b (cond (counts x.pc) A B) B
-        go false h = passed _ _ (and-right-false (ltb x.pc (S.count t)) refl)
+            → cond (ltb x.pc (S.count t) && b) (link_value v (if_active S cs k (counts x.pc) sort t x.pc (effect x.pc)) B) B ≡ cond b (cond (counts x.pc) A B) B
+        go false h = passed _ _ (and_right_false (ltb x.pc (S.count t)) refl)
         go true h = elim (dec_lt x.pc (S.count t)) [
-          | yes l ↦ ap (λ b. cond (b && true) (linkValue v (ifActive S cs k (counts x.pc) sort t x.pc (effect x.pc)) B) B) (lt-ltb x.pc (S.count t) l) ∙ here (counts x.pc) l h
-          | no l ↦ ap (λ b. cond (b && true) (linkValue v (ifActive S cs k (counts x.pc) sort t x.pc (effect x.pc)) B) B) (le-ltb x.pc (S.count t) (omega arith))
+          | yes l ↦ ap (λ b. cond (b && true) (link_value v (if_active S cs k (counts x.pc) sort t x.pc (effect x.pc)) B) B) (lt-ltb x.pc (S.count t) l) ∙ here (counts x.pc) l h
+          | no l ↦ ap (λ b. cond (b && true) (link_value v (if_active S cs k (counts x.pc) sort t x.pc (effect x.pc)) B) B) (le-ltb x.pc (S.count t) (omega arith))
               ∙ sym (passed A B (outside (omega arith)))
         ]
 

@@ -11,7 +11,7 @@ use borrow.Author.Tests.{eqb-true, eq-eqb}
 use Rattle.base.proofs.Choice.{and_left, and_right, clash}
 use Rattle.records.specs.Sets.{Set}
 use Rattle.machine.specs.Machine.{State, actor, step}
-use Rattle.machine.specs.Runs.{isRun}
+use Rattle.machine.specs.Runs.{is_run}
 use Rattle.machine.specs.declared.Choice.{Choice}
 use Rattle.machine.specs.declared.Choice.TheVariants.{Execute, Flush}
 use Rattle.machine.proofs.Runs.{takes-actor, run-first, run-rest}
@@ -42,7 +42,7 @@ named-apart (Flush t) (Flush u) f = ap Flush (eqb-true t u (sym (f 1 t) ∙ eq-e
 
 -- ---- a run's bits
 
-pub bits_inside : (S : Set) (s : State) (run : List Choice) → isRun S s run ≡ true → (k kind t : ℕ) → bits_of run k kind t ≡ true →
+pub bits_inside : (S : Set) (s : State) (run : List Choice) → is_run S s run ≡ true → (k kind t : ℕ) → bits_of run k kind t ≡ true →
     (k < length run) × ((kind < 2) × (t < S.threads))
 unfolding bits_of
 bits_inside S s [] r k kind t e = clash e refl
@@ -78,8 +78,8 @@ module _ (S : Set) (cs : List ℕ) (g : Assignment) where
     stands_from n (suc k) run (λ j kind t. let e : suc k + j ≡ k + suc j = omega arith in ap (λ i. g.choice i kind t) e ∙ f (suc j) kind t),
   )
 
-  pub stands-in : (n : ℕ) (run : List Choice) → ((k kind t : ℕ) → g.choice k kind t ≡ bits_of run k kind t) → Stands S cs g 0 n run
-  stands-in n run f = stands_from n 0 run (λ j kind t. let e : 0 + j ≡ j = omega arith in ap (λ i. g.choice i kind t) e ∙ f j kind t)
+  pub stands_in : (n : ℕ) (run : List Choice) → ((k kind t : ℕ) → g.choice k kind t ≡ bits_of run k kind t) → Stands S cs g 0 n run
+  stands_in n run f = stands_from n 0 run (λ j kind t. let e : 0 + j ≡ j = omega arith in ap (λ i. g.choice i kind t) e ∙ f j kind t)
 
   stands_at : (n k : ℕ) (run : List Choice) → Stands S cs g k n run → (j kind t : ℕ) → j < n → kind < 2 → t < S.threads → g.choice (k + j) kind t ≡ bits_of run j kind t
   unfolding bits_of

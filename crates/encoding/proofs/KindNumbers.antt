@@ -7,65 +7,65 @@ use lib.Dec.{eqb}
 use Rattle.base.specs.Below.{every}
 use Rattle.base.proofs.Below.{every-at}
 use Rattle.base.proofs.Choice.{and_left, and_right}
-use Rattle.encoding.specs.Slots.{Kind, choice, active, opening, shut, barred, held, waits, mayExecute, none, permittedFirst, onePermitted, address, loaded, swaps, result, test, notTest, flushTo, writeTo, flushValue, writeValue, raised, exits, codes, sharedMemory, val, adr, mem, accu, full, halted, flag, mark, halts, ended, code, bitZero, bitOne, wordZero, wordOne, argument, Slot, slot, same, kinds, kind_at, kindNumber, kindCount}
+use Rattle.encoding.specs.Slots.{Kind, choice, active, opening, shut, barred, held, waits, may_execute, none, permitted_first, one_permitted, address, loaded, swaps, result, test, not_test, flush_to, write_to, flush_value, write_value, raised, exits, codes, shared_memory, val, adr, mem, accu, full, halted, flag, mark, halts, ended, code, bit_zero, bit_one, word_zero, word_one, argument, Slot, slot, same, kinds, kind_at, kind_number, kind_count}
 
-pub kind-at : (kind : Kind) → kind_at (kindNumber kind) ≡ kind
+pub kind_at_lem : (kind : Kind) → kind_at (kind_number kind) ≡ kind
 unfolding kinds
-kind-at choice = refl
-kind-at active = refl
-kind-at opening = refl
-kind-at shut = refl
-kind-at barred = refl
-kind-at held = refl
-kind-at waits = refl
-kind-at mayExecute = refl
-kind-at none = refl
-kind-at permittedFirst = refl
-kind-at onePermitted = refl
-kind-at address = refl
-kind-at loaded = refl
-kind-at swaps = refl
-kind-at result = refl
-kind-at test = refl
-kind-at notTest = refl
-kind-at flushTo = refl
-kind-at writeTo = refl
-kind-at flushValue = refl
-kind-at writeValue = refl
-kind-at raised = refl
-kind-at exits = refl
-kind-at codes = refl
-kind-at sharedMemory = refl
-kind-at val = refl
-kind-at adr = refl
-kind-at mem = refl
-kind-at accu = refl
-kind-at full = refl
-kind-at halted = refl
-kind-at flag = refl
-kind-at mark = refl
-kind-at halts = refl
-kind-at ended = refl
-kind-at code = refl
-kind-at bitZero = refl
-kind-at bitOne = refl
-kind-at wordZero = refl
-kind-at wordOne = refl
-kind-at argument = refl
+kind_at_lem choice = refl
+kind_at_lem active = refl
+kind_at_lem opening = refl
+kind_at_lem shut = refl
+kind_at_lem barred = refl
+kind_at_lem held = refl
+kind_at_lem waits = refl
+kind_at_lem may_execute = refl
+kind_at_lem none = refl
+kind_at_lem permitted_first = refl
+kind_at_lem one_permitted = refl
+kind_at_lem address = refl
+kind_at_lem loaded = refl
+kind_at_lem swaps = refl
+kind_at_lem result = refl
+kind_at_lem test = refl
+kind_at_lem not_test = refl
+kind_at_lem flush_to = refl
+kind_at_lem write_to = refl
+kind_at_lem flush_value = refl
+kind_at_lem write_value = refl
+kind_at_lem raised = refl
+kind_at_lem exits = refl
+kind_at_lem codes = refl
+kind_at_lem shared_memory = refl
+kind_at_lem val = refl
+kind_at_lem adr = refl
+kind_at_lem mem = refl
+kind_at_lem accu = refl
+kind_at_lem full = refl
+kind_at_lem halted = refl
+kind_at_lem flag = refl
+kind_at_lem mark = refl
+kind_at_lem halts = refl
+kind_at_lem ended = refl
+kind_at_lem code = refl
+kind_at_lem bit_zero = refl
+kind_at_lem bit_one = refl
+kind_at_lem word_zero = refl
+kind_at_lem word_one = refl
+kind_at_lem argument = refl
 
-numbered : every kindCount (λ m. eqb (kindNumber (kind_at m)) m) ≡ true
+numbered : every kind_count (λ m. eqb (kind_number (kind_at m)) m) ≡ true
 unfolding kinds every
 numbered = refl
 
-pub kind-number : (m : ℕ) → m < kindCount → kindNumber (kind_at m) ≡ m
-kind-number m h = eqb-true (kindNumber (kind_at m)) m (every-at (λ m. eqb (kindNumber (kind_at m)) m) kindCount m numbered h)
+pub kind_number_lem : (m : ℕ) → m < kind_count → kind_number (kind_at m) ≡ m
+kind_number_lem m h = eqb-true (kind_number (kind_at m)) m (every-at (λ m. eqb (kind_number (kind_at m)) m) kind_count m numbered h)
 
 -- slots are told apart by `same`
 pub same-slot : (x s : Slot) → same x s ≡ true → x ≡ s
 same-slot (slot k a b) (slot l c d) e =
-    let rest = and_right (eqb (kindNumber k) (kindNumber l)) (eqb a c && eqb b d) e in
-    let numbers = eqb-true (kindNumber k) (kindNumber l) (and_left (eqb (kindNumber k) (kindNumber l)) (eqb a c && eqb b d) e) in
-    let p : k ≡ l = sym (kind-at k) ∙ (ap kind_at numbers ∙ kind-at l) in
+    let rest = and_right (eqb (kind_number k) (kind_number l)) (eqb a c && eqb b d) e in
+    let numbers = eqb-true (kind_number k) (kind_number l) (and_left (eqb (kind_number k) (kind_number l)) (eqb a c && eqb b d) e) in
+    let p : k ≡ l = sym (kind_at_lem k) ∙ (ap kind_at numbers ∙ kind_at_lem l) in
     let q = eqb-true a c (and_left (eqb a c) (eqb b d) rest) in
     let r = eqb-true b d (and_right (eqb a c) (eqb b d) rest) in
     λ i. slot (p i) (q i) (r i)

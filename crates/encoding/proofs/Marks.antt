@@ -10,11 +10,11 @@ use lib.ListN.{get_or, length}
 use borrow.Author.Tests.{eqb-true, eq-eqb}
 use Rattle.base.specs.Below.{some}
 use Rattle.base.proofs.Below.{some_at}
-use Rattle.base.proofs.Choice.{and-true, and_left, and_right, clash}
+use Rattle.base.proofs.Choice.{and_true, and_left, and_right, clash}
 use Rattle.records.specs.Instructions.{CHECK}
 use Rattle.records.specs.Sets.{Set, nothing}
 use Rattle.records.specs.declared.Statement.{Statement}
-use Rattle.machine.specs.Machine.{State, start, unmarked, isCheck, contains, markedAt, opened, waiting, current, actor, leavesMark, cleared, step}
+use Rattle.machine.specs.Machine.{State, start, unmarked, is_check, contains, marked_at, opened, waiting, current, actor, leaves_mark, cleared, step}
 use Rattle.machine.specs.declared.Choice.{Choice}
 use Rattle.machine.specs.declared.Choice.TheVariants.{Execute, Flush}
 use Rattle.machine.specs.declared.Mark.{Mark}
@@ -37,16 +37,16 @@ module _ (S : Set) (beyond : Beyond S) (s : State) where
     | no f ↦ clash e (ap (λ (i : Statement). eqb i.number CHECK) (beyond t (s.threads t).pc (omega arith)))
   ]
 
-  left-mark : (c : Choice) → leavesMark S s c ≡ true → contains S (actor c) (current S s (actor c)).argument ≡ true
-  unfolding leavesMark contains
-  left-mark (Execute t) e =
-      some_at (isCheck S t (current S s t).argument) (S.count t) (s.threads t).pc (check-inside t e)
-      (and-true e (eq-eqb (current S s t).argument (current S s t).argument refl))
-  left-mark (Flush t) e = clash e refl
+  left_mark : (c : Choice) → leaves_mark S s c ≡ true → contains S (actor c) (current S s (actor c)).argument ≡ true
+  unfolding leaves_mark contains
+  left_mark (Execute t) e =
+      some_at (is_check S t (current S s t).argument) (S.count t) (s.threads t).pc (check-inside t e)
+      (and_true e (eq-eqb (current S s t).argument (current S s t).argument refl))
+  left_mark (Flush t) e = clash e refl
 
   pub sound-step : Sound S s → (c : Choice) → Sound S (step S s c)
   unfolding step cleared
-  sound-step sound c u = go (leavesMark S s c && eqb u (actor c)) refl
+  sound-step sound c u = go (leaves_mark S s c && eqb u (actor c)) refl
     where
       kept : (b : Bool) → (cond b unmarked (s.marks u)).on ≡ true → contains S u (cond b unmarked (s.marks u)).checkpoint ≡ true
       kept true e = clash e refl
@@ -55,17 +55,17 @@ module _ (S : Set) (beyond : Beyond S) (s : State) where
       left : Mark
       left = record { on = true; checkpoint = (current S s (actor c)).argument }
 
-      go : (b : Bool) → (leavesMark S s c && eqb u (actor c)) ≡ b →
+      go : (b : Bool) → (leaves_mark S s c && eqb u (actor c)) ≡ b →
           (cond b left (cleared S s.marks u)).on ≡ true → contains S u (cond b left (cleared S s.marks u)).checkpoint ≡ true
-      go true q e = ap (λ (t : ℕ). contains S t (current S s (actor c)).argument) (eqb-true u (actor c) (and_right (leavesMark S s c) _ q))
-          ∙ left-mark c (and_left (leavesMark S s c) _ q)
+      go true q e = ap (λ (t : ℕ). contains S t (current S s (actor c)).argument) (eqb-true u (actor c) (and_right (leaves_mark S s c) _ q))
+          ∙ left_mark c (and_left (leaves_mark S s c) _ q)
       go false q e = kept ((s.marks u).on && opened S s.marks (s.marks u).checkpoint) e
 
 -- ---- waiting
 
 -- a thread is held by checkpoint p: it contains it, is marked there, and it is not open
 abbrev pub held_at : Set → List ℕ → (ℕ → Mark) → ℕ → ℕ → Bool
-held_at S cs marks t p = contains S t (get_or cs p 0) && (markedAt (marks t) (get_or cs p 0) && not (opened S marks (get_or cs p 0)))
+held_at S cs marks t p = contains S t (get_or cs p 0) && (marked_at (marks t) (get_or cs p 0) && not (opened S marks (get_or cs p 0)))
 
 pub waiting-is : (S : Set) (cs : List ℕ) (s : State) → Complete S cs → Sound S s → (t : ℕ) → t < S.threads →
     waiting S s.marks t ≡ some (length cs) (held_at S cs s.marks t)
@@ -84,14 +84,14 @@ waiting-is S cs s complete sound t h = same_tests _ _ out back
         let has = sound t marked in
         let p = complete t at h has in
         some_at (held_at S cs s.marks t) (length cs) p.0 p.1.0
-        (subst (λ (c : ℕ). (contains S t c && (markedAt (s.marks t) c && not (opened S s.marks c))) ≡ true) (sym p.1.1)
-        (and-true has (and-true (and-true marked (eq-eqb at at refl)) (and_right on _ e))))
+        (subst (λ (c : ℕ). (contains S t c && (marked_at (s.marks t) c && not (opened S s.marks c))) ≡ true) (sym p.1.1)
+        (and_true has (and_true (and_true marked (eq-eqb at at refl)) (and_right on _ e))))
 
     back : some (length cs) (held_at S cs s.marks t) ≡ true → (on && not (opened S s.marks at)) ≡ true
     back e =
         let r = some-passes (held_at S cs s.marks t) (length cs) e in
         let c = get_or cs r.0 0 in
         let both = and_right (contains S t c) _ r.1.1 in
-        let marked = and_left (markedAt (s.marks t) c) _ both in
-        and-true (and_left on (eqb at c) marked)
-        (ap (λ (d : ℕ). not (opened S s.marks d)) (eqb-true at c (and_right on _ marked)) ∙ and_right (markedAt (s.marks t) c) _ both)
+        let marked = and_left (marked_at (s.marks t) c) _ both in
+        and_true (and_left on (eqb at c) marked)
+        (ap (λ (d : ℕ). not (opened S s.marks d)) (eqb-true at c (and_right on _ marked)) ∙ and_right (marked_at (s.marks t) c) _ both)

@@ -6,17 +6,17 @@ use mathlib.Core.List.{List}
 use native.Mathlib.Omega.{arith}
 use borrow.Author.Tests.{lt-ltb, eqb-false, eq-eqb}
 use lib.Dec.{eqb, ltb}
-use Rattle.base.proofs.Choice.{and-true, clash, cond_both}
+use Rattle.base.proofs.Choice.{and_true, clash, cond_both}
 use Rattle.records.specs.Instructions.{STORE, MEM, CAS, HALT, EXIT, CHECK}
 use Rattle.records.specs.Sets.{Set}
-use Rattle.machine.specs.Machine.{needsEmpty}
-use Rattle.table.specs.Formulas.{bitSort, wordSort}
-use Rattle.table.specs.Programs.{ref, unary, binary, not1, and2, equal2, read2, treeValue}
+use Rattle.machine.specs.Machine.{needs_empty}
+use Rattle.table.specs.Formulas.{bit_sort, word_sort}
+use Rattle.table.specs.Programs.{ref, unary, binary, not1, and2, equal2, read2, tree_value}
 use Rattle.table.specs.Values.{Assignment, Value}
-use Rattle.encoding.specs.Slots.{Kind, choice, active, opening, shut, barred, held, waits, mayExecute, none, permittedFirst, onePermitted, address, loaded, swaps, result, test, notTest, flushTo, writeTo, flushValue, writeValue, raised, exits, codes, sharedMemory, val, adr, mem, accu, full, halted, flag, mark, halts, ended, code, bitZero, bitOne, wordZero, wordOne, argument, Slot, slot, Term}
-use Rattle.encoding.specs.Steps.{Link, skip, ifThen, andWith, orWith, only, word0, shape, loads, setsAccu, isConditional, isOneWay, is_plain, rests, number_of, argumentOf, checkpoint, has, loadTree, resultTree, testTree, base, leads, links, link, tree, rows, columns, kept, indirectTree, noneTree, leavingTree}
-use Rattle.encoding.proofs.Blocks.{refs, refs-both, linkRefs, chain-refs, own, earlier, after_block, settled, scanned}
-use Rattle.encoding.proofs.Results.{result-each, test-each}
+use Rattle.encoding.specs.Slots.{Kind, choice, active, opening, shut, barred, held, waits, may_execute, none, permitted_first, one_permitted, address, loaded, swaps, result, test, not_test, flush_to, write_to, flush_value, write_value, raised, exits, codes, shared_memory, val, adr, mem, accu, full, halted, flag, mark, halts, ended, code, bit_zero, bit_one, word_zero, word_one, argument, Slot, slot, Term}
+use Rattle.encoding.specs.Steps.{Link, skip, if_then, and_with, or_with, only, word0, shape, loads, sets_accu, is_conditional, is_one_way, is_plain, rests, number_of, argument_of, checkpoint, has, load_tree, result_tree, test_tree, base, leads, links, link, tree, rows, columns, kept, indirect_tree, none_tree, leaving_tree}
+use Rattle.encoding.proofs.Blocks.{refs, refs-both, link_refs, chain-refs, own, earlier, after_block, settled, scanned}
+use Rattle.encoding.proofs.Results.{result_each, test-each}
 
 -- kinds whose trees name the slot before theirs
 abbrev pub scans : Kind → Bool
@@ -27,24 +27,24 @@ scans shut = false
 scans barred = false
 scans held = false
 scans waits = false
-scans mayExecute = false
+scans may_execute = false
 scans none = true
-scans permittedFirst = false
-scans onePermitted = false
+scans permitted_first = false
+scans one_permitted = false
 scans address = false
 scans loaded = false
 scans swaps = false
 scans result = false
 scans test = false
-scans notTest = false
-scans flushTo = false
-scans writeTo = true
-scans flushValue = false
-scans writeValue = true
+scans not_test = false
+scans flush_to = false
+scans write_to = true
+scans flush_value = false
+scans write_value = true
 scans raised = false
 scans exits = true
 scans codes = true
-scans sharedMemory = false
+scans shared_memory = false
 scans val = false
 scans adr = false
 scans mem = false
@@ -56,65 +56,65 @@ scans mark = false
 scans halts = false
 scans ended = false
 scans code = false
-scans bitZero = false
-scans bitOne = false
-scans wordZero = false
-scans wordOne = false
+scans bit_zero = false
+scans bit_one = false
+scans word_zero = false
+scans word_one = false
 scans argument = false
 
 module _ (test : Slot → Bool) (b : Bool) where
-  link-both : (l m : Link) → linkRefs test l ≡ true → linkRefs test m ≡ true → linkRefs test (cond b l m) ≡ true
-  link-both l m = cond_both (λ (l : Link). linkRefs test l ≡ true) b {x = l} {y = m}
+  link-both : (l m : Link) → link_refs test l ≡ true → link_refs test m ≡ true → link_refs test (cond b l m) ≡ true
+  link-both l m = cond_both (λ (l : Link). link_refs test l ≡ true) b {x = l} {y = m}
 
   slot-both : (x y : Slot) → test x ≡ true → test y ≡ true → test (cond b x y) ≡ true
   slot-both x y = cond_both (λ (x : Slot). test x ≡ true) b {x = x} {y = y}
 
 -- its own slot: of a statement, of a thread, of all
 at_own : (a b : ℕ) → (eqb a a && eqb b b) ≡ true
-at_own a b = and-true (eq-eqb a a refl) (eq-eqb b b refl)
+at_own a b = and_true (eq-eqb a a refl) (eq-eqb b b refl)
 
 at_row : (a b : ℕ) → b < 1 → (eqb a a && eqb 0 b) ≡ true
-at_row a b h = and-true (eq-eqb a a refl) (eq-eqb 0 b (omega arith))
+at_row a b h = and_true (eq-eqb a a refl) (eq-eqb 0 b (omega arith))
 
 at_first : (a b : ℕ) → a < 1 → b < 1 → (eqb 0 a && eqb 0 b) ≡ true
-at_first a b h l = and-true (eq-eqb 0 a (omega arith)) (eq-eqb 0 b (omega arith))
+at_first a b h l = and_true (eq-eqb 0 a (omega arith)) (eq-eqb 0 b (omega arith))
 
 -- the first has its own base, the others name the one before
-first-or-not : (a b : ℕ) → a < 1 → (P : Bool → Type 0) → P true → ((eqb 0 a && ltb (b - 1) b) ≡ true → P false) → P (eqb b 0)
-first-or-not a b h P p q = go (eqb b 0) refl
+first_or_not : (a b : ℕ) → a < 1 → (P : Bool → Type 0) → P true → ((eqb 0 a && ltb (b - 1) b) ≡ true → P false) → P (eqb b 0)
+first_or_not a b h P p q = go (eqb b 0) refl
   where
     go : (t : Bool) → eqb b 0 ≡ t → P t
     go true e = p
-    go false e = let far = eqb-false b 0 e in q (and-true (eq-eqb 0 a (omega arith)) (lt-ltb (b - 1) b (omega arith)))
+    go false e = let far = eqb-false b 0 e in q (and_true (eq-eqb 0 a (omega arith)) (lt-ltb (b - 1) b (omega arith)))
 
 module _ (S : Set) (cs : List ℕ) (k : ℕ) where
-  leads-own : (t j i : ℕ) → linkRefs (own flag t j) (leads S cs k t j i) ≡ true
+  leads-own : (t j i : ℕ) → link_refs (own flag t j) (leads S cs k t j i) ≡ true
   leads-own t j i =
       let n = number_of S cs k t i in
-      let target = argumentOf S cs k t i in
+      let target = argument_of S cs k t i in
       let on = slot active t i in
-      let always = ifThen bitSort on (only bitOne) in
-      let taken = ifThen bitSort on (slot (cond (is_plain n) test notTest) t i) in
-      let missed = ifThen bitSort on (slot (cond (is_plain n) notTest test) t i) in
+      let always = if_then bit_sort on (only bit_one) in
+      let taken = if_then bit_sort on (slot (cond (is_plain n) test not_test) t i) in
+      let missed = if_then bit_sort on (slot (cond (is_plain n) not_test test) t i) in
       let jump = cond (eqb target j) always skip in
       let miss = cond (eqb (suc i) j) missed skip in
       let both = cond (eqb target j) taken miss in
       let next = cond (eqb (suc i) j) always skip in
-      let rest = cond (isConditional n) both next in
-      link-both (own flag t j) (rests n) skip (cond (isOneWay n target i) jump rest) refl
-      (link-both (own flag t j) (isOneWay n target i) jump rest (link-both (own flag t j) (eqb target j) always skip refl refl)
-      (link-both (own flag t j) (isConditional n) both next
-      (link-both (own flag t j) (eqb target j) taken miss (named (is_plain n) test notTest refl refl)
-      (link-both (own flag t j) (eqb (suc i) j) missed skip (named (is_plain n) notTest test refl refl) refl))
+      let rest = cond (is_conditional n) both next in
+      link-both (own flag t j) (rests n) skip (cond (is_one_way n target i) jump rest) refl
+      (link-both (own flag t j) (is_one_way n target i) jump rest (link-both (own flag t j) (eqb target j) always skip refl refl)
+      (link-both (own flag t j) (is_conditional n) both next
+      (link-both (own flag t j) (eqb target j) taken miss (named (is_plain n) test not_test refl refl)
+      (link-both (own flag t j) (eqb (suc i) j) missed skip (named (is_plain n) not_test test refl refl) refl))
       (link-both (own flag t j) (eqb (suc i) j) always skip refl refl)))
     where
       named : (b : Bool) (l m : Kind) → own flag t j (slot l t i) ≡ true → own flag t j (slot m t i) ≡ true → own flag t j (slot (cond b l m) t i) ≡ true
       named b l m = cond_both (λ (l : Kind). own flag t j (slot l t i) ≡ true) b {x = l} {y = m}
 
-  result_own : (n t i : ℕ) → refs (own result t i) (resultTree S cs k n t i) ≡ true
-  result_own n t i = result-each S cs k (λ (u : Term). refs (own result t i) u ≡ true) n t i (λ o. refl) (λ o. refl) refl refl
+  result_own : (n t i : ℕ) → refs (own result t i) (result_tree S cs k n t i) ≡ true
+  result_own n t i = result_each S cs k (λ (u : Term). refs (own result t i) u ≡ true) n t i (λ o. refl) (λ o. refl) refl refl
 
-  test-own : (n t i : ℕ) → refs (own test t i) (testTree S cs k n t) ≡ true
+  test-own : (n t i : ℕ) → refs (own test t i) (test_tree S cs k n t) ≡ true
   test-own n t i = test-each S cs k (λ (u : Term). refs (own test t i) u ≡ true) n t refl refl refl refl
 
   -- the base of a kind that is not scanned, and its links, name of their own kind their own slot alone
@@ -126,86 +126,86 @@ module _ (S : Set) (cs : List ℕ) (k : ℕ) where
   base-own barred e a b ha hb = refl
   base-own held e a b ha hb = refl
   base-own waits e a b ha hb = refl
-  base-own mayExecute e a b ha hb = refl
+  base-own may_execute e a b ha hb = refl
   base-own none e a b ha hb = clash refl e
-  base-own permittedFirst e a b ha hb = (and-true (slot-both (own permittedFirst a b) (ltb b S.threads) (slot mayExecute b 0) (slot full (b - S.threads) 0) refl refl) refl)
-  base-own onePermitted e a b ha hb = refl
-  base-own address e a b ha hb = (refs-both (own address a b) (eqb (S.statement a b).mode 1) (indirectTree S cs k a b) (ref (slot argument a b)) refl refl)
-  base-own loaded e a b ha hb = (refs-both (own loaded a b) (loads (number_of S cs k a b)) (loadTree S cs k a (slot address a b)) (ref word0) refl refl)
-  base-own swaps e a b ha hb = (refs-both (own swaps a b) (eqb (number_of S cs k a b) CAS) (binary and2 (ref (slot active a b)) (binary equal2 (binary read2 (ref (only sharedMemory)) (ref (slot address a b))) (ref (slot mem a 0)))) (ref (only bitZero)) refl refl)
+  base-own permitted_first e a b ha hb = (and_true (slot-both (own permitted_first a b) (ltb b S.threads) (slot may_execute b 0) (slot full (b - S.threads) 0) refl refl) refl)
+  base-own one_permitted e a b ha hb = refl
+  base-own address e a b ha hb = (refs-both (own address a b) (eqb (S.statement a b).mode 1) (indirect_tree S cs k a b) (ref (slot argument a b)) refl refl)
+  base-own loaded e a b ha hb = (refs-both (own loaded a b) (loads (number_of S cs k a b)) (load_tree S cs k a (slot address a b)) (ref word0) refl refl)
+  base-own swaps e a b ha hb = (refs-both (own swaps a b) (eqb (number_of S cs k a b) CAS) (binary and2 (ref (slot active a b)) (binary equal2 (binary read2 (ref (only shared_memory)) (ref (slot address a b))) (ref (slot mem a 0)))) (ref (only bit_zero)) refl refl)
   base-own result e a b ha hb = (result_own (number_of S cs k a b) a b)
   base-own test e a b ha hb = (test-own (number_of S cs k a b) a b)
-  base-own notTest e a b ha hb = (refs-both (own notTest a b) (isConditional (number_of S cs k a b)) (unary not1 (ref (slot test a b))) (ref (only bitZero)) refl refl)
-  base-own flushTo e a b ha hb = refl
-  base-own writeTo e a b ha hb = clash refl e
-  base-own flushValue e a b ha hb = refl
-  base-own writeValue e a b ha hb = clash refl e
+  base-own not_test e a b ha hb = (refs-both (own not_test a b) (is_conditional (number_of S cs k a b)) (unary not1 (ref (slot test a b))) (ref (only bit_zero)) refl refl)
+  base-own flush_to e a b ha hb = refl
+  base-own write_to e a b ha hb = clash refl e
+  base-own flush_value e a b ha hb = refl
+  base-own write_value e a b ha hb = clash refl e
   base-own raised e a b ha hb = refl
   base-own exits e a b ha hb = clash refl e
   base-own codes e a b ha hb = clash refl e
-  base-own sharedMemory e a b ha hb = (and-true (at_first a b ha hb) refl)
+  base-own shared_memory e a b ha hb = (and_true (at_first a b ha hb) refl)
   base-own val e a b ha hb = (at_row a b hb)
   base-own adr e a b ha hb = (at_row a b hb)
   base-own mem e a b ha hb = (at_row a b hb)
   base-own accu e a b ha hb = (at_row a b hb)
   base-own full e a b ha hb = (at_row a b hb)
   base-own halted e a b ha hb = (at_row a b hb)
-  base-own flag e a b ha hb = (refs-both (own flag a b) (rests (number_of S cs k a b)) (ref (slot flag a b)) (leavingTree S cs k a b) (at_own a b) (at_own a b))
+  base-own flag e a b ha hb = (refs-both (own flag a b) (rests (number_of S cs k a b)) (ref (slot flag a b)) (leaving_tree S cs k a b) (at_own a b) (at_own a b))
   base-own mark e a b ha hb = refl
   base-own halts e a b ha hb = refl
   base-own ended e a b ha hb = refl
   base-own code e a b ha hb = refl
-  base-own bitZero e a b ha hb = (at_first a b ha hb)
-  base-own bitOne e a b ha hb = (at_first a b ha hb)
-  base-own wordZero e a b ha hb = (at_first a b ha hb)
-  base-own wordOne e a b ha hb = refl
+  base-own bit_zero e a b ha hb = (at_first a b ha hb)
+  base-own bit_one e a b ha hb = (at_first a b ha hb)
+  base-own word_zero e a b ha hb = (at_first a b ha hb)
+  base-own word_one e a b ha hb = refl
   base-own argument e a b ha hb = refl
 
-  link-own : (kind : Kind) → scans kind ≡ false → (a b i : ℕ) → linkRefs (own kind a b) (link S cs k kind a b i) ≡ true
+  link-own : (kind : Kind) → scans kind ≡ false → (a b i : ℕ) → link_refs (own kind a b) (link S cs k kind a b i) ≡ true
   link-own choice e a b i = refl
   link-own active e a b i = refl
-  link-own opening e a b i = link-both (own opening a b) (has S cs k i b) (andWith (slot mark i b)) skip refl refl
+  link-own opening e a b i = link-both (own opening a b) (has S cs k i b) (and_with (slot mark i b)) skip refl refl
   link-own shut e a b i = refl
-  link-own barred e a b i = link-both (own barred a b) (needsEmpty (number_of S cs k a i)) (ifThen bitSort (slot active a i) (only bitOne)) skip refl refl
+  link-own barred e a b i = link-both (own barred a b) (needs_empty (number_of S cs k a i)) (if_then bit_sort (slot active a i) (only bit_one)) skip refl refl
   link-own held e a b i = refl
-  link-own waits e a b i = link-both (own waits a b) (has S cs k a i) (orWith (slot held a i)) skip refl refl
-  link-own mayExecute e a b i = refl
+  link-own waits e a b i = link-both (own waits a b) (has S cs k a i) (or_with (slot held a i)) skip refl refl
+  link-own may_execute e a b i = refl
   link-own none e a b i = clash refl e
-  link-own permittedFirst e a b i = refl
-  link-own onePermitted e a b i = refl
+  link-own permitted_first e a b i = refl
+  link-own one_permitted e a b i = refl
   link-own address e a b i = refl
   link-own loaded e a b i = refl
   link-own swaps e a b i = refl
   link-own result e a b i = refl
   link-own test e a b i = refl
-  link-own notTest e a b i = refl
-  link-own flushTo e a b i = refl
-  link-own writeTo e a b i = clash refl e
-  link-own flushValue e a b i = refl
-  link-own writeValue e a b i = clash refl e
-  link-own raised e a b i = link-both (own raised a b) (eqb (number_of S cs k a i) CHECK && eqb (argumentOf S cs k a i) (checkpoint S cs k b)) (ifThen bitSort (slot active a i) (only bitOne)) skip refl refl
+  link-own not_test e a b i = refl
+  link-own flush_to e a b i = refl
+  link-own write_to e a b i = clash refl e
+  link-own flush_value e a b i = refl
+  link-own write_value e a b i = clash refl e
+  link-own raised e a b i = link-both (own raised a b) (eqb (number_of S cs k a i) CHECK && eqb (argument_of S cs k a i) (checkpoint S cs k b)) (if_then bit_sort (slot active a i) (only bit_one)) skip refl refl
   link-own exits e a b i = clash refl e
   link-own codes e a b i = clash refl e
-  link-own sharedMemory e a b i = refl
-  link-own val e a b i = link-both (own val a b) (eqb (number_of S cs k a i) STORE) (ifThen wordSort (slot active a i) (slot accu a 0)) skip refl refl
-  link-own adr e a b i = link-both (own adr a b) (eqb (number_of S cs k a i) STORE) (ifThen wordSort (slot active a i) (slot address a i)) skip refl refl
-  link-own mem e a b i = link-both (own mem a b) (eqb (number_of S cs k a i) MEM) (ifThen wordSort (slot active a i) (slot loaded a i)) skip refl refl
-  link-own accu e a b i = link-both (own accu a b) (setsAccu (number_of S cs k a i)) (ifThen wordSort (slot active a i) (slot result a i)) skip refl refl
-  link-own full e a b i = link-both (own full a b) (eqb (number_of S cs k a i) STORE) (ifThen bitSort (slot active a i) (only bitOne)) skip refl refl
-  link-own halted e a b i = link-both (own halted a b) (eqb (number_of S cs k a i) HALT) (ifThen bitSort (slot active a i) (only bitOne)) skip refl refl
+  link-own shared_memory e a b i = refl
+  link-own val e a b i = link-both (own val a b) (eqb (number_of S cs k a i) STORE) (if_then word_sort (slot active a i) (slot accu a 0)) skip refl refl
+  link-own adr e a b i = link-both (own adr a b) (eqb (number_of S cs k a i) STORE) (if_then word_sort (slot active a i) (slot address a i)) skip refl refl
+  link-own mem e a b i = link-both (own mem a b) (eqb (number_of S cs k a i) MEM) (if_then word_sort (slot active a i) (slot loaded a i)) skip refl refl
+  link-own accu e a b i = link-both (own accu a b) (sets_accu (number_of S cs k a i)) (if_then word_sort (slot active a i) (slot result a i)) skip refl refl
+  link-own full e a b i = link-both (own full a b) (eqb (number_of S cs k a i) STORE) (if_then bit_sort (slot active a i) (only bit_one)) skip refl refl
+  link-own halted e a b i = link-both (own halted a b) (eqb (number_of S cs k a i) HALT) (if_then bit_sort (slot active a i) (only bit_one)) skip refl refl
   link-own flag e a b i = leads-own a b i
   link-own mark e a b i = refl
   link-own halts e a b i = refl
   link-own ended e a b i = refl
   link-own code e a b i = refl
-  link-own bitZero e a b i = refl
-  link-own bitOne e a b i = refl
-  link-own wordZero e a b i = refl
-  link-own wordOne e a b i = refl
+  link-own bit_zero e a b i = refl
+  link-own bit_one e a b i = refl
+  link-own word_zero e a b i = refl
+  link-own word_one e a b i = refl
   link-own argument e a b i = refl
 
-  pub names-own : (kind : Kind) → scans kind ≡ false → (a b : ℕ) → a < rows S cs k (shape kind) → b < columns S cs k (shape kind) a → refs (own kind a b) (tree S cs k kind a b) ≡ true
-  names-own kind e a b ha hb =
+  pub names_own : (kind : Kind) → scans kind ≡ false → (a b : ℕ) → a < rows S cs k (shape kind) → b < columns S cs k (shape kind) a → refs (own kind a b) (tree S cs k kind a b) ≡ true
+  names_own kind e a b ha hb =
       chain-refs (own kind a b) (link S cs k kind a b) (links S cs k kind a b) (base S cs k kind a b) (base-own kind e a b ha hb) (λ i l. link-own kind e a b i)
 
   -- those of a scanned kind name of it slots before their own alone
@@ -217,24 +217,24 @@ module _ (S : Set) (cs : List ℕ) (k : ℕ) where
   base-earlier barred e a b ha = clash e refl
   base-earlier held e a b ha = clash e refl
   base-earlier waits e a b ha = clash e refl
-  base-earlier mayExecute e a b ha = clash e refl
-  base-earlier none e a b ha = (first-or-not a b ha (λ t. refs (earlier none a b) (cond t (ref (only bitOne)) (noneTree S cs k b)) ≡ true) refl (λ p. p))
-  base-earlier permittedFirst e a b ha = clash e refl
-  base-earlier onePermitted e a b ha = clash e refl
+  base-earlier may_execute e a b ha = clash e refl
+  base-earlier none e a b ha = (first_or_not a b ha (λ t. refs (earlier none a b) (cond t (ref (only bit_one)) (none_tree S cs k b)) ≡ true) refl (λ p. p))
+  base-earlier permitted_first e a b ha = clash e refl
+  base-earlier one_permitted e a b ha = clash e refl
   base-earlier address e a b ha = clash e refl
   base-earlier loaded e a b ha = clash e refl
   base-earlier swaps e a b ha = clash e refl
   base-earlier result e a b ha = clash e refl
   base-earlier test e a b ha = clash e refl
-  base-earlier notTest e a b ha = clash e refl
-  base-earlier flushTo e a b ha = clash e refl
-  base-earlier writeTo e a b ha = (first-or-not a b ha (λ t. earlier writeTo a b (cond t (only flushTo) (slot writeTo 0 (b - 1))) ≡ true) refl (λ p. p))
-  base-earlier flushValue e a b ha = clash e refl
-  base-earlier writeValue e a b ha = (first-or-not a b ha (λ t. earlier writeValue a b (cond t (only flushValue) (slot writeValue 0 (b - 1))) ≡ true) refl (λ p. p))
+  base-earlier not_test e a b ha = clash e refl
+  base-earlier flush_to e a b ha = clash e refl
+  base-earlier write_to e a b ha = (first_or_not a b ha (λ t. earlier write_to a b (cond t (only flush_to) (slot write_to 0 (b - 1))) ≡ true) refl (λ p. p))
+  base-earlier flush_value e a b ha = clash e refl
+  base-earlier write_value e a b ha = (first_or_not a b ha (λ t. earlier write_value a b (cond t (only flush_value) (slot write_value 0 (b - 1))) ≡ true) refl (λ p. p))
   base-earlier raised e a b ha = clash e refl
-  base-earlier exits e a b ha = (first-or-not a b ha (λ t. earlier exits a b (cond t (only ended) (slot exits 0 (b - 1))) ≡ true) refl (λ p. p))
-  base-earlier codes e a b ha = (first-or-not a b ha (λ t. earlier codes a b (cond t (only code) (slot codes 0 (b - 1))) ≡ true) refl (λ p. p))
-  base-earlier sharedMemory e a b ha = clash e refl
+  base-earlier exits e a b ha = (first_or_not a b ha (λ t. earlier exits a b (cond t (only ended) (slot exits 0 (b - 1))) ≡ true) refl (λ p. p))
+  base-earlier codes e a b ha = (first_or_not a b ha (λ t. earlier codes a b (cond t (only code) (slot codes 0 (b - 1))) ≡ true) refl (λ p. p))
+  base-earlier shared_memory e a b ha = clash e refl
   base-earlier val e a b ha = clash e refl
   base-earlier adr e a b ha = clash e refl
   base-earlier mem e a b ha = clash e refl
@@ -246,13 +246,13 @@ module _ (S : Set) (cs : List ℕ) (k : ℕ) where
   base-earlier halts e a b ha = clash e refl
   base-earlier ended e a b ha = clash e refl
   base-earlier code e a b ha = clash e refl
-  base-earlier bitZero e a b ha = clash e refl
-  base-earlier bitOne e a b ha = clash e refl
-  base-earlier wordZero e a b ha = clash e refl
-  base-earlier wordOne e a b ha = clash e refl
+  base-earlier bit_zero e a b ha = clash e refl
+  base-earlier bit_one e a b ha = clash e refl
+  base-earlier word_zero e a b ha = clash e refl
+  base-earlier word_one e a b ha = clash e refl
   base-earlier argument e a b ha = clash e refl
 
-  link-earlier : (kind : Kind) → scans kind ≡ true → (a b i : ℕ) → linkRefs (earlier kind a b) (link S cs k kind a b i) ≡ true
+  link-earlier : (kind : Kind) → scans kind ≡ true → (a b i : ℕ) → link_refs (earlier kind a b) (link S cs k kind a b i) ≡ true
   link-earlier choice e a b i = clash e refl
   link-earlier active e a b i = clash e refl
   link-earlier opening e a b i = clash e refl
@@ -260,24 +260,24 @@ module _ (S : Set) (cs : List ℕ) (k : ℕ) where
   link-earlier barred e a b i = clash e refl
   link-earlier held e a b i = clash e refl
   link-earlier waits e a b i = clash e refl
-  link-earlier mayExecute e a b i = clash e refl
+  link-earlier may_execute e a b i = clash e refl
   link-earlier none e a b i = refl
-  link-earlier permittedFirst e a b i = clash e refl
-  link-earlier onePermitted e a b i = clash e refl
+  link-earlier permitted_first e a b i = clash e refl
+  link-earlier one_permitted e a b i = clash e refl
   link-earlier address e a b i = clash e refl
   link-earlier loaded e a b i = clash e refl
   link-earlier swaps e a b i = clash e refl
   link-earlier result e a b i = clash e refl
   link-earlier test e a b i = clash e refl
-  link-earlier notTest e a b i = clash e refl
-  link-earlier flushTo e a b i = clash e refl
-  link-earlier writeTo e a b i = link-both (earlier writeTo a b) (eqb (number_of S cs k (b - 1) i) CAS) (ifThen wordSort (slot swaps (b - 1) i) (slot address (b - 1) i)) skip refl refl
-  link-earlier flushValue e a b i = clash e refl
-  link-earlier writeValue e a b i = link-both (earlier writeValue a b) (eqb (number_of S cs k (b - 1) i) CAS) (ifThen wordSort (slot swaps (b - 1) i) (slot accu (b - 1) 0)) skip refl refl
+  link-earlier not_test e a b i = clash e refl
+  link-earlier flush_to e a b i = clash e refl
+  link-earlier write_to e a b i = link-both (earlier write_to a b) (eqb (number_of S cs k (b - 1) i) CAS) (if_then word_sort (slot swaps (b - 1) i) (slot address (b - 1) i)) skip refl refl
+  link-earlier flush_value e a b i = clash e refl
+  link-earlier write_value e a b i = link-both (earlier write_value a b) (eqb (number_of S cs k (b - 1) i) CAS) (if_then word_sort (slot swaps (b - 1) i) (slot accu (b - 1) 0)) skip refl refl
   link-earlier raised e a b i = clash e refl
-  link-earlier exits e a b i = link-both (earlier exits a b) (eqb (number_of S cs k (b - 1) i) EXIT) (ifThen bitSort (slot active (b - 1) i) (only bitOne)) skip refl refl
-  link-earlier codes e a b i = link-both (earlier codes a b) (eqb (number_of S cs k (b - 1) i) EXIT) (ifThen wordSort (slot active (b - 1) i) (slot argument (b - 1) i)) skip refl refl
-  link-earlier sharedMemory e a b i = clash e refl
+  link-earlier exits e a b i = link-both (earlier exits a b) (eqb (number_of S cs k (b - 1) i) EXIT) (if_then bit_sort (slot active (b - 1) i) (only bit_one)) skip refl refl
+  link-earlier codes e a b i = link-both (earlier codes a b) (eqb (number_of S cs k (b - 1) i) EXIT) (if_then word_sort (slot active (b - 1) i) (slot argument (b - 1) i)) skip refl refl
+  link-earlier shared_memory e a b i = clash e refl
   link-earlier val e a b i = clash e refl
   link-earlier adr e a b i = clash e refl
   link-earlier mem e a b i = clash e refl
@@ -289,19 +289,19 @@ module _ (S : Set) (cs : List ℕ) (k : ℕ) where
   link-earlier halts e a b i = clash e refl
   link-earlier ended e a b i = clash e refl
   link-earlier code e a b i = clash e refl
-  link-earlier bitZero e a b i = clash e refl
-  link-earlier bitOne e a b i = clash e refl
-  link-earlier wordZero e a b i = clash e refl
-  link-earlier wordOne e a b i = clash e refl
+  link-earlier bit_zero e a b i = clash e refl
+  link-earlier bit_one e a b i = clash e refl
+  link-earlier word_zero e a b i = clash e refl
+  link-earlier word_one e a b i = clash e refl
   link-earlier argument e a b i = clash e refl
 
-  pub names-earlier : (kind : Kind) → scans kind ≡ true → (a b : ℕ) → a < rows S cs k (shape kind) → b < columns S cs k (shape kind) a → refs (earlier kind a b) (tree S cs k kind a b) ≡ true
-  names-earlier kind e a b ha hb =
+  pub names_earlier : (kind : Kind) → scans kind ≡ true → (a b : ℕ) → a < rows S cs k (shape kind) → b < columns S cs k (shape kind) a → refs (earlier kind a b) (tree S cs k kind a b) ≡ true
+  names_earlier kind e a b ha hb =
       chain-refs (earlier kind a b) (link S cs k kind a b) (links S cs k kind a b) (base S cs k kind a b) (base-earlier kind e a b ha) (λ i l. link-earlier kind e a b i)
 
   module _ (g : Assignment) (kind : Kind) (slots : Slot → Value) (a b : ℕ) (ha : a < rows S cs k (shape kind)) (hb : b < columns S cs k (shape kind) a) (e : kept S cs k (shape kind) a b ≡ true) where
-    pub settledAt : scans kind ≡ false → after_block g S cs k kind slots (slot kind a b) ≡ treeValue g slots (tree S cs k kind a b)
-    settledAt p = settled g S cs k kind slots a b ha hb e (names-own kind p a b ha hb)
+    pub settled_at : scans kind ≡ false → after_block g S cs k kind slots (slot kind a b) ≡ tree_value g slots (tree S cs k kind a b)
+    settled_at p = settled g S cs k kind slots a b ha hb e (names_own kind p a b ha hb)
 
-    pub scannedAt : scans kind ≡ true → after_block g S cs k kind slots (slot kind a b) ≡ treeValue g (after_block g S cs k kind slots) (tree S cs k kind a b)
-    scannedAt p = scanned g S cs k kind slots a b ha hb e (names-earlier kind p a b ha hb)
+    pub scanned_at : scans kind ≡ true → after_block g S cs k kind slots (slot kind a b) ≡ tree_value g (after_block g S cs k kind slots) (tree S cs k kind a b)
+    scanned_at p = scanned g S cs k kind slots a b ha hb e (names_earlier kind p a b ha hb)

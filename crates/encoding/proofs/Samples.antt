@@ -10,7 +10,7 @@ use Rattle.records.specs.declared.Statement.{Statement}
 use Rattle.machine.specs.Machine.{contains}
 use Rattle.table.specs.declared.Formula.{Formula}
 use Rattle.table.specs.Programs.{compiled, records, next, root, upto}
-use Rattle.table.specs.Values.{Assignment, satisfies, met, valuesFrom, value_of}
+use Rattle.table.specs.Values.{Assignment, satisfies, met, values_from, value_of}
 use Rattle.encoding.specs.Slots.{kinds}
 use Rattle.encoding.specs.Steps.{chain, step}
 use Rattle.encoding.specs.Encodings.{encoded, program}
@@ -48,21 +48,21 @@ unfolding encoded program step kinds upto chain compiled records next root some 
 sizes = refl
 
 runs : satisfies (second 0) (encoded both [] zeroed 3) ≡ true
-unfolding encoded program step kinds upto chain compiled records next root some contains satisfies met valuesFrom value_of
+unfolding encoded program step kinds upto chain compiled records next root some contains satisfies met values_from value_of
 runs = refl
 
-otherMap : satisfies (second 1) (encoded both [] zeroed 3) ≡ false
-unfolding encoded program step kinds upto chain compiled records next root some contains satisfies met valuesFrom value_of
-otherMap = refl
+other_map : satisfies (second 1) (encoded both [] zeroed 3) ≡ false
+unfolding encoded program step kinds upto chain compiled records next root some contains satisfies met values_from value_of
+other_map = refl
 
-tooShort : satisfies (second 0) (encoded both [] zeroed 2) ≡ false
-unfolding encoded program step kinds upto chain compiled records next root some contains satisfies met valuesFrom value_of
-tooShort = refl
+too_short : satisfies (second 0) (encoded both [] zeroed 2) ≡ false
+unfolding encoded program step kinds upto chain compiled records next root some contains satisfies met values_from value_of
+too_short = refl
 
 -- ---- EXIT 1 for bound 1 and an empty map
 
-abbrev exitOne : Set
-exitOne = record { threads = 1; count = λ t. length (get_or ((plain 18 1 ∷ []) ∷ []) t []); statement = λ t p. get_or (get_or ((plain 18 1 ∷ []) ∷ []) t []) p nothing }
+abbrev exit_one : Set
+exit_one = record { threads = 1; count = λ t. length (get_or ((plain 18 1 ∷ []) ∷ []) t []); statement = λ t p. get_or (get_or ((plain 18 1 ∷ []) ∷ []) t []) p nothing }
 
 -- operation, sort, constant, operands
 abbrev formula : (operation sort constant a b c : ℕ) → Formula
@@ -104,6 +104,6 @@ page =
     ∷ formula 16 0 0 30 0 0
     ∷ []
 
-page-is-table : encoded exitOne [] [] 1 ≡ page
+page-is-table : encoded exit_one [] [] 1 ≡ page
 unfolding encoded program step kinds upto chain compiled records next root some contains
 page-is-table = refl

@@ -8,24 +8,24 @@ use lib.Dec.{eqb}
 use borrow.Author.Tests.{eq-eqb, ne_eqb, not-true}
 use Rattle.base.specs.Below.{every}
 use Rattle.base.proofs.Below.{every-at, every-all}
-use Rattle.base.proofs.Choice.{chosen, passed, and-true, and_left, and_right, clash}
+use Rattle.base.proofs.Choice.{chosen, passed, and_true, and_left, and_right, clash}
 
 module _ (bits : ℕ → Bool) where
   -- none of the first n bits is 1
-  abbrev pub noneBelow : ℕ → Bool
-  noneBelow n = every n (λ i. not (bits i))
+  abbrev pub none_below : ℕ → Bool
+  none_below n = every n (λ i. not (bits i))
 
-  pub none_out : (n : ℕ) → noneBelow n ≡ true → (i : ℕ) → i < n → bits i ≡ false
+  pub none_out : (n : ℕ) → none_below n ≡ true → (i : ℕ) → i < n → bits i ≡ false
   none_out n e i h = not-true (bits i) (every-at (λ i. not (bits i)) n i e h)
 
-  pub none_in : (n : ℕ) → ((i : ℕ) → i < n → bits i ≡ false) → noneBelow n ≡ true
+  pub none_in : (n : ℕ) → ((i : ℕ) → i < n → bits i ≡ false) → none_below n ≡ true
   none_in n f = every-all (λ i. not (bits i)) n (λ i h. ap not (f i h))
 
   module _ (allowed : ℕ → Bool) where
     -- the last of n bits that is 1 is allowed, and none before it is 1
     unfoldable pub single : ℕ → Bool
     single zero = false
-    single (suc n) = cond (bits n) (allowed n && noneBelow n) (single n)
+    single (suc n) = cond (bits n) (allowed n && none_below n) (single n)
 
     abbrev pub One : ℕ → Type 0
     One n = (i : ℕ) × ((i < n) × ((allowed i ≡ true) × ((j : ℕ) → j < n → bits j ≡ eqb j i)))
@@ -37,13 +37,13 @@ module _ (bits : ℕ → Bool) where
       where
         go : (b : Bool) → bits n ≡ b → (single n ≡ true → One n) → One (suc n)
         go true q before =
-            let both : (allowed n && noneBelow n) ≡ true = sym (chosen _ _ q) ∙ e in
-            let others = none_out n (and_right (allowed n) (noneBelow n) both) in (
+            let both : (allowed n && none_below n) ≡ true = sym (chosen _ _ q) ∙ e in
+            let others = none_out n (and_right (allowed n) (none_below n) both) in (
               n,
               (
                 omega arith,
                 (
-                  and_left (allowed n) (noneBelow n) both,
+                  and_left (allowed n) (none_below n) both,
                   λ j h. elim (ℕ_discrete j n) [
                     | yes r ↦ ap bits r ∙ (q ∙ sym (eq-eqb j n r))
                     | no f ↦ others j (omega arith) ∙ sym (ne_eqb j n f)
@@ -66,11 +66,11 @@ module _ (bits : ℕ → Bool) where
               ),
             )
 
-    pub single-in : (n i : ℕ) → i < n → allowed i ≡ true → ((j : ℕ) → j < n → bits j ≡ eqb j i) → single n ≡ true
+    pub single_in : (n i : ℕ) → i < n → allowed i ≡ true → ((j : ℕ) → j < n → bits j ≡ eqb j i) → single n ≡ true
     unfolding single
-    single-in zero i h a f = absurd (omega arith)
-    single-in (suc n) i h a f = elim (ℕ_discrete n i) [
+    single_in zero i h a f = absurd (omega arith)
+    single_in (suc n) i h a f = elim (ℕ_discrete n i) [
       | yes e ↦ chosen _ _ (f n (omega arith) ∙ eq-eqb n i e)
-          ∙ and-true (ap allowed e ∙ a) (none_in n (λ j l. f j (omega arith) ∙ ne_eqb j i (λ (z : j ≡ i). omega arith)))
-      | no g ↦ passed _ _ (f n (omega arith) ∙ ne_eqb n i g) ∙ single-in n i (omega arith) a (λ j l. f j (omega arith))
+          ∙ and_true (ap allowed e ∙ a) (none_in n (λ j l. f j (omega arith) ∙ ne_eqb j i (λ (z : j ≡ i). omega arith)))
+      | no g ↦ passed _ _ (f n (omega arith) ∙ ne_eqb n i g) ∙ single_in n i (omega arith) a (λ j l. f j (omega arith))
     ]

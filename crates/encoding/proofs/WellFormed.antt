@@ -7,23 +7,23 @@ use native.Mathlib.Omega.{arith}
 use borrow.Author.Tests.{lt-ltb, le-ltb}
 use lib.Dec.{eqb, ltb}
 use Rattle.base.proofs.Choice.{chosen, passed, cond_both}
-use Rattle.records.specs.Maps.{cells, addressAt, value_at}
-use Rattle.records.specs.Sets.{Set, setOf}
+use Rattle.records.specs.Maps.{cells, address_at, value_at}
+use Rattle.records.specs.Sets.{Set, set_of}
 use Rattle.table.specs.declared.Formula.{Formula}
-use Rattle.table.specs.Formulas.{noSort, CHOICE, FIRST, CONSTRAINT, GOAL}
-use Rattle.table.specs.Programs.{choiceBit, leafFormula, binaryFormula, unaryFormula, equal2, not1, goal, Command, sets, needs, aims, next, root, records, upto, nextAfter, placesAfter, compiled}
-use Rattle.table.specs.Tables.{allFormed, formed, occurrences, choiceBits, steps, InOrder, WellFormedTable}
+use Rattle.table.specs.Formulas.{no_sort, CHOICE, FIRST, CONSTRAINT, GOAL}
+use Rattle.table.specs.Programs.{choice_bit, leaf_formula, binary_formula, unary_formula, equal2, not1, goal, Command, sets, needs, aims, next, root, records, upto, next_after, places_after, compiled}
+use Rattle.table.specs.Tables.{all_formed, formed, occurrences, choice_bits, steps, InOrder, WellFormedTable}
 use Rattle.table.proofs.Counted.{count-++, Apart, choice-apart, first-apart, constraint-apart, goal-apart, demands, demands-++, demands-none, demands-each, program-count}
 use Rattle.table.proofs.Ordered.{bits-upto, steps-ended}
-use Rattle.table.proofs.Sequences.{upto-first, upto-more, upto-ext, compiled-++, compiled-upto}
+use Rattle.table.proofs.Sequences.{upto-first, upto-more, upto_ext, compiled-++, compiled-upto}
 use Rattle.table.proofs.Sorted.{ProgramFits, fits-++, fits-upto, program-formed}
 use Rattle.encoding.specs.Checkpoints.{checkpoints}
-use Rattle.encoding.specs.Encodings.{mapDemand, goalTree, starting, program, firsts, encoded, table_of}
-use Rattle.encoding.specs.Slots.{Kind, choice, wordOne, argument, code, wordZero, Slot, slot, same, kind_at, kindNumber, kinds, startPlace}
+use Rattle.encoding.specs.Encodings.{map_demand, goal_tree, starting, program, firsts, encoded, table_of}
+use Rattle.encoding.specs.Slots.{Kind, choice, word_one, argument, code, word_zero, Slot, slot, same, kind_at, kind_number, kinds, start_place}
 use Rattle.encoding.specs.Steps.{shape, chain, kept, tree, entry, line, block, blocks, rows, columns, ruled, step}
 use Rattle.encoding.proofs.Bytes.{Bytes, word_below, set_words}
-use Rattle.encoding.proofs.KindNumbers.{kind-number}
-use Rattle.encoding.proofs.Sorts.{slotSort, sort-alike, start-lies, startSorts, Words, block-fits, ruled-fits}
+use Rattle.encoding.proofs.KindNumbers.{kind_number_lem}
+use Rattle.encoding.proofs.Sorts.{slot_sort, sort_alike, start_lies, start_sorts, Words, block-fits, ruled-fits}
 
 -- ---- steps
 
@@ -39,18 +39,18 @@ module _ (S : Set) (cs : List ℕ) where
       ∙ append_assoc (block S cs k choice) (upto (λ i. block S cs k (kind_at (0 + suc i))) 10) (needs (ruled S cs k) ∷ blocks S cs k 11 25)
 
   -- its choice bits are a row
-  choice-row : (places : Slot → ℕ) (n k : ℕ) → compiled same places n (block S cs k choice) ≡ choiceBits S.threads k
-  unfolding upto compiled records chain choiceBits
+  choice-row : (places : Slot → ℕ) (n k : ℕ) → compiled same places n (block S cs k choice) ≡ choice_bits S.threads k
+  unfolding upto compiled records chain choice_bits
   choice-row places n k =
       let T = S.threads in
-      let f : ℕ → List Formula = λ j. leafFormula (cond (ltb j T) (choiceBit k 0 j) (choiceBit k 1 (j - T))) ∷ [] in
+      let f : ℕ → List Formula = λ j. leaf_formula (cond (ltb j T) (choice_bit k 0 j) (choice_bit k 1 (j - T))) ∷ [] in
       compiled-upto same places n (entry S cs k choice 0) (T + T)
       ∙ (upto-more f T T
       ∙ ap₂ (λ x y. x ++ y)
-      (upto-ext f _ T (λ i (h : i < T). ap (λ x. leafFormula x ∷ []) (chosen (choiceBit k 0 i) (choiceBit k 1 (i - T)) (lt-ltb i T h))) ∙ sym (bits-upto k 0 T))
-      (upto-ext (λ i. f (T + i)) _ T
-      (λ i (h : i < T). ap (λ x. leafFormula x ∷ [])
-      (passed (choiceBit k 0 (T + i)) (choiceBit k 1 (T + i - T)) (le-ltb (T + i) T (omega arith)) ∙ ap (choiceBit k 1) (less T i)))
+      (upto_ext f _ T (λ i (h : i < T). ap (λ x. leaf_formula x ∷ []) (chosen (choice_bit k 0 i) (choice_bit k 1 (i - T)) (lt-ltb i T h))) ∙ sym (bits-upto k 0 T))
+      (upto_ext (λ i. f (T + i)) _ T
+      (λ i (h : i < T). ap (λ x. leaf_formula x ∷ [])
+      (passed (choice_bit k 0 (T + i)) (choice_bit k 1 (T + i - T)) (le-ltb (T + i) T (omega arith)) ∙ ap (choice_bit k 1) (less T i)))
       ∙ sym (bits-upto k 1 T)))
     where
       less : (t i : ℕ) → t + i - t ≡ i
@@ -58,10 +58,10 @@ module _ (S : Set) (cs : List ℕ) where
 
   step_row : (places : Slot → ℕ) (n k : ℕ) →
       compiled same places n (step S cs k)
-      ≡ choiceBits S.threads k ++ compiled same (placesAfter same places n (block S cs k choice)) (nextAfter same n (block S cs k choice)) (rest k)
+      ≡ choice_bits S.threads k ++ compiled same (places_after same places n (block S cs k choice)) (next_after same n (block S cs k choice)) (rest k)
   step_row places n k =
       ap (compiled same places n) (step-split k) ∙ (compiled-++ same places n (block S cs k choice) (rest k)
-      ∙ ap (λ x. x ++ compiled same (placesAfter same places n (block S cs k choice)) (nextAfter same n (block S cs k choice)) (rest k)) (choice-row places n k))
+      ∙ ap (λ x. x ++ compiled same (places_after same places n (block S cs k choice)) (next_after same n (block S cs k choice)) (rest k)) (choice-row places n k))
 
   -- ---- what they need
 
@@ -78,8 +78,8 @@ module _ (S : Set) (cs : List ℕ) where
 
   starting-none : (operation : ℕ) → demands operation (starting S cs) ≡ 0
   starting-none operation =
-      let p = demands-++ operation (block S cs 0 wordOne) (block S cs 0 argument) in
-      let q = block_none operation 0 wordOne in
+      let p = demands-++ operation (block S cs 0 word_one) (block S cs 0 argument) in
+      let q = block_none operation 0 word_one in
       let r = block_none operation 0 argument in
       omega arith
 
@@ -94,72 +94,72 @@ module _ (S : Set) (cs : List ℕ) where
   -- ---- their sorts
 
   module _ (words : Words S) where
-    rest-fits : (bits : Bool) (k : ℕ) → ProgramFits slotSort bits (rest k)
+    rest-fits : (bits : Bool) (k : ℕ) → ProgramFits slot_sort bits (rest k)
     rest-fits bits k =
-        fits-++ slotSort bits (upto (λ i. block S cs k (kind_at (0 + suc i))) 10) (needs (ruled S cs k) ∷ blocks S cs k 11 25)
-        (fits-upto slotSort bits (λ i. block S cs k (kind_at (0 + suc i))) 10
+        fits-++ slot_sort bits (upto (λ i. block S cs k (kind_at (0 + suc i))) 10) (needs (ruled S cs k) ∷ blocks S cs k 11 25)
+        (fits-upto slot_sort bits (λ i. block S cs k (kind_at (0 + suc i))) 10
         (λ i (h : i < 10). block-fits S cs k bits words (kind_at (0 + suc i))
-        (λ (e : kindNumber (kind_at (0 + suc i)) ≡ 0). let p = kind-number (0 + suc i) (omega arith) in absurd (omega arith)))) (
+        (λ (e : kind_number (kind_at (0 + suc i)) ≡ 0). let p = kind_number_lem (0 + suc i) (omega arith) in absurd (omega arith)))) (
           ruled-fits S cs k bits words,
-          fits-upto slotSort bits (λ i. block S cs k (kind_at (11 + i))) 25
+          fits-upto slot_sort bits (λ i. block S cs k (kind_at (11 + i))) 25
               (λ i (h : i < 25). block-fits S cs k bits words (kind_at (11 + i))
-              (λ (e : kindNumber (kind_at (11 + i)) ≡ 0). let p = kind-number (11 + i) (omega arith) in absurd (omega arith))),
+              (λ (e : kind_number (kind_at (11 + i)) ≡ 0). let p = kind_number_lem (11 + i) (omega arith) in absurd (omega arith))),
         )
 
-    step_fits : (k : ℕ) → ProgramFits slotSort true (step S cs k)
+    step_fits : (k : ℕ) → ProgramFits slot_sort true (step S cs k)
     step_fits k =
-        subst (ProgramFits slotSort true) (sym (step-split k))
-        (fits-++ slotSort true (block S cs k choice) (rest k) (block-fits S cs k true words choice (λ e. refl)) (rest-fits true k))
+        subst (ProgramFits slot_sort true) (sym (step-split k))
+        (fits-++ slot_sort true (block S cs k choice) (rest k) (block-fits S cs k true words choice (λ e. refl)) (rest-fits true k))
 
-    starting-fits : (bits : Bool) → ProgramFits slotSort bits (starting S cs)
+    starting-fits : (bits : Bool) → ProgramFits slot_sort bits (starting S cs)
     starting-fits bits =
-        fits-++ slotSort bits (block S cs 0 wordOne) (block S cs 0 argument)
-        (block-fits S cs 0 bits words wordOne (λ (e : 39 ≡ 0). absurd (omega arith)))
+        fits-++ slot_sort bits (block S cs 0 word_one) (block S cs 0 argument)
+        (block-fits S cs 0 bits words word_one (λ (e : 39 ≡ 0). absurd (omega arith)))
         (block-fits S cs 0 bits words argument (λ (e : 40 ≡ 0). absurd (omega arith)))
 
 -- ---- map constraints and the goal
 
 -- every address and value is a word
 abbrev pub MapWords : List ℕ → Type 0
-MapWords map = (j : ℕ) → (addressAt map j < 65536) × (value_at map j < 65536)
+MapWords map = (j : ℕ) → (address_at map j < 65536) × (value_at map j < 65536)
 
-maps-fit : (bits : Bool) (map : List ℕ) → MapWords map → ProgramFits slotSort bits (upto (mapDemand map) (cells map))
+maps-fit : (bits : Bool) (map : List ℕ) → MapWords map → ProgramFits slot_sort bits (upto (map_demand map) (cells map))
 maps-fit bits map h =
-    fits-upto slotSort bits (mapDemand map) (cells map) (λ j l. ((refl, ((refl, (refl, ((h j).0, refl))), ((h j).1, refl))), tt))
+    fits-upto slot_sort bits (map_demand map) (cells map) (λ j l. ((refl, ((refl, (refl, ((h j).0, refl))), ((h j).1, refl))), tt))
 
-maps_each : (map : List ℕ) → demands CONSTRAINT (upto (mapDemand map) (cells map)) ≡ cells map
+maps_each : (map : List ℕ) → demands CONSTRAINT (upto (map_demand map) (cells map)) ≡ cells map
 unfolding demands
-maps_each map = demands-each CONSTRAINT (mapDemand map) (cells map) (λ j. refl)
+maps_each map = demands-each CONSTRAINT (map_demand map) (cells map) (λ j. refl)
 
-maps_none : (operation : ℕ) (map : List ℕ) → eqb CONSTRAINT operation ≡ false → demands operation (upto (mapDemand map) (cells map)) ≡ 0
+maps_none : (operation : ℕ) (map : List ℕ) → eqb CONSTRAINT operation ≡ false → demands operation (upto (map_demand map) (cells map)) ≡ 0
 unfolding demands
-maps_none operation map e = demands-none operation (mapDemand map) (cells map) (λ j. let p = passed {A = ℕ} 1 0 e in omega arith)
+maps_none operation map e = demands-none operation (map_demand map) (cells map) (λ j. let p = passed {A = ℕ} 1 0 e in omega arith)
 
 -- the records of the goal's tree
 abbrev aimed : (Slot → ℕ) → ℕ → List Formula
-aimed places n = binaryFormula equal2 (places (slot code 0 0)) (places (slot wordZero 0 0)) ∷ unaryFormula not1 n ∷ []
+aimed places n = binary_formula equal2 (places (slot code 0 0)) (places (slot word_zero 0 0)) ∷ unary_formula not1 n ∷ []
 
 -- ---- the whole table
 
-module _ (S : Set) (cs map : List ℕ) (words : Words S) (mapWords : MapWords map) where
-  program-fits : (bound : ℕ) → ProgramFits slotSort true (program S cs map bound)
+module _ (S : Set) (cs map : List ℕ) (words : Words S) (map_words : MapWords map) where
+  program-fits : (bound : ℕ) → ProgramFits slot_sort true (program S cs map bound)
   unfolding program
   program-fits bound =
-      fits-++ slotSort true (starting S cs) _ (starting-fits S cs words true)
-      (fits-++ slotSort true (upto (mapDemand map) (cells map)) _ (maps-fit true map mapWords)
-      (fits-++ slotSort true (upto (step S cs) bound) (aims goalTree ∷ []) (fits-upto slotSort true (step S cs) bound (λ k h. step_fits S cs words k))
+      fits-++ slot_sort true (starting S cs) _ (starting-fits S cs words true)
+      (fits-++ slot_sort true (upto (map_demand map) (cells map)) _ (maps-fit true map map_words)
+      (fits-++ slot_sort true (upto (step S cs) bound) (aims goal_tree ∷ []) (fits-upto slot_sort true (step S cs) bound (λ k h. step_fits S cs words k))
       ((refl, (refl, (refl, refl))), tt)))
 
-  all-formed : (bound : ℕ) → allFormed (λ i. noSort) 0 (encoded S cs map bound) ≡ true
-  unfolding encoded allFormed formed
-  all-formed bound = program-formed slotSort true same sort-alike (program S cs map bound) startPlace 4 startSorts start-lies (program-fits bound)
+  all-formed : (bound : ℕ) → all_formed (λ i. no_sort) 0 (encoded S cs map bound) ≡ true
+  unfolding encoded all_formed formed
+  all-formed bound = program-formed slot_sort true same sort_alike (program S cs map bound) start_place 4 start_sorts start_lies (program-fits bound)
 
   program-none : (bound : ℕ) → demands FIRST (program S cs map bound) ≡ 0
   unfolding program demands
   program-none bound =
-      let maps = upto (mapDemand map) (cells map) in
+      let maps = upto (map_demand map) (cells map) in
       let all = upto (step S cs) bound in
-      let last : List (Command Slot) = aims goalTree ∷ [] in
+      let last : List (Command Slot) = aims goal_tree ∷ [] in
       let p = demands-++ FIRST (starting S cs) (maps ++ (all ++ last)) in
       let q = demands-++ FIRST maps (all ++ last) in
       let r = demands-++ FIRST all last in
@@ -178,48 +178,48 @@ module _ (S : Set) (cs map : List ℕ) (words : Words S) (mapWords : MapWords ma
   one-memory : (bound : ℕ) → occurrences FIRST (encoded S cs map bound) ≤ 1
   unfolding encoded occurrences
   one-memory bound =
-      let table = compiled same startPlace 4 (program S cs map bound) in
+      let table = compiled same start_place 4 (program S cs map bound) in
       let p : occurrences FIRST table ≡ demands FIRST (program S cs map bound) =
-      program-count slotSort true FIRST (first-apart true) same (program S cs map bound) startPlace 4 (program-fits bound) in
+      program-count slot_sort true FIRST (first-apart true) same (program S cs map bound) start_place 4 (program-fits bound) in
       let q = program-none bound in
       omega arith
 
   -- ---- the order of parts: places and next free index where each begins
 
-  abbrev mapsPlaces : Slot → ℕ
-  mapsPlaces = placesAfter same startPlace 4 (starting S cs)
+  abbrev maps_places : Slot → ℕ
+  maps_places = places_after same start_place 4 (starting S cs)
 
-  abbrev mapsIndex : ℕ
-  mapsIndex = nextAfter same 4 (starting S cs)
+  abbrev maps_index : ℕ
+  maps_index = next_after same 4 (starting S cs)
 
-  abbrev stepsPlaces : Slot → ℕ
-  stepsPlaces = placesAfter same mapsPlaces mapsIndex (upto (mapDemand map) (cells map))
+  abbrev steps_places : Slot → ℕ
+  steps_places = places_after same maps_places maps_index (upto (map_demand map) (cells map))
 
-  abbrev stepsIndex : ℕ
-  stepsIndex = nextAfter same mapsIndex (upto (mapDemand map) (cells map))
+  abbrev steps_index : ℕ
+  steps_index = next_after same maps_index (upto (map_demand map) (cells map))
 
-  abbrev stepPlaces : ℕ → Slot → ℕ
-  stepPlaces k = placesAfter same stepsPlaces stepsIndex (upto (step S cs) k)
+  abbrev step_places : ℕ → Slot → ℕ
+  step_places k = places_after same steps_places steps_index (upto (step S cs) k)
 
-  abbrev stepIndex : ℕ → ℕ
-  stepIndex k = nextAfter same stepsIndex (upto (step S cs) k)
+  abbrev step_index : ℕ → ℕ
+  step_index k = next_after same steps_index (upto (step S cs) k)
 
   -- step k after its choice bits
-  abbrev innerStep : ℕ → List Formula
-  innerStep k =
-      compiled same (placesAfter same (stepPlaces k) (stepIndex k) (block S cs k choice)) (nextAfter same (stepIndex k) (block S cs k choice)) (rest S cs k)
+  abbrev inner_step : ℕ → List Formula
+  inner_step k =
+      compiled same (places_after same (step_places k) (step_index k) (block S cs k choice)) (next_after same (step_index k) (block S cs k choice)) (rest S cs k)
 
-  inner-count : (operation : ℕ) → Apart false operation → (k : ℕ) → occurrences operation (innerStep k) ≡ cond (eqb CONSTRAINT operation) 1 0
+  inner-count : (operation : ℕ) → Apart false operation → (k : ℕ) → occurrences operation (inner_step k) ≡ cond (eqb CONSTRAINT operation) 1 0
   inner-count operation apart k =
-      program-count slotSort false operation apart same (rest S cs k) _ _ (rest-fits S cs words false k) ∙ rest-one S cs operation k
+      program-count slot_sort false operation apart same (rest S cs k) _ _ (rest-fits S cs words false k) ∙ rest-one S cs operation k
 
   -- the records of the goal's tree follow the last step
   module _ (n : ℕ) where
     abbrev following : List Formula
-    following = aimed (stepPlaces (suc n)) (stepIndex (suc n))
+    following = aimed (step_places (suc n)) (step_index (suc n))
 
     abbrev inner : ℕ → List Formula
-    inner k = innerStep k ++ cond (eqb k n) following []
+    inner k = inner_step k ++ cond (eqb k n) following []
 
     following-none : (operation k : ℕ) → occurrences operation following ≡ 0 → occurrences operation (cond (eqb k n) following []) ≡ 0
     unfolding occurrences
@@ -228,7 +228,7 @@ module _ (S : Set) (cs map : List ℕ) (words : Words S) (mapWords : MapWords ma
     no-choice : (k : ℕ) → occurrences CHOICE (inner k) ≡ 0
     unfolding occurrences
     no-choice k =
-        let p = count-++ CHOICE (innerStep k) (cond (eqb k n) following []) in
+        let p = count-++ CHOICE (inner_step k) (cond (eqb k n) following []) in
         let q = inner-count CHOICE choice-apart k in
         let r = following-none CHOICE k refl in
         omega arith
@@ -236,87 +236,87 @@ module _ (S : Set) (cs map : List ℕ) (words : Words S) (mapWords : MapWords ma
     no-goal : (k : ℕ) → occurrences GOAL (inner k) ≡ 0
     unfolding occurrences
     no-goal k =
-        let p = count-++ GOAL (innerStep k) (cond (eqb k n) following []) in
+        let p = count-++ GOAL (inner_step k) (cond (eqb k n) following []) in
         let q = inner-count GOAL (goal-apart false) k in
         let r = following-none GOAL k refl in
         omega arith
 
     some-constraint : (k : ℕ) → 1 ≤ occurrences CONSTRAINT (inner k)
     some-constraint k =
-        let p = count-++ CONSTRAINT (innerStep k) (cond (eqb k n) following []) in
+        let p = count-++ CONSTRAINT (inner_step k) (cond (eqb k n) following []) in
         let q = inner-count CONSTRAINT (constraint-apart false) k in
         omega arith
 
-    steps-compiled : compiled same stepsPlaces stepsIndex (upto (step S cs) (suc n)) ++ following ≡ steps S.threads inner 0 (suc n)
+    steps-compiled : compiled same steps_places steps_index (upto (step S cs) (suc n)) ++ following ≡ steps S.threads inner 0 (suc n)
     steps-compiled =
         ap (λ x. x ++ following)
-        (compiled-upto same stepsPlaces stepsIndex (step S cs) (suc n)
-        ∙ upto-ext _ (λ k. choiceBits S.threads k ++ innerStep k) (suc n) (λ k h. step_row S cs (stepPlaces k) (stepIndex k) k))
-        ∙ steps-ended S.threads innerStep following n
+        (compiled-upto same steps_places steps_index (step S cs) (suc n)
+        ∙ upto_ext _ (λ k. choice_bits S.threads k ++ inner_step k) (suc n) (λ k h. step_row S cs (step_places k) (step_index k) k))
+        ∙ steps-ended S.threads inner_step following n
 
-    abbrev startPart : List Formula
-    startPart = firsts ++ compiled same startPlace 4 (starting S cs)
+    abbrev start_part : List Formula
+    start_part = firsts ++ compiled same start_place 4 (starting S cs)
 
-    abbrev mapPart : List Formula
-    mapPart = compiled same mapsPlaces mapsIndex (upto (mapDemand map) (cells map))
+    abbrev map_part : List Formula
+    map_part = compiled same maps_places maps_index (upto (map_demand map) (cells map))
 
-    abbrev goalRecord : Formula
-    goalRecord = goal (suc (stepIndex (suc n)))
+    abbrev goal_record : Formula
+    goal_record = goal (suc (step_index (suc n)))
 
-    in_parts : encoded S cs map (suc n) ≡ startPart ++ (mapPart ++ (steps S.threads inner 0 (suc n) ++ (goalRecord ∷ [])))
+    in_parts : encoded S cs map (suc n) ≡ start_part ++ (map_part ++ (steps S.threads inner 0 (suc n) ++ (goal_record ∷ [])))
     unfolding encoded program compiled records root next
     in_parts =
-        let maps = upto (mapDemand map) (cells map) in
+        let maps = upto (map_demand map) (cells map) in
         let all = upto (step S cs) (suc n) in
-        let last : List (Command Slot) = aims goalTree ∷ [] in
+        let last : List (Command Slot) = aims goal_tree ∷ [] in
         ap (λ x. firsts ++ x)
-        (compiled-++ same startPlace 4 (starting S cs) (maps ++ (all ++ last))
-        ∙ ap (λ x. compiled same startPlace 4 (starting S cs) ++ x)
-        (compiled-++ same mapsPlaces mapsIndex maps (all ++ last)
-        ∙ ap (λ x. mapPart ++ x)
-        (compiled-++ same stepsPlaces stepsIndex all last
-        ∙ (sym (append_assoc (compiled same stepsPlaces stepsIndex all) following (goalRecord ∷ []))
-        ∙ ap (λ x. x ++ (goalRecord ∷ [])) steps-compiled))))
+        (compiled-++ same start_place 4 (starting S cs) (maps ++ (all ++ last))
+        ∙ ap (λ x. compiled same start_place 4 (starting S cs) ++ x)
+        (compiled-++ same maps_places maps_index maps (all ++ last)
+        ∙ ap (λ x. map_part ++ x)
+        (compiled-++ same steps_places steps_index all last
+        ∙ (sym (append_assoc (compiled same steps_places steps_index all) following (goal_record ∷ []))
+        ∙ ap (λ x. x ++ (goal_record ∷ [])) steps-compiled))))
 
-    start-count : (operation : ℕ) → Apart false operation → occurrences operation firsts ≡ 0 → occurrences operation startPart ≡ 0
+    start-count : (operation : ℕ) → Apart false operation → occurrences operation firsts ≡ 0 → occurrences operation start_part ≡ 0
     start-count operation apart e =
-        let p = count-++ operation firsts (compiled same startPlace 4 (starting S cs)) in
-        let q : occurrences operation (compiled same startPlace 4 (starting S cs)) ≡ demands operation (starting S cs) =
-        program-count slotSort false operation apart same (starting S cs) startPlace 4 (starting-fits S cs words false) in
+        let p = count-++ operation firsts (compiled same start_place 4 (starting S cs)) in
+        let q : occurrences operation (compiled same start_place 4 (starting S cs)) ≡ demands operation (starting S cs) =
+        program-count slot_sort false operation apart same (starting S cs) start_place 4 (starting-fits S cs words false) in
         let r = starting-none S cs operation in
         omega arith
 
-    map-count : (operation : ℕ) → Apart false operation → occurrences operation mapPart ≡ demands operation (upto (mapDemand map) (cells map))
+    map-count : (operation : ℕ) → Apart false operation → occurrences operation map_part ≡ demands operation (upto (map_demand map) (cells map))
     map-count operation apart =
-        program-count slotSort false operation apart same (upto (mapDemand map) (cells map)) mapsPlaces mapsIndex (maps-fit false map mapWords)
+        program-count slot_sort false operation apart same (upto (map_demand map) (cells map)) maps_places maps_index (maps-fit false map map_words)
 
     ordered : InOrder S.threads (suc n) (cells map) (encoded S cs map (suc n))
     unfolding occurrences
     ordered = record {
-      starts = startPart;
-      maps = mapPart;
+      starts = start_part;
+      maps = map_part;
       inner = inner;
-      last = goalRecord;
+      last = goal_record;
       parts = in_parts;
-      startsInner = record { noChoice = start-count CHOICE choice-apart refl; noGoal = start-count GOAL (goal-apart false) refl };
-      noConstraint = start-count CONSTRAINT (constraint-apart false) refl;
-      mapsInner = record {
-        noChoice = map-count CHOICE choice-apart ∙ maps_none CHOICE map refl;
-        noGoal = map-count GOAL (goal-apart false) ∙ maps_none GOAL map refl;
+      starts_inner = record { no_choice = start-count CHOICE choice-apart refl; no_goal = start-count GOAL (goal-apart false) refl };
+      no_constraint = start-count CONSTRAINT (constraint-apart false) refl;
+      maps_inner = record {
+        no_choice = map-count CHOICE choice-apart ∙ maps_none CHOICE map refl;
+        no_goal = map-count GOAL (goal-apart false) ∙ maps_none GOAL map refl;
       };
       constrained = map-count CONSTRAINT (constraint-apart false) ∙ maps_each map;
-      stepsInner = λ k h. record { noChoice = no-choice k; noGoal = no-goal k };
-      someConstraint = λ k h. some-constraint k;
+      steps_inner = λ k h. record { no_choice = no-choice k; no_goal = no-goal k };
+      some_constraint = λ k h. some-constraint k;
       goal = refl;
     }
 
   pub encoded-well-formed : (bound : ℕ) → 1 ≤ bound → WellFormedTable S.threads bound (cells map) (encoded S cs map bound)
   encoded-well-formed zero h = absurd (omega arith)
-  encoded-well-formed (suc n) h = record { records = all-formed (suc n); oneMemory = one-memory (suc n); order = ordered n }
+  encoded-well-formed (suc n) h = record { records = all-formed (suc n); one_memory = one-memory (suc n); order = ordered n }
 
 -- every table of bytes and a bound from 1 on is well formed
 pub well-formed : (set map : List ℕ) (bound : ℕ) → Bytes set → Bytes map → 1 ≤ bound →
-    WellFormedTable (setOf set).threads bound (cells map) (table_of set map bound)
+    WellFormedTable (set_of set).threads bound (cells map) (table_of set map bound)
 unfolding table_of
 well-formed set map bound h k l =
-    encoded-well-formed (setOf set) (checkpoints (setOf set)) map (set_words set h) (λ j. (word_below map k (4 * j), word_below map k (4 * j + 2))) bound l
+    encoded-well-formed (set_of set) (checkpoints (set_of set)) map (set_words set h) (λ j. (word_below map k (4 * j), word_below map k (4 * j + 2))) bound l

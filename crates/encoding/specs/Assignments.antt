@@ -16,5 +16,5 @@ bits_of (c ∷ run) zero kind t = named c kind t
 bits_of (c ∷ run) (suc k) kind t = bits_of run k kind t
 
 -- The cells are the memory.
-abbrev pub assignmentOf : (ℕ → ℕ) → List Choice → Assignment
-assignmentOf memory run = record { choice = bits_of run; first = memory }
+abbrev pub assignment_of : (ℕ → ℕ) → List Choice → Assignment
+assignment_of memory run = record { choice = bits_of run; first = memory }

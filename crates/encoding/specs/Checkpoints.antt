@@ -19,9 +19,9 @@ noted_in S t seen zero = seen
 noted_in S t seen (suc n) = noted (noted_in S t seen n) (S.statement t n)
 
 -- once the first n threads are
-unfoldable pub notedBelow : Set → ℕ → List ℕ
-notedBelow S zero = []
-notedBelow S (suc t) = noted_in S t (notedBelow S t) (S.count t)
+unfoldable pub noted_below : Set → ℕ → List ℕ
+noted_below S zero = []
+noted_below S (suc t) = noted_in S t (noted_below S t) (S.count t)
 
 unfoldable pub checkpoints : Set → List ℕ
-checkpoints S = notedBelow S S.threads
+checkpoints S = noted_below S S.threads

@@ -8,40 +8,40 @@ use lib.Dec.{eqb}
 use Rattle.base.proofs.Choice.{chosen, passed}
 use Rattle.table.specs.Formulas.{IF, WRITE}
 use Rattle.table.specs.declared.Formula.{Formula}
-use Rattle.evaluation.specs.Evaluations.{memoryBehind, cellBack, memoriesBack}
+use Rattle.evaluation.specs.Evaluations.{memory_behind, cell_back, memories_back}
 
 module _ (first : ℕ → ℕ) (formulas : ℕ → Formula) (values : ℕ → ℕ) (m x : ℕ) (f : Formula) (e : f ≡ formulas m) where
   -- a write of address x, and a memory behind which another one lies
   abbrev hits : Formula → Bool
   hits f = eqb f.operation WRITE && eqb x (values f.b)
 
-  abbrev goesOn : Formula → Bool
-  goesOn f = eqb f.operation WRITE || eqb f.operation IF
+  abbrev goes_on : Formula → Bool
+  goes_on f = eqb f.operation WRITE || eqb f.operation IF
 
   hits-there : (v : ℕ) (t : Bool) → v ≡ values f.b → (eqb f.operation WRITE && eqb x v) ≡ t → hits (formulas m) ≡ t
   hits-there v t d h = ap hits (sym e) ∙ (ap (λ (w : ℕ). eqb f.operation WRITE && eqb x w) (sym d) ∙ h)
 
   pub back-hit : (left v : ℕ) → 0 < left → v ≡ values f.b → (eqb f.operation WRITE && eqb x v) ≡ true →
-      cellBack first formulas values left m x ≡ values f.c
-  unfolding cellBack
+      cell_back first formulas values left m x ≡ values f.c
+  unfolding cell_back
   back-hit zero v l d h = absurd (omega arith)
   back-hit (suc left) v l d h = chosen _ _ (hits-there v true d h) ∙ ap (λ (g : Formula). values g.c) (sym e)
 
   pub back-first : (left v : ℕ) → 0 < left → v ≡ values f.b → (eqb f.operation WRITE && eqb x v) ≡ false →
-      (eqb f.operation WRITE || eqb f.operation IF) ≡ false → cellBack first formulas values left m x ≡ first x
-  unfolding cellBack
+      (eqb f.operation WRITE || eqb f.operation IF) ≡ false → cell_back first formulas values left m x ≡ first x
+  unfolding cell_back
   back-first zero v l d h k = absurd (omega arith)
-  back-first (suc left) v l d h k = passed _ _ (hits-there v false d h) ∙ passed _ _ (ap goesOn (sym e) ∙ k)
+  back-first (suc left) v l d h k = passed _ _ (hits-there v false d h) ∙ passed _ _ (ap goes_on (sym e) ∙ k)
 
   pub back_on : (left v : ℕ) → 0 < left → v ≡ values f.b → (eqb f.operation WRITE && eqb x v) ≡ false →
       (eqb f.operation WRITE || eqb f.operation IF) ≡ true →
-      cellBack first formulas values left m x ≡ cellBack first formulas values (left - 1) (memoryBehind values f.operation f.a f.b f.c) x
-  unfolding cellBack
+      cell_back first formulas values left m x ≡ cell_back first formulas values (left - 1) (memory_behind values f.operation f.a f.b f.c) x
+  unfolding cell_back
   back_on zero v l d h k = absurd (omega arith)
   back_on (suc left) v l d h k =
-      passed _ _ (hits-there v false d h) ∙ (chosen _ _ (ap goesOn (sym e) ∙ k)
-      ∙ (ap (λ (g : Formula). cellBack first formulas values left (memoryBehind values g.operation g.a g.b g.c) x) (sym e)
-      ∙ ap (λ (n : ℕ). cellBack first formulas values n (memoryBehind values f.operation f.a f.b f.c) x) less))
+      passed _ _ (hits-there v false d h) ∙ (chosen _ _ (ap goes_on (sym e) ∙ k)
+      ∙ (ap (λ (g : Formula). cell_back first formulas values left (memory_behind values g.operation g.a g.b g.c) x) (sym e)
+      ∙ ap (λ (n : ℕ). cell_back first formulas values n (memory_behind values f.operation f.a f.b f.c) x) less))
     where
       less : left ≡ suc left - 1
       less = omega arith
@@ -49,28 +49,28 @@ module _ (first : ℕ → ℕ) (formulas : ℕ → Formula) (values : ℕ → �
   -- ---- the memories looked at
 
   abbrev Visits : ℕ → List ℕ → Type 0
-  Visits left memories = memoriesBack formulas values left m x ≡ m ∷ memories
+  Visits left memories = memories_back formulas values left m x ≡ m ∷ memories
 
-  pub visits-hit : (left v : ℕ) → 0 < left → v ≡ values f.b → (eqb f.operation WRITE && eqb x v) ≡ true → Visits left []
-  unfolding memoriesBack
-  visits-hit zero v l d h = absurd (omega arith)
-  visits-hit (suc left) v l d h = ap (λ (ms : List ℕ). m ∷ ms) (chosen _ _ (hits-there v true d h))
+  pub visits_hit : (left v : ℕ) → 0 < left → v ≡ values f.b → (eqb f.operation WRITE && eqb x v) ≡ true → Visits left []
+  unfolding memories_back
+  visits_hit zero v l d h = absurd (omega arith)
+  visits_hit (suc left) v l d h = ap (λ (ms : List ℕ). m ∷ ms) (chosen _ _ (hits-there v true d h))
 
-  pub visits-first : (left v : ℕ) → 0 < left → v ≡ values f.b → (eqb f.operation WRITE && eqb x v) ≡ false →
+  pub visits_first : (left v : ℕ) → 0 < left → v ≡ values f.b → (eqb f.operation WRITE && eqb x v) ≡ false →
       (eqb f.operation WRITE || eqb f.operation IF) ≡ false → Visits left []
-  unfolding memoriesBack
-  visits-first zero v l d h k = absurd (omega arith)
-  visits-first (suc left) v l d h k = ap (λ (ms : List ℕ). m ∷ ms) (passed _ _ (hits-there v false d h) ∙ passed _ _ (ap goesOn (sym e) ∙ k))
+  unfolding memories_back
+  visits_first zero v l d h k = absurd (omega arith)
+  visits_first (suc left) v l d h k = ap (λ (ms : List ℕ). m ∷ ms) (passed _ _ (hits-there v false d h) ∙ passed _ _ (ap goes_on (sym e) ∙ k))
 
-  pub visits-on : (left v : ℕ) → 0 < left → v ≡ values f.b → (eqb f.operation WRITE && eqb x v) ≡ false →
+  pub visits_on : (left v : ℕ) → 0 < left → v ≡ values f.b → (eqb f.operation WRITE && eqb x v) ≡ false →
       (eqb f.operation WRITE || eqb f.operation IF) ≡ true →
-      Visits left (memoriesBack formulas values (left - 1) (memoryBehind values f.operation f.a f.b f.c) x)
-  unfolding memoriesBack
-  visits-on zero v l d h k = absurd (omega arith)
-  visits-on (suc left) v l d h k =
-      ap (λ (ms : List ℕ). m ∷ ms) (passed _ _ (hits-there v false d h) ∙ (chosen _ _ (ap goesOn (sym e) ∙ k)
-      ∙ (ap (λ (g : Formula). memoriesBack formulas values left (memoryBehind values g.operation g.a g.b g.c) x) (sym e)
-      ∙ ap (λ (n : ℕ). memoriesBack formulas values n (memoryBehind values f.operation f.a f.b f.c) x) less)))
+      Visits left (memories_back formulas values (left - 1) (memory_behind values f.operation f.a f.b f.c) x)
+  unfolding memories_back
+  visits_on zero v l d h k = absurd (omega arith)
+  visits_on (suc left) v l d h k =
+      ap (λ (ms : List ℕ). m ∷ ms) (passed _ _ (hits-there v false d h) ∙ (chosen _ _ (ap goes_on (sym e) ∙ k)
+      ∙ (ap (λ (g : Formula). memories_back formulas values left (memory_behind values g.operation g.a g.b g.c) x) (sym e)
+      ∙ ap (λ (n : ℕ). memories_back formulas values n (memory_behind values f.operation f.a f.b f.c) x) less)))
     where
       less : left ≡ suc left - 1
       less = omega arith

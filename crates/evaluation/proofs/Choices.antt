@@ -6,7 +6,7 @@ use native.Mathlib.Omega.{arith}
 use borrow.Author.Tests.{eq-eqb}
 use Rattle.base.proofs.Choice.{chosen}
 use Rattle.table.specs.Formulas.{CHOICE, GOAL}
-use Rattle.table.specs.Tables.{occurrences, bits, choiceBits, steps, Inner, InOrder, WellFormedTable}
+use Rattle.table.specs.Tables.{occurrences, bits, choice_bits, steps, Inner, InOrder, WellFormedTable}
 use Rattle.table.specs.declared.Formula.{Formula}
 use Rattle.evaluation.proofs.Tables.{SmallChoices}
 use Rattle.evaluation.proofs.Views.{SmallChoice}
@@ -37,13 +37,13 @@ all-bits k kind t (suc n) h l = (λ e. (h, omega arith), all-bits k kind (suc t)
 
 module _ (threads bound : ℕ) (few : threads ≤ 4294967296) (short : bound ≤ 4294967296) where
   all-steps : (inner : ℕ → List Formula) → ((k : ℕ) → k < bound → Inner (inner k)) → (n k : ℕ) → k + n ≤ bound → All (steps threads inner k n)
-  unfolding steps choiceBits
+  unfolding steps choice_bits
   all-steps inner h zero k l = tt
   all-steps inner h (suc n) k l =
       let p : k < 4294967296 = omega arith in
       all-++ (bits k 0 0 threads ++ bits k 1 0 threads) (inner k ++ steps threads inner (suc k) n)
       (all-++ (bits k 0 0 threads) (bits k 1 0 threads) (all-bits k 0 0 threads p (omega arith)) (all-bits k 1 0 threads p (omega arith)))
-      (all-++ (inner k) (steps threads inner (suc k) n) (all_none (inner k) (h k (omega arith)).noChoice) (all-steps inner h n (suc k) (omega arith)))
+      (all-++ (inner k) (steps threads inner (suc k) n) (all_none (inner k) (h k (omega arith)).no_choice) (all-steps inner h n (suc k) (omega arith)))
 
   pub small-choices : (cells : ℕ) (table : List Formula) → WellFormedTable threads bound cells table → SmallChoices table
   small-choices cells table formed = all-at table (go formed.order)
@@ -51,7 +51,7 @@ module _ (threads bound : ℕ) (few : threads ≤ 4294967296) (short : bound ≤
       go : InOrder threads bound cells table → All table
       go o =
           subst All (sym o.parts)
-          (all-++ o.starts (o.maps ++ (steps threads o.inner 0 bound ++ (o.last ∷ []))) (all_none o.starts o.startsInner.noChoice)
-          (all-++ o.maps (steps threads o.inner 0 bound ++ (o.last ∷ [])) (all_none o.maps o.mapsInner.noChoice)
-          (all-++ (steps threads o.inner 0 bound) (o.last ∷ []) (all-steps o.inner o.stepsInner bound 0 (omega arith))
+          (all-++ o.starts (o.maps ++ (steps threads o.inner 0 bound ++ (o.last ∷ []))) (all_none o.starts o.starts_inner.no_choice)
+          (all-++ o.maps (steps threads o.inner 0 bound ++ (o.last ∷ [])) (all_none o.maps o.maps_inner.no_choice)
+          (all-++ (steps threads o.inner 0 bound) (o.last ∷ []) (all-steps o.inner o.steps_inner bound 0 (omega arith))
           (λ (e : o.last.operation ≡ CHOICE). absurd (let g : o.last.operation ≡ GOAL = o.goal in omega arith), tt))))

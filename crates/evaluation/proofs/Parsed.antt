@@ -5,32 +5,32 @@ use mathlib.Core.List.{List, [], ◌∷◌, ◌++◌, append_assoc}
 use native.Mathlib.Omega.{arith}
 use lib.ListN.{length, get_or, set, length-set}
 use lib.Seq.{get_or-append-add, get_or-set_same, get_or-set_other}
-use Rattle.base.specs.Bytes.{wordAt}
+use Rattle.base.specs.Bytes.{word_at}
 use Rattle.base.proofs.Bytes.{word_bytes}
-use Rattle.table.specs.Formulas.{formulaAt, formulaBytes, tableBytes}
+use Rattle.table.specs.Formulas.{formula_at, formula_bytes, table_bytes}
 use Rattle.table.specs.declared.Formula.{Formula}
 use Rattle.table.proofs.Read.{read-long}
 use Rattle.table.proofs.Written.{formula-length}
-use Rattle.evaluation.specs.Evaluations.{recordAt, stored}
+use Rattle.evaluation.specs.Evaluations.{record_at, stored}
 use Rattle.evaluation.proofs.Views.{Small}
 
 -- ---- one record
 
-parsed : (f : Formula) (rest : List ℕ) → Small f → formulaAt (formulaBytes f ++ rest) 0 ≡ f
-unfolding formulaAt formulaBytes
+parsed : (f : Formula) (rest : List ℕ) → Small f → formula_at (formula_bytes f ++ rest) 0 ≡ f
+unfolding formula_at formula_bytes
 parsed f rest small =
     λ z. record {
       operation = f.operation;
       sort = f.sort;
-      constant = word_bytes f.constant small.smallConstant z;
-      a = read-long f.a small.smallA z;
-      b = read-long f.b small.smallB z;
-      c = read-long f.c small.smallC z;
+      constant = word_bytes f.constant small.small_constant z;
+      a = read-long f.a small.small_a z;
+      b = read-long f.b small.small_b z;
+      c = read-long f.c small.small_c z;
     }
 
 -- records whose bytes are the same are the same
-pub alike : (s t : List ℕ) (i j : ℕ) → ((k : ℕ) → k < 16 → get_or s (16 * i + k) 0 ≡ get_or t (16 * j + k) 0) → formulaAt s i ≡ formulaAt t j
-unfolding formulaAt
+pub alike : (s t : List ℕ) (i j : ℕ) → ((k : ℕ) → k < 16 → get_or s (16 * i + k) 0 ≡ get_or t (16 * j + k) 0) → formula_at s i ≡ formula_at t j
+unfolding formula_at
 alike s t i j e =
     λ z. record {
       operation = first z;
@@ -57,26 +57,26 @@ alike s t i j e =
         ap (λ (n : ℕ). get_or s n 0) p ∙ (e m h ∙ ap (λ (n : ℕ). get_or t n 0) q)
 
 -- the record after one more
-shifted : (f : Formula) (rest : List ℕ) (j : ℕ) → formulaAt (formulaBytes f ++ rest) (suc j) ≡ formulaAt rest j
-shifted f rest j = alike (formulaBytes f ++ rest) rest (suc j) j (λ k h. there k)
+shifted : (f : Formula) (rest : List ℕ) (j : ℕ) → formula_at (formula_bytes f ++ rest) (suc j) ≡ formula_at rest j
+shifted f rest j = alike (formula_bytes f ++ rest) rest (suc j) j (λ k h. there k)
   where
-    there : (k : ℕ) → get_or (formulaBytes f ++ rest) (16 * suc j + k) 0 ≡ get_or rest (16 * j + k) 0
+    there : (k : ℕ) → get_or (formula_bytes f ++ rest) (16 * suc j + k) 0 ≡ get_or rest (16 * j + k) 0
     there k =
         let p : 16 * suc j + k ≡ 16 + (16 * j + k) = omega arith in
-        ap (λ (n : ℕ). get_or (formulaBytes f ++ rest) n 0) (p ∙ ap (λ (n : ℕ). n + (16 * j + k)) (sym (formula-length f)))
-        ∙ get_or-append-add (formulaBytes f) rest (16 * j + k) 0
+        ap (λ (n : ℕ). get_or (formula_bytes f ++ rest) n 0) (p ∙ ap (λ (n : ℕ). n + (16 * j + k)) (sym (formula-length f)))
+        ∙ get_or-append-add (formula_bytes f) rest (16 * j + k) 0
 
 -- ---- the table
 
-pub table-parsed : (table : List Formula) (rest : List ℕ) → ((j : ℕ) → j < length table → Small (recordAt table j)) →
-    (j : ℕ) → j < length table → formulaAt (tableBytes table ++ rest) j ≡ recordAt table j
-unfolding tableBytes
+pub table-parsed : (table : List Formula) (rest : List ℕ) → ((j : ℕ) → j < length table → Small (record_at table j)) →
+    (j : ℕ) → j < length table → formula_at (table_bytes table ++ rest) j ≡ record_at table j
+unfolding table_bytes
 table-parsed [] rest small j h = absurd (omega arith)
 table-parsed (f ∷ table) rest small zero h =
-    ap (λ (s : List ℕ). formulaAt s 0) (append_assoc (formulaBytes f) (tableBytes table) rest) ∙ parsed f (tableBytes table ++ rest) (small 0 (omega arith))
+    ap (λ (s : List ℕ). formula_at s 0) (append_assoc (formula_bytes f) (table_bytes table) rest) ∙ parsed f (table_bytes table ++ rest) (small 0 (omega arith))
 table-parsed (f ∷ table) rest small (suc j) h =
-    ap (λ (s : List ℕ). formulaAt s (suc j)) (append_assoc (formulaBytes f) (tableBytes table) rest)
-    ∙ (shifted f (tableBytes table ++ rest) j
+    ap (λ (s : List ℕ). formula_at s (suc j)) (append_assoc (formula_bytes f) (table_bytes table) rest)
+    ∙ (shifted f (table_bytes table ++ rest) j
     ∙ table-parsed table rest (λ i (k : i < length table). small (suc i) (omega arith)) j (omega arith))
 
 -- ---- a value stored
@@ -86,12 +86,12 @@ module _ (s : List ℕ) (n i v : ℕ) where
   stored_other k p q =
       get_or-set_other (set s (16 * n + 2 * i) (v % 256)) (16 * n + 2 * i + 1) k (v / 256) 0 q ∙ get_or-set_other s (16 * n + 2 * i) k (v % 256) 0 p
 
-  pub stored-records : (j : ℕ) → j < n → formulaAt (stored s n i v) j ≡ formulaAt s j
+  pub stored-records : (j : ℕ) → j < n → formula_at (stored s n i v) j ≡ formula_at s j
   stored-records j h =
       alike (stored s n i v) s j j
       (λ k (l : k < 16). stored_other (16 * j + k) (λ (e : 16 * j + k ≡ 16 * n + 2 * i). omega arith) (λ (e : 16 * j + k ≡ 16 * n + 2 * i + 1). omega arith))
 
-  pub stored_there : 32 * n ≤ length s → i < n → wordAt (stored s n i v) (16 * n + 2 * i) ≡ v
+  pub stored_there : 32 * n ≤ length s → i < n → word_at (stored s n i v) (16 * n + 2 * i) ≡ v
   stored_there long h =
       let at = 16 * n + 2 * i in
       let one = set s at (v % 256) in
@@ -104,7 +104,7 @@ module _ (s : List ℕ) (n i v : ℕ) where
       whole : (v : ℕ) → v % 256 + 256 * (v / 256) ≡ v
       whole v = omega arith
 
-  pub stored-elsewhere : (j : ℕ) → (j ≡ i → ⊥) → wordAt (stored s n i v) (16 * n + 2 * j) ≡ wordAt s (16 * n + 2 * j)
+  pub stored-elsewhere : (j : ℕ) → (j ≡ i → ⊥) → word_at (stored s n i v) (16 * n + 2 * j) ≡ word_at s (16 * n + 2 * j)
   stored-elsewhere j h =
       let at = 16 * n + 2 * i in
       let to = 16 * n + 2 * j in

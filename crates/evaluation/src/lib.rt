@@ -1,9 +1,9 @@
 // The values of a table's records under the assignment of a model, in work memory behind the table's bytes: each record's as a word.
 ghost use Rattle.std.specs.Prelude.{◌≡◌, true, cond, ◌+◌, ◌*◌, ◌≤◌, ◌<◌, length};
-ghost use Rattle.records.specs.Maps.{mapValue, mapAccepted, runCells};
-ghost use Rattle.table.specs.Formulas.{longAt};
-ghost use Rattle.decoding.specs.Models.{assigned, workLength};
-ghost use Rattle.evaluation.specs.Evaluations.{formulaIn, valueIn, stored, memoryBehind, cellBack, word_in, isFalse, givenBy, falseIn};
+ghost use Rattle.records.specs.Maps.{map_value, map_accepted, run_cells};
+ghost use Rattle.table.specs.Formulas.{long_at};
+ghost use Rattle.decoding.specs.Models.{assigned, work_length};
+ghost use Rattle.evaluation.specs.Evaluations.{formula_in, value_in, stored, memory_behind, cell_back, word_in, is_false, given_by, false_in};
 
 use decoding::{MODEL_CELLS, WORK};
 use records::Layout;
@@ -16,7 +16,7 @@ use table::operations::{
 // An operand: the number whose four bytes stand from index at on.
 fn operand(s: &[u8], at: usize) -> u64
     requires { at + 3 < length s.now }
-    ensures { result ≡ longAt s.now at }
+    ensures { result ≡ long_at s.now at }
 {
     (s[at] as u64)
         + 256 * (s[at + 1] as u64)
@@ -26,8 +26,8 @@ fn operand(s: &[u8], at: usize) -> u64
 
 // Record i, no operation past the last.
 fn formula(work: &[u8], n: u32, i: u64) -> Formula
-    requires { workLength * n ≤ length work.now }
-    ensures { result ≡ formulaIn work.now n i }
+    requires { work_length * n ≤ length work.now }
+    ensures { result ≡ formula_in work.now n i }
 {
     if i < (n as u64) {
         let at = Formula::BYTES * (i as usize);
@@ -52,8 +52,8 @@ fn formula(work: &[u8], n: u32, i: u64) -> Formula
 
 // The word of record i's value, 0 past the last.
 fn value(work: &[u8], n: u32, i: u64) -> u16
-    requires { workLength * n ≤ length work.now }
-    ensures { result ≡ valueIn work.now n i }
+    requires { work_length * n ≤ length work.now }
+    ensures { result ≡ value_in work.now n i }
 {
     if i < (n as u64) {
         return base::word_at(work, Formula::BYTES * (n as usize) + 2 * (i as usize));
@@ -63,7 +63,7 @@ fn value(work: &[u8], n: u32, i: u64) -> u16
 
 // Stores the word of record i's value.
 fn store(work: &mut [u8], n: u32, i: u32, word: u16)
-    requires { (workLength * n ≤ length work.old) × (i < n) }
+    requires { (work_length * n ≤ length work.old) × (i < n) }
     ensures { work.new ≡ stored work.old n i word }
 {
     let at = Formula::BYTES * (n as usize) + 2 * (i as usize);
@@ -89,8 +89,8 @@ fn choice(model: &[u8], threads: u8, bound: u8, k: u64, kind: u64, t: u64) -> bo
 
 // The first cell at address x where addresses ascend, by halves: a check of a model reads cells very often.
 fn search(cells: &[u8], x: u16) -> u16
-    requires { mapAccepted runCells cells.now ≡ true }
-    ensures { result ≡ mapValue cells.now x }
+    requires { map_accepted run_cells cells.now ≡ true }
+    ensures { result ≡ map_value cells.now x }
 {
     let mut low: usize = 0;
     let mut high = cells.len() / Layout::CELL;
@@ -111,8 +111,8 @@ fn search(cells: &[u8], x: u16) -> u16
 
 // The first cell at address x: the model's, 0 where it is unlisted.
 fn first(cells: &[u8], ordered: bool, x: u16) -> u16
-    requires { ordered ≡ true → mapAccepted runCells cells.now ≡ true }
-    ensures { result ≡ mapValue cells.now x }
+    requires { ordered ≡ true → map_accepted run_cells cells.now ≡ true }
+    ensures { result ≡ map_value cells.now x }
 {
     if ordered {
         return search(cells, x);
@@ -123,8 +123,8 @@ fn first(cells: &[u8], ordered: bool, x: u16) -> u16
 
 // The memory behind a write, and the one that an if of memories chooses.
 fn behind(work: &[u8], n: u32, f: Formula) -> u64
-    requires { workLength * n ≤ length work.now }
-    ensures { result ≡ memoryBehind (valueIn work.now n) f.operation f.a f.b f.c }
+    requires { work_length * n ≤ length work.now }
+    ensures { result ≡ memory_behind (value_in work.now n) f.operation f.a f.b f.c }
 {
     if f.operation == WRITE {
         return f.a;
@@ -140,8 +140,8 @@ fn behind(work: &[u8], n: u32, f: Formula) -> u64
 // from turn to turn, each memory is looked at once, and `left` is never used up: claim `LooksBackOnce`. docs/ARCHITECTURE.md has an example,
 // turn by turn.
 fn read_back(work: &[u8], n: u32, cells: &[u8], ordered: bool, m: u64, x: u16) -> u16
-    requires { (workLength * n ≤ length work.now) × (ordered ≡ true → mapAccepted runCells cells.now ≡ true) }
-    ensures { result ≡ cellBack (mapValue cells.now) (formulaIn work.now n) (valueIn work.now n) n m x }
+    requires { (work_length * n ≤ length work.now) × (ordered ≡ true → map_accepted run_cells cells.now ≡ true) }
+    ensures { result ≡ cell_back (map_value cells.now) (formula_in work.now n) (value_in work.now n) n m x }
 {
     let mut left = n;
     let mut memory = m;
@@ -182,8 +182,8 @@ fn word_of(
     threads: u8,
     bound: u8,
 ) -> u16
-    requires { (workLength * n ≤ length work.now) × (ordered ≡ true → mapAccepted runCells cells.now ≡ true) }
-    ensures { result ≡ word_in (givenBy threads bound model.now cells.now) n work.now f }
+    requires { (work_length * n ≤ length work.now) × (ordered ≡ true → map_accepted run_cells cells.now ≡ true) }
+    ensures { result ≡ word_in (given_by threads bound model.now cells.now) n work.now f }
 {
     let operation = f.operation;
     match operation {
@@ -211,8 +211,8 @@ fn word_of(
 
 // Whether a record is a constraint or goal that is 0.
 fn is_false(work: &[u8], n: u32, f: Formula) -> bool
-    requires { workLength * n ≤ length work.now }
-    ensures { result ≡ isFalse (valueIn work.now n) f.operation f.a }
+    requires { work_length * n ≤ length work.now }
+    ensures { result ≡ is_false (value_in work.now n) f.operation f.a }
 {
     let operation = f.operation;
     if (operation == CONSTRAINT) | (operation == GOAL) {
@@ -224,7 +224,7 @@ fn is_false(work: &[u8], n: u32, f: Formula) -> bool
 // The first constraint or goal that is 0 among n records, n where there is none. The table's bytes stand in work memory; the values of
 // its records go behind them.
 pub fn evaluate(work: &mut [u8], n: u32, model: &[u8], cells: &[u8], threads: u8, bound: u8) -> u32
-    ensures { result ≡ falseIn (givenBy threads bound model.now cells.now) n work.old }
+    ensures { result ≡ false_in (given_by threads bound model.now cells.now) n work.old }
 {
     if work.len() < WORK * (n as usize) {
         return n;

@@ -6,8 +6,8 @@ use lib.ListN.{length, take, drop}
 use lib.Seq.{take_at}
 use Rattle.base.specs.Bytes.{over}
 use Rattle.text_lines.specs.Lines.{lines}
-use Rattle.text.specs.Answers.{outputBy, setOutput, mapOutput}
-use Rattle.text.specs.Records.{setBytes, statements, mapBytes}
+use Rattle.text.specs.Answers.{output_by, set_output, map_output}
+use Rattle.text.specs.Records.{set_bytes, statements, map_bytes}
 use Rattle.text.specs.Sections.{threads, cells}
 use Rattle.text.specs.declared.ReadAnswer.{ReadAnswer}
 use Rattle.text.specs.declared.ReadAnswer.TheVariants.{Read}
@@ -15,16 +15,16 @@ use Rattle.text.proofs.Maps.{length-map}
 use Rattle.text.proofs.Sets.{length-set}
 
 module _ (r : ReadAnswer) (n m : ℕ) (e : r ≡ Read n m) (text : List ℕ) where
-  pub set-taken : (out : List ℕ) → n ≡ statements (threads (lines text)) → take (8 * n) (setOutput r text out) ≡ setBytes (threads (lines text))
-  unfolding setOutput over
+  pub set-taken : (out : List ℕ) → n ≡ statements (threads (lines text)) → take (8 * n) (set_output r text out) ≡ set_bytes (threads (lines text))
+  unfolding set_output over
   set-taken out k =
-      let bytes = setBytes (threads (lines text)) in
-      ap (λ (a : ReadAnswer). take (8 * n) (outputBy a bytes out)) e
+      let bytes = set_bytes (threads (lines text)) in
+      ap (λ (a : ReadAnswer). take (8 * n) (output_by a bytes out)) e
       ∙ take_at bytes (drop (length bytes) out) (8 * n) (length-set (threads (lines text)) ∙ ap (λ (i : ℕ). 8 * i) (sym k))
 
-  pub map-taken : (out : List ℕ) → m ≡ length (cells (lines text)) → take (4 * m) (mapOutput r text out) ≡ mapBytes (cells (lines text))
-  unfolding mapOutput over
+  pub map-taken : (out : List ℕ) → m ≡ length (cells (lines text)) → take (4 * m) (map_output r text out) ≡ map_bytes (cells (lines text))
+  unfolding map_output over
   map-taken out k =
-      let bytes = mapBytes (cells (lines text)) in
-      ap (λ (a : ReadAnswer). take (4 * m) (outputBy a bytes out)) e
+      let bytes = map_bytes (cells (lines text)) in
+      ap (λ (a : ReadAnswer). take (4 * m) (output_by a bytes out)) e
       ∙ take_at bytes (drop (length bytes) out) (4 * m) (length-map (cells (lines text)) ∙ ap (λ (i : ℕ). 4 * i) (sym k))

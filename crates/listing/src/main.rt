@@ -2,7 +2,7 @@
 // else the lowest that can flush. What it prints is decided by `list_text`; the rest is input and output.
 ghost use Rattle.std.specs.Prelude.{◌≡◌};
 ghost use Rattle.listing_output.specs.Printed.{count, printed};
-ghost use Rattle.listing.specs.Texts.{listingOf};
+ghost use Rattle.listing.specs.Texts.{listing_of};
 
 use libc::{STDIN_FILENO, STDOUT_FILENO};
 use machine::Machine;
@@ -16,8 +16,8 @@ const LISTING: usize = 64 * Machine::STEPS + 16;
 
 // Prints the listing of a set text from the start of an output on, and gives how many bytes it printed.
 fn list_text(text: &[u8], out: &mut [u8]) -> usize
-    ensures { (result ≡ count (listingOf text.now) out.old)
-        × (out.new ≡ printed (listingOf text.now) out.old) }
+    ensures { (result ≡ count (listing_of text.now) out.old)
+        × (out.new ≡ printed (listing_of text.now) out.old) }
 {
     let mut set = [0u8; Layout::SET];
     let mut map = [0u8; Layout::MAP];

@@ -12,7 +12,7 @@ use Rattle.base.specs.Below.{least}
 use Rattle.records.specs.Sets.{Set}
 use Rattle.machine.proofs.Runs.{takes-actor}
 use Rattle.machine.specs.Machine.{State, permitted}
-use Rattle.machine.specs.Runs.{choice_of, takes, flushByte}
+use Rattle.machine.specs.Runs.{choice_of, takes, flush_byte}
 use Rattle.machine.specs.declared.Choice.{Choice}
 use Rattle.machine.specs.declared.Choice.TheVariants.{Execute, Flush}
 use Rattle.listing_output.specs.Listings.{lowest}
@@ -48,11 +48,11 @@ module _ (test : ℕ → Bool) where
 
 executes : (j : ℕ) → j < 4 → choice_of (candidate j) ≡ Execute j
 unfolding choice_of
-executes j h = ap choice_of (chosen _ _ (lt-ltb j 4 h)) ∙ chosen _ _ (lt-ltb j flushByte (omega arith))
+executes j h = ap choice_of (chosen _ _ (lt-ltb j 4 h)) ∙ chosen _ _ (lt-ltb j flush_byte (omega arith))
 
 flushes : (t : ℕ) → choice_of (candidate (4 + t)) ≡ Flush t
 unfolding choice_of
-flushes t = ap choice_of (passed _ _ (le-ltb (4 + t) 4 (omega arith))) ∙ passed _ _ (le-ltb (flushByte + (4 + t - 4)) flushByte (omega arith)) ∙ ap Flush (omega arith)
+flushes t = ap choice_of (passed _ _ (le-ltb (4 + t) 4 (omega arith))) ∙ passed _ _ (le-ltb (flush_byte + (4 + t - 4)) flush_byte (omega arith)) ∙ ap Flush (omega arith)
 
 module _ (S : Set) (four : S.threads ≤ 4) (s : State) where
   -- candidate j can be taken
@@ -90,12 +90,12 @@ module _ (S : Set) (four : S.threads ≤ 4) (s : State) where
         let i : j ≡ 4 + u = omega arith in
         let c : choice_of (candidate j) ≡ Flush u = ap (λ (k : ℕ). choice_of (candidate k)) i ∙ flushes u in
         let t : takes S s (Flush u) ≡ true = subst (λ (d : Choice). takes S s d ≡ true) c e in
-        let noExecute : (k : ℕ) → k < S.threads → permitted S s (Execute k) ≡ false
+        let no_execute : (k : ℕ) → k < S.threads → permitted S s (Execute k) ≡ false
         = λ k b. not-permitted (Flush u) (Execute k) t (subst (λ (d : Choice). takes S s d ≡ false) (executes k (omega arith)) (f k (omega arith))) in
-        let noFlush : (k : ℕ) → k < u → permitted S s (Flush k) ≡ false
+        let no_flush : (k : ℕ) → k < u → permitted S s (Flush k) ≡ false
         = λ k b. not-permitted (Flush u) (Flush k) t (subst (λ (d : Choice). takes S s d ≡ false) (flushes k) (f (4 + k) (omega arith))) in
-        let at = least-is (λ k. permitted S s (Flush k)) S.threads u noFlush (permitted-taken (Flush u) t) (takes-actor S s (Flush u) t) in
-        ap (λ (i : ℕ). cond (ltb i S.threads) (Execute i) (Flush (least S.threads (λ k. permitted S s (Flush k))))) (least-none (λ k. permitted S s (Execute k)) S.threads noExecute)
+        let at = least-is (λ k. permitted S s (Flush k)) S.threads u no_flush (permitted-taken (Flush u) t) (takes-actor S s (Flush u) t) in
+        ap (λ (i : ℕ). cond (ltb i S.threads) (Execute i) (Flush (least S.threads (λ k. permitted S s (Flush k))))) (least-none (λ k. permitted S s (Execute k)) S.threads no_execute)
         ∙ passed _ _ (le-ltb S.threads S.threads (omega arith)) ∙ ap Flush at ∙ sym c
   ]
 

@@ -9,12 +9,12 @@ use lib.ListN.{length, set, take}
 use lib.Seq.{take-suc-set}
 use borrow.Author.Tests.{le-ltb}
 use Rattle.base.proofs.Choice.{chosen, passed}
-use Rattle.records.specs.Sets.{Set, setOf}
+use Rattle.records.specs.Sets.{Set, set_of}
 use Rattle.machine.proofs.Runs.{AllTaken}
 use Rattle.machine.specs.Machine.{step, written}
-use Rattle.machine.specs.Maps.{Held, begin, outcome, advanced, onOutcome, follow}
+use Rattle.machine.specs.Maps.{Held, begin, outcome, advanced, on_outcome, follow}
 use Rattle.machine.specs.Runs.{choices, after, end_of}
-use Rattle.machine.specs.Traces.{traceStep, trace, longestTrace, stepLength}
+use Rattle.machine.specs.Traces.{trace_step, trace, longest_trace, step_length}
 use Rattle.machine.specs.declared.RunAnswer.TheVariants.{Ran}
 use Rattle.machine.specs.declared.Choice.{Choice}
 use Rattle.machine.specs.declared.Outcome.{Outcome}
@@ -25,14 +25,14 @@ use Rattle.listing_output.specs.Listings.{line}
 use Rattle.listing_output.specs.Schedules.{accepts}
 
 -- what is held after a run
-unfoldable pub heldAfter : Set → Held → List Choice → Held
-heldAfter S h [] = h
-heldAfter S h (c ∷ run) = heldAfter S (advanced S h c) run
+unfoldable pub held_after : Set → Held → List Choice → Held
+held_after S h [] = h
+held_after S h (c ∷ run) = held_after S (advanced S h c) run
 
 -- what its last step wrote; w where it has no step
-unfoldable pub wroteAfter : Set → Held → Written → List Choice → Written
-wroteAfter S h w [] = w
-wroteAfter S h w (c ∷ run) = wroteAfter S (advanced S h c) (written S h.state c) run
+unfoldable pub wrote_after : Set → Held → Written → List Choice → Written
+wrote_after S h w [] = w
+wrote_after S h w (c ∷ run) = wrote_after S (advanced S h c) (written S h.state c) run
 
 -- the lines of its steps
 unfoldable pub lines_of : Set → Held → Written → List Choice → List ℕ
@@ -42,59 +42,59 @@ lines_of S h w (c ∷ run) = line S h.state w c ++ lines_of S (advanced S h c) (
 -- ---- one choice more
 
 module _ (S : Set) (c : Choice) where
-  pub held_more : (h : Held) (run : List Choice) → heldAfter S h (run ++ (c ∷ [])) ≡ advanced S (heldAfter S h run) c
-  unfolding heldAfter
+  pub held_more : (h : Held) (run : List Choice) → held_after S h (run ++ (c ∷ [])) ≡ advanced S (held_after S h run) c
+  unfolding held_after
   held_more h [] = refl
   held_more h (d ∷ run) = held_more (advanced S h d) run
 
-  pub wrote-more : (h : Held) (w : Written) (run : List Choice) → wroteAfter S h w (run ++ (c ∷ [])) ≡ written S (heldAfter S h run).state c
-  unfolding heldAfter wroteAfter
+  pub wrote-more : (h : Held) (w : Written) (run : List Choice) → wrote_after S h w (run ++ (c ∷ [])) ≡ written S (held_after S h run).state c
+  unfolding held_after wrote_after
   wrote-more h w [] = refl
   wrote-more h w (d ∷ run) = wrote-more (advanced S h d) (written S h.state d) run
 
   pub lines_more : (h : Held) (w : Written) (run : List Choice) →
-      lines_of S h w (run ++ (c ∷ [])) ≡ lines_of S h w run ++ line S (heldAfter S h run).state (wroteAfter S h w run) c
-  unfolding heldAfter wroteAfter lines_of
+      lines_of S h w (run ++ (c ∷ [])) ≡ lines_of S h w run ++ line S (held_after S h run).state (wrote_after S h w run) c
+  unfolding held_after wrote_after lines_of
   lines_more h w [] = append-nil (line S h.state w c)
   lines_more h w (d ∷ run) =
       ap (λ (rest : List ℕ). line S h.state w d ++ rest) (lines_more (advanced S h d) (written S h.state d) run)
       ∙ sym (append_assoc (line S h.state w d) _ _)
 
   pub trace-more : (h : Held) (w : Written) (run : List Choice) →
-      trace S h.state w (run ++ (c ∷ [])) ≡ trace S h.state w run ++ traceStep S (heldAfter S h run).state (wroteAfter S h w run) c
-  unfolding heldAfter wroteAfter trace advanced
-  trace-more h w [] = append-nil (traceStep S h.state w c)
+      trace S h.state w (run ++ (c ∷ [])) ≡ trace S h.state w run ++ trace_step S (held_after S h run).state (wrote_after S h w run) c
+  unfolding held_after wrote_after trace advanced
+  trace-more h w [] = append-nil (trace_step S h.state w c)
   trace-more h w (d ∷ run) =
-      ap (λ (rest : List ℕ). traceStep S h.state w d ++ rest) (trace-more (advanced S h d) (written S h.state d) run)
-      ∙ sym (append_assoc (traceStep S h.state w d) _ _)
+      ap (λ (rest : List ℕ). trace_step S h.state w d ++ rest) (trace-more (advanced S h d) (written S h.state d) run)
+      ∙ sym (append_assoc (trace_step S h.state w d) _ _)
 
-  pub taken_more : (h : Held) (run : List Choice) → AllTaken S h run → outcome S (heldAfter S h run) c ≡ Taken → AllTaken S h (run ++ (c ∷ []))
-  unfolding heldAfter
+  pub taken_more : (h : Held) (run : List Choice) → AllTaken S h run → outcome S (held_after S h run) c ≡ Taken → AllTaken S h (run ++ (c ∷ []))
+  unfolding held_after
   taken_more h [] taken e = (e, tt)
   taken_more h (d ∷ run) taken e = (taken.0, taken_more (advanced S h d) run taken.1 e)
 
   -- the last choice decides
   pub follow-more : (h : Held) (i : ℕ) (run : List Choice) → AllTaken S h run →
-      follow S h i (run ++ (c ∷ [])) ≡ onOutcome (outcome S (heldAfter S h run) c) (i + length run) (Ran (i + length run + 1) (end_of S (step S (heldAfter S h run).state c)))
-  unfolding follow heldAfter advanced
-  follow-more h i [] taken = ap₂ (λ (k n : ℕ). onOutcome (outcome S h c) k (Ran n (end_of S (step S h.state c)))) (omega arith) (omega arith)
+      follow S h i (run ++ (c ∷ [])) ≡ on_outcome (outcome S (held_after S h run) c) (i + length run) (Ran (i + length run + 1) (end_of S (step S (held_after S h run).state c)))
+  unfolding follow held_after advanced
+  follow-more h i [] taken = ap₂ (λ (k n : ℕ). on_outcome (outcome S h c) k (Ran n (end_of S (step S h.state c)))) (omega arith) (omega arith)
   follow-more h i (d ∷ run) taken =
-      ap (λ (o : Outcome). onOutcome o i (follow S (advanced S h d) (suc i) (run ++ (c ∷ [])))) taken.0
+      ap (λ (o : Outcome). on_outcome o i (follow S (advanced S h d) (suc i) (run ++ (c ∷ [])))) taken.0
       ∙ follow-more (advanced S h d) (suc i) run taken.1
-      ∙ ap₂ (λ (k n : ℕ). onOutcome (outcome S (heldAfter S (advanced S h d) run) c) k (Ran n (end_of S (step S (heldAfter S (advanced S h d) run).state c)))) (omega arith) (omega arith)
+      ∙ ap₂ (λ (k n : ℕ). on_outcome (outcome S (held_after S (advanced S h d) run) c) k (Ran n (end_of S (step S (held_after S (advanced S h d) run).state c)))) (omega arith) (omega arith)
 
-pub state-after : (S : Set) (h : Held) (run : List Choice) → (heldAfter S h run).state ≡ after S h.state run
-unfolding heldAfter after advanced
+pub state-after : (S : Set) (h : Held) (run : List Choice) → (held_after S h run).state ≡ after S h.state run
+unfolding held_after after advanced
 state-after S h [] = refl
 state-after S h (c ∷ run) = state-after S (advanced S h c) run
 
 -- ---- simulation of an accepted set and map
 
 pub simulated-runs : (set map schedule : List ℕ) → accepts set map ≡ true → length schedule ≤ 64 →
-    simulated set map schedule longestTrace ≡ follow (setOf set) (begin map) 0 (choices schedule)
+    simulated set map schedule longest_trace ≡ follow (set_of set) (begin map) 0 (choices schedule)
 unfolding simulated limited
 simulated-runs set map schedule a h =
-    chosen _ _ a ∙ passed _ _ (le-ltb 64 (length schedule) (omega arith)) ∙ passed _ _ (le-ltb longestTrace (stepLength * length schedule) (omega arith))
+    chosen _ _ a ∙ passed _ _ (le-ltb 64 (length schedule) (omega arith)) ∙ passed _ _ (le-ltb longest_trace (step_length * length schedule) (omega arith))
 
 -- the first bytes of a schedule with a byte stored after them
 pub stored : (first bytes : List ℕ) (k b : ℕ) → take k bytes ≡ first → k < length bytes → take (k + 1) (set bytes k b) ≡ first ++ (b ∷ [])

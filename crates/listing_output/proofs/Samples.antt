@@ -5,14 +5,14 @@ use mathlib.Core.Path.{◌≡◌, refl}
 use mathlib.Core.List.{List, [], ◌∷◌, ◌++◌, map}
 use Rattle.base.specs.Below.{every, some, number, least}
 use Rattle.base.specs.Bytes.{word}
-use Rattle.records.specs.Sets.{threadsOf, count_of, start_of, follows, argumentFits, recordFits, opens_at, setAccepted}
+use Rattle.records.specs.Sets.{threads_of, count_of, start_of, follows, argument_fits, record_fits, opens_at, set_accepted}
 use Rattle.records.specs.Instructions.{LOAD, STORE, FENCE, ADDI, JMP, JZ, MEM, CAS, HALT, EXIT, CHECK, words, word_of}
-use Rattle.records.specs.Maps.{ascendsAt, mapAccepted}
-use Rattle.machine.specs.Machine.{address, wordTaken, cellsRead, row, jumps, nextPc, executed, casMatches, contains, opened, waiting, permitted, acted, leavesMark, cleared, written, step, reads}
+use Rattle.records.specs.Maps.{ascends_at, map_accepted}
+use Rattle.machine.specs.Machine.{address, word_taken, cells_read, row, jumps, next_pc, executed, cas_matches, contains, opened, waiting, permitted, acted, leaves_mark, cleared, written, step, reads}
 use Rattle.machine.specs.Maps.{begin, outcome, advanced}
-use Rattle.machine.specs.Runs.{somePermitted, end_of}
+use Rattle.machine.specs.Runs.{some_permitted, end_of}
 use Rattle.machine.specs.Traces.{shown}
-use Rattle.listing_output.specs.Listings.{text, places, decimal, name, argument, cell, line_of, line, lastLine, refusedLine, lowest, listingFrom, listing}
+use Rattle.listing_output.specs.Listings.{text, places, decimal, name, argument, cell, line_of, line, last_line, refused_line, lowest, listing_from, listing}
 
 -- a statement: instruction, mode, argument
 pub record Row : Type 0 where
@@ -57,7 +57,7 @@ two-threads :
     ++ text "1 1 JZ 3 0 0 0 0 0 {}\n"
     ++ text "1 3 EXIT 7 0 0 0 0 0 {}\n"
     ++ text "end 7\n"
-unfolding does threads statements listing listingFrom lowest refusedLine lastLine line line_of cell argument name decimal places words word_of begin outcome advanced end_of somePermitted shown step reads written cleared leavesMark acted permitted waiting opened contains casMatches executed nextPc jumps row cellsRead wordTaken address ascendsAt mapAccepted setAccepted opens_at recordFits argumentFits follows start_of count_of threadsOf every some number least
+unfolding does threads statements listing listing_from lowest refused_line last_line line line_of cell argument name decimal places words word_of begin outcome advanced end_of some_permitted shown step reads written cleared leaves_mark acted permitted waiting opened contains cas_matches executed next_pc jumps row cells_read word_taken address ascends_at map_accepted set_accepted opens_at record_fits argument_fits follows start_of count_of threads_of every some number least
 two-threads = refl
 
 -- an indirect argument, a flush, and the cell that it wrote
@@ -69,7 +69,7 @@ flushes :
     ++ text "0 2 FENCE - 10 0 7 10 0 {(7,10)}\n"
     ++ text "0 3 HALT - 10 0 7 10 0 {}\n"
     ++ text "end 0\n"
-unfolding does indirect threads statements listing listingFrom lowest refusedLine lastLine line line_of cell argument name decimal places words word_of begin outcome advanced end_of somePermitted shown step reads written cleared leavesMark acted permitted waiting opened contains casMatches executed nextPc jumps row cellsRead wordTaken address ascendsAt mapAccepted setAccepted opens_at recordFits argumentFits follows start_of count_of threadsOf every some number least
+unfolding does indirect threads statements listing listing_from lowest refused_line last_line line line_of cell argument name decimal places words word_of begin outcome advanced end_of some_permitted shown step reads written cleared leaves_mark acted permitted waiting opened contains cas_matches executed next_pc jumps row cells_read word_taken address ascends_at map_accepted set_accepted opens_at record_fits argument_fits follows start_of count_of threads_of every some number least
 flushes = refl
 
 -- every execute comes before a flush, and the lowest flush before the other
@@ -82,7 +82,7 @@ two-flushes :
     ++ text "1 1 FLUSH - 0 0 2 0 1 {}\n"
     ++ text "1 1 HALT - 0 0 2 0 0 {(2,0)}\n"
     ++ text "end 0\n"
-unfolding does threads statements listing listingFrom lowest refusedLine lastLine line line_of cell argument name decimal places words word_of begin outcome advanced end_of somePermitted shown step reads written cleared leavesMark acted permitted waiting opened contains casMatches executed nextPc jumps row cellsRead wordTaken address ascendsAt mapAccepted setAccepted opens_at recordFits argumentFits follows start_of count_of threadsOf every some number least
+unfolding does threads statements listing listing_from lowest refused_line last_line line line_of cell argument name decimal places words word_of begin outcome advanced end_of some_permitted shown step reads written cleared leaves_mark acted permitted waiting opened contains cas_matches executed next_pc jumps row cells_read word_taken address ascends_at map_accepted set_accepted opens_at record_fits argument_fits follows start_of count_of threads_of every some number least
 two-flushes = refl
 
 -- a CAS that matched
@@ -93,7 +93,7 @@ matches :
     ++ text "0 2 CAS 4 10 9 0 0 0 {}\n"
     ++ text "0 3 HALT - 1 9 0 0 0 {(4,10)}\n"
     ++ text "end 0\n"
-unfolding does threads statements listing listingFrom lowest refusedLine lastLine line line_of cell argument name decimal places words word_of begin outcome advanced end_of somePermitted shown step reads written cleared leavesMark acted permitted waiting opened contains casMatches executed nextPc jumps row cellsRead wordTaken address ascendsAt mapAccepted setAccepted opens_at recordFits argumentFits follows start_of count_of threadsOf every some number least
+unfolding does threads statements listing listing_from lowest refused_line last_line line line_of cell argument name decimal places words word_of begin outcome advanced end_of some_permitted shown step reads written cleared leaves_mark acted permitted waiting opened contains cas_matches executed next_pc jumps row cells_read word_taken address ascends_at map_accepted set_accepted opens_at record_fits argument_fits follows start_of count_of threads_of every some number least
 matches = refl
 
 -- a thread waits at a checkpoint that a halted thread contains
@@ -102,17 +102,17 @@ gets-stuck :
     ≡ text "0 0 CHECK 1 0 0 0 0 0 {}\n"
     ++ text "1 0 HALT - 0 0 0 0 0 {}\n"
     ++ text "stuck\n"
-unfolding does threads statements listing listingFrom lowest refusedLine lastLine line line_of cell argument name decimal places words word_of begin outcome advanced end_of somePermitted shown step reads written cleared leavesMark acted permitted waiting opened contains casMatches executed nextPc jumps row cellsRead wordTaken address ascendsAt mapAccepted setAccepted opens_at recordFits argumentFits follows start_of count_of threadsOf every some number least
+unfolding does threads statements listing listing_from lowest refused_line last_line line line_of cell argument name decimal places words word_of begin outcome advanced end_of some_permitted shown step reads written cleared leaves_mark acted permitted waiting opened contains cas_matches executed next_pc jumps row cells_read word_taken address ascends_at map_accepted set_accepted opens_at record_fits argument_fits follows start_of count_of threads_of every some number least
 gets-stuck = refl
 
 -- 64 steps, and a choice is still permitted
 stays_open : listing (threads 0 ((does JMP 0 ∷ []) ∷ [])) [] ≡ times 64 (text "0 0 JMP 0 0 0 0 0 0 {}\n") ++ text "open\n"
-unfolding does threads statements times listing listingFrom lowest refusedLine lastLine line line_of cell argument name decimal places words word_of begin outcome advanced end_of somePermitted shown step reads written cleared leavesMark acted permitted waiting opened contains casMatches executed nextPc jumps row cellsRead wordTaken address ascendsAt mapAccepted setAccepted opens_at recordFits argumentFits follows start_of count_of threadsOf every some number least
+unfolding does threads statements times listing listing_from lowest refused_line last_line line line_of cell argument name decimal places words word_of begin outcome advanced end_of some_permitted shown step reads written cleared leaves_mark acted permitted waiting opened contains cas_matches executed next_pc jumps row cells_read word_taken address ascends_at map_accepted set_accepted opens_at record_fits argument_fits follows start_of count_of threads_of every some number least
 stays_open = refl
 
 -- a first cell read that the map lacks, after the line of the step before; no set
 is-refused :
     (listing (threads 0 ((does ADDI 65535 ∷ does LOAD 9 ∷ does HALT 0 ∷ []) ∷ [])) [] ≡ text "0 0 ADDI 65535 0 0 0 0 0 {}\nrefused 14\n")
     × (listing [] [] ≡ text "refused 9\n")
-unfolding does threads statements listing listingFrom lowest refusedLine lastLine line line_of cell argument name decimal places words word_of begin outcome advanced end_of somePermitted shown step reads written cleared leavesMark acted permitted waiting opened contains casMatches executed nextPc jumps row cellsRead wordTaken address ascendsAt mapAccepted setAccepted opens_at recordFits argumentFits follows start_of count_of threadsOf every some number least
+unfolding does threads statements listing listing_from lowest refused_line last_line line line_of cell argument name decimal places words word_of begin outcome advanced end_of some_permitted shown step reads written cleared leaves_mark acted permitted waiting opened contains cas_matches executed next_pc jumps row cells_read word_taken address ascends_at map_accepted set_accepted opens_at record_fits argument_fits follows start_of count_of threads_of every some number least
 is-refused = (refl, refl)

@@ -7,18 +7,18 @@ use mathlib.Core.Path.{◌≡◌, refl, ap, sym, ◌∙◌}
 use lib.Dec.{ltb}
 use borrow.Author.Tests.{lt-ltb}
 use Rattle.base.proofs.Below.{least-hit}
-use Rattle.base.proofs.Choice.{chosen, and-true, or-right-true, and_left, clash}
+use Rattle.base.proofs.Choice.{chosen, and_true, or_right_true, and_left, clash}
 use Rattle.base.specs.Below.{least}
 use Rattle.records.proofs.Sets.{well-formed}
-use Rattle.records.specs.Maps.{mapAccepted, mapValue, runCells}
-use Rattle.records.specs.Sets.{Set, setOf, setAccepted}
-use Rattle.machine.specs.Machine.{start, current, needsEmpty, waiting, permitted, written, noWrite, reads}
-use Rattle.machine.specs.Maps.{Held, begin, knowsAll, outcome, advanced}
+use Rattle.records.specs.Maps.{map_accepted, map_value, run_cells}
+use Rattle.records.specs.Sets.{Set, set_of, set_accepted}
+use Rattle.machine.specs.Machine.{start, current, needs_empty, waiting, permitted, written, no_write, reads}
+use Rattle.machine.specs.Maps.{Held, begin, knows_all, outcome, advanced}
 use Rattle.machine.specs.Runs.{takes}
 use Rattle.machine.specs.declared.Choice.{Choice}
 use Rattle.machine.specs.declared.Choice.TheVariants.{Execute, Flush}
 use Rattle.machine.specs.declared.Outcome.TheVariants.{Taken, NotPermitted, Lacking}
-use Rattle.listing_output.specs.Listings.{line, refusedLine, lowest, listingFrom, listing}
+use Rattle.listing_output.specs.Listings.{line, refused_line, lowest, listing_from, listing}
 use Rattle.listing_output.specs.Schedules.{accepts}
 use Rattle.listing_output.proofs.Listed.{by-lowest, accepted-listing}
 
@@ -26,7 +26,7 @@ module _ (S : Set) (some : 1 ≤ S.threads) (first : ℕ → ℕ) where
   -- thread 0 can execute at the start
   starts : permitted S (start first) (Execute 0) ≡ true
   unfolding permitted waiting
-  starts = and-true (and-true (and-true (lt-ltb 0 S.threads some) refl) refl) (or-right-true (not (needsEmpty (current S (start first) 0).number)) refl)
+  starts = and_true (and_true (and_true (lt-ltb 0 S.threads some) refl) refl) (or_right_true (not (needs_empty (current S (start first) 0).number)) refl)
 
   lowest-first : lowest S (start first) ≡ Execute 0
   unfolding lowest least
@@ -38,13 +38,13 @@ module _ (S : Set) (some : 1 ≤ S.threads) (first : ℕ → ℕ) where
 -- what a listing has first, after step 0 by thread 0 where its cells are known
 abbrev pub First : (set map listing : List ℕ) → Type 0
 First set map listing =
-    (listing ≡ refusedLine 14)
-    ⊎ (listing ≡ line (setOf set) (begin map).state noWrite (Execute 0)
-    ++ listingFrom (setOf set) (advanced (setOf set) (begin map) (Execute 0)) (written (setOf set) (begin map).state (Execute 0)) 63)
+    (listing ≡ refused_line 14)
+    ⊎ (listing ≡ line (set_of set) (begin map).state no_write (Execute 0)
+    ++ listing_from (set_of set) (advanced (set_of set) (begin map) (Execute 0)) (written (set_of set) (begin map).state (Execute 0)) 63)
 
-known-or-not : (S : Set) (h : Held) (c : Choice) → takes S h.state c ≡ true → (outcome S h c ≡ Taken) ⊎ (outcome S h c ≡ Lacking)
+known_or_not : (S : Set) (h : Held) (c : Choice) → takes S h.state c ≡ true → (outcome S h c ≡ Taken) ⊎ (outcome S h c ≡ Lacking)
 unfolding outcome
-known-or-not S h c = go (takes S h.state c) (knowsAll h.known (reads S h.state c))
+known_or_not S h c = go (takes S h.state c) (knows_all h.known (reads S h.state c))
   where
     go : (a b : Bool) → a ≡ true → (cond a (cond b Taken Lacking) NotPermitted ≡ Taken) ⊎ (cond a (cond b Taken Lacking) NotPermitted ≡ Lacking)
     go true true e = inl refl
@@ -54,12 +54,12 @@ known-or-not S h c = go (takes S h.state c) (knowsAll h.known (reads S h.state c
 pub step-zero-first : (set map : List ℕ) → accepts set map ≡ true → First set map (listing set map)
 unfolding begin
 step-zero-first set map a =
-    let S = setOf set in
+    let S = set_of set in
     let h = begin map in
-    let some = (well-formed set (and_left (setAccepted set) (mapAccepted runCells map) a)).someThread in
+    let some = (well-formed set (and_left (set_accepted set) (map_accepted run_cells map) a)).some_thread in
     let shows = accepted-listing set map a in
-    let e = lowest-first S some (mapValue map) in
+    let e = lowest-first S some (map_value map) in
     ⊎_elim
-    (λ o. inr (sym shows ∙ by-lowest S h noWrite 63 (Execute 0) Taken e o))
-    (λ o. inl (sym shows ∙ by-lowest S h noWrite 63 (Execute 0) Lacking e o))
-    (known-or-not S h (Execute 0) (starts S some (mapValue map)))
+    (λ o. inr (sym shows ∙ by-lowest S h no_write 63 (Execute 0) Taken e o))
+    (λ o. inl (sym shows ∙ by-lowest S h no_write 63 (Execute 0) Lacking e o))
+    (known_or_not S h (Execute 0) (starts S some (map_value map)))

@@ -120,22 +120,22 @@ last_digits n = by-places (λ (k : ℕ). take (5 - (5 - k)) (drop (5 - k) (digit
 
 -- ---- texts one after the other
 
-pub prints-both : {at mid next : ℕ} {out between afterwards : List ℕ} (first second : List ℕ) →
+pub prints_both : {at mid next : ℕ} {out between afterwards : List ℕ} (first second : List ℕ) →
     Prints at out first mid between → Prints mid between second next afterwards → Prints at out (first ++ second) next afterwards
-prints-both {at} {mid} {next} {out} {between} {afterwards} first second p q before xs s =
+prints_both {at} {mid} {next} {out} {between} {afterwards} first second p q before xs s =
     subst (λ (text : List ℕ). Stands text xs next afterwards) (append_assoc before first second) (q (before ++ first) xs (p before xs s))
 
 -- the same text by another name
-pub prints-as : {at next : ℕ} {out afterwards : List ℕ} {first second : List ℕ} → first ≡ second → Prints at out first next afterwards → Prints at out second next afterwards
-prints-as {at} {next} {out} {afterwards} {first} {second} e p before xs s =
+pub prints_as : {at next : ℕ} {out afterwards : List ℕ} {first second : List ℕ} → first ≡ second → Prints at out first next afterwards → Prints at out second next afterwards
+prints_as {at} {next} {out} {afterwards} {first} {second} e p before xs s =
     subst (λ (text : List ℕ). Stands (before ++ text) xs next afterwards) e (p before xs s)
 
-pub prints-item : {at next : ℕ} {out afterwards : List ℕ} {n m : ℕ} → n ≡ m → Prints at out (item (decimal n)) next afterwards → Prints at out (item (decimal m)) next afterwards
-prints-item e p = prints-as (ap (λ (k : ℕ). item (decimal k)) e) p
+pub prints_item : {at next : ℕ} {out afterwards : List ℕ} {n m : ℕ} → n ≡ m → Prints at out (item (decimal n)) next afterwards → Prints at out (item (decimal m)) next afterwards
+prints_item e p = prints_as (ap (λ (k : ℕ). item (decimal k)) e) p
 
 -- several texts, the last ones first put together
-pub stands-as : {text other xs : List ℕ} {at : ℕ} {out : List ℕ} → Stands text xs at out → text ≡ other → Stands other xs at out
-stands-as {text} {other} {xs} {at} {out} s e = subst (λ (t : List ℕ). Stands t xs at out) e s
+pub stands_as : {text other xs : List ℕ} {at : ℕ} {out : List ℕ} → Stands text xs at out → text ≡ other → Stands other xs at out
+stands_as {text} {other} {xs} {at} {out} s e = subst (λ (t : List ℕ). Stands t xs at out) e s
 
 -- nothing printed yet
 pub stands-none : (xs : List ℕ) → Stands [] xs 0 xs

@@ -5,12 +5,12 @@ use Rattle.std.specs.Prelude.{ℕ, zero, suc, ◌+◌, ◌*◌, ◌/◌, ◌%◌
 use Prim.Native.String.{String, [] as end, ◌∷◌ as ◌then◌}
 use Rattle.base.specs.Below.{least}
 use Rattle.records.specs.Instructions.{instructions, is_bare, word_of}
-use Rattle.records.specs.Maps.{mapAccepted, runCells}
-use Rattle.records.specs.Sets.{Set, setOf, setAccepted}
+use Rattle.records.specs.Maps.{map_accepted, run_cells}
+use Rattle.records.specs.Sets.{Set, set_of, set_accepted}
 use Rattle.records.specs.declared.Statement.{Statement}
-use Rattle.machine.specs.Machine.{State, permitted, actor, written, noWrite}
+use Rattle.machine.specs.Machine.{State, permitted, actor, written, no_write}
 use Rattle.machine.specs.Maps.{Held, begin, outcome, advanced}
-use Rattle.machine.specs.Runs.{end_of, mostSteps}
+use Rattle.machine.specs.Runs.{end_of, most_steps}
 use Rattle.machine.specs.Traces.{bit, shown}
 use Rattle.machine.specs.declared.Choice.{Choice}
 use Rattle.machine.specs.declared.Choice.TheVariants.{Execute, Flush}
@@ -52,13 +52,13 @@ unfoldable pub name : ℕ → List ℕ
 name n = cond (eqb n instructions) (text "FLUSH") (word_of n)
 
 -- A flush, FENCE and HALT have no argument.
-abbrev pub hasNone : ℕ → Bool
-hasNone n = is_bare n || eqb n instructions
+abbrev pub has_none : ℕ → Bool
+has_none n = is_bare n || eqb n instructions
 
 -- an argument (- for none); an indirect one prints in brackets
 unfoldable pub argument : Statement → List ℕ
 argument i =
-    cond (hasNone i.number) (text "-")
+    cond (has_none i.number) (text "-")
     (cond (eqb i.mode 1) (text "[" ++ decimal i.argument ++ text "]") (decimal i.argument))
 
 -- a written cell
@@ -82,13 +82,13 @@ line S s w c = line_of (actor c) (shown S s c) (s.threads (actor c)) w
 
 -- ---- the last line
 
-unfoldable pub lastLine : End → List ℕ
-lastLine (Code code) = text "end " ++ decimal code ++ text "\n"
-lastLine Stuck = text "stuck\n"
-lastLine Open = text "open\n"
+unfoldable pub last_line : End → List ℕ
+last_line (Code code) = text "end " ++ decimal code ++ text "\n"
+last_line Stuck = text "stuck\n"
+last_line Open = text "open\n"
 
-unfoldable pub refusedLine : ℕ → List ℕ
-refusedLine number = text "refused " ++ decimal number ++ text "\n"
+unfoldable pub refused_line : ℕ → List ℕ
+refused_line number = text "refused " ++ decimal number ++ text "\n"
 
 -- ---- the listing
 
@@ -99,25 +99,25 @@ lowest S s =
     cond (ltb t S.threads) (Execute t) (Flush (least S.threads (λ t. permitted S s (Flush t))))
 
 -- what is printed by how the lowest choice comes out: 14 comes after the lines of the steps before it
-abbrev pub onLowest : Outcome → (more last : List ℕ) → List ℕ
-onLowest Taken more last = more
-onLowest NotPermitted more last = last
-onLowest Lacking more last = refusedLine 14
+abbrev pub on_lowest : Outcome → (more last : List ℕ) → List ℕ
+on_lowest Taken more last = more
+on_lowest NotPermitted more last = last
+on_lowest Lacking more last = refused_line 14
 
 -- what is printed from a state on, with n steps left; w is what the previous step wrote
-unfoldable pub listingFrom : Set → Held → Written → ℕ → List ℕ
-listingFrom S h w zero = lastLine (end_of S h.state)
-listingFrom S h w (suc n) =
+unfoldable pub listing_from : Set → Held → Written → ℕ → List ℕ
+listing_from S h w zero = last_line (end_of S h.state)
+listing_from S h w (suc n) =
     let c = lowest S h.state in
-    onLowest (outcome S h c)
-    (line S h.state w c ++ listingFrom S (advanced S h c) (written S h.state c) n)
-    (lastLine (end_of S h.state))
+    on_lowest (outcome S h c)
+    (line S h.state w c ++ listing_from S (advanced S h c) (written S h.state c) n)
+    (last_line (end_of S h.state))
 
 -- room for every listing: a line of at most 64 bytes for each step, and the last line
-abbrev pub longestListing : ℕ
-longestListing = 64 * mostSteps + 16
+abbrev pub longest_listing : ℕ
+longest_listing = 64 * most_steps + 16
 
 -- what is printed for statement and map records; 9 where they are not accepted
 unfoldable pub listing : (set map : List ℕ) → List ℕ
 listing set map =
-    cond (setAccepted set && mapAccepted runCells map) (listingFrom (setOf set) (begin map) noWrite mostSteps) (refusedLine 9)
+    cond (set_accepted set && map_accepted run_cells map) (listing_from (set_of set) (begin map) no_write most_steps) (refused_line 9)

@@ -1,12 +1,12 @@
 -- How the code prints: texts one after the other into a lent output, and a step's line from the bytes of its trace step. This serves the code; no
 -- call's promise needs it. Assumes nothing.
 use Rattle.std.specs.Prelude.{ℕ, List, ◌++◌, ◌≡◌, eqb, get_or}
-use Rattle.base.specs.Bytes.{wordAt}
+use Rattle.base.specs.Bytes.{word_at}
 use Rattle.machine.specs.Offsets.{THREAD, NUMBER, PC, ARGUMENT, MODE, FULL, ACCU, MEM, ADR, VAL, WROTE, ADDRESS, VALUE}
 use Rattle.machine.specs.declared.RunAnswer.{RunAnswer}
 use Rattle.machine.specs.declared.RunAnswer.TheVariants.{Ran, Refused}
 use Rattle.listing_output.specs.Printed.{printed, count}
-use Rattle.listing_output.specs.Listings.{text, decimal, item, name, argument, cell, lastLine, refusedLine}
+use Rattle.listing_output.specs.Listings.{text, decimal, item, name, argument, cell, last_line, refused_line}
 
 -- ---- an output
 
@@ -22,26 +22,26 @@ Prints at out text next afterwards = (before xs : List ℕ) → Stands before xs
 -- ---- the line of a trace step, by its bytes
 
 -- thread, pc, word, argument
-abbrev pub actAt : List ℕ → List ℕ
-actAt step =
-    item (decimal (get_or step THREAD 0)) ++ item (decimal (wordAt step PC)) ++ item (name (get_or step NUMBER 0))
-    ++ item (argument (record { number = get_or step NUMBER 0; mode = get_or step MODE 0; argument = wordAt step ARGUMENT }))
+abbrev pub act_at : List ℕ → List ℕ
+act_at step =
+    item (decimal (get_or step THREAD 0)) ++ item (decimal (word_at step PC)) ++ item (name (get_or step NUMBER 0))
+    ++ item (argument (record { number = get_or step NUMBER 0; mode = get_or step MODE 0; argument = word_at step ARGUMENT }))
 
 -- accu, mem, adr, val, full
-abbrev pub registersAt : List ℕ → List ℕ
-registersAt step =
-    item (decimal (wordAt step ACCU)) ++ item (decimal (wordAt step MEM)) ++ item (decimal (wordAt step ADR)) ++ item (decimal (wordAt step VAL))
+abbrev pub registers_at : List ℕ → List ℕ
+registers_at step =
+    item (decimal (word_at step ACCU)) ++ item (decimal (word_at step MEM)) ++ item (decimal (word_at step ADR)) ++ item (decimal (word_at step VAL))
     ++ item (decimal (get_or step FULL 0))
 
 -- the cell that the previous step wrote
-abbrev pub cellShown : List ℕ → List ℕ
-cellShown step = cell (record { done = eqb (get_or step WROTE 0) 1; address = wordAt step ADDRESS; value = wordAt step VALUE })
+abbrev pub cell_shown : List ℕ → List ℕ
+cell_shown step = cell (record { done = eqb (get_or step WROTE 0) 1; address = word_at step ADDRESS; value = word_at step VALUE })
 
 unfoldable pub line_at : List ℕ → List ℕ
-line_at step = actAt step ++ registersAt step ++ cellShown step ++ text "\n"
+line_at step = act_at step ++ registers_at step ++ cell_shown step ++ text "\n"
 
 -- ---- the last line by simulation's answer
 
 unfoldable pub last_of : RunAnswer → List ℕ
-last_of (Ran steps end) = lastLine end
-last_of (Refused number place) = refusedLine number
+last_of (Ran steps end) = last_line end
+last_of (Refused number place) = refused_line number

@@ -2,21 +2,21 @@
 -- nothing.
 use Rattle.std.specs.Prelude.{ℕ, ◌+◌, ◌-◌, Bool, false, cond, not, ◌&&◌, List, [], ◌∷◌, ◌++◌, eqb, ltb}
 use Rattle.base.specs.Below.{least}
-use Rattle.records.specs.Maps.{mapAccepted, runCells}
-use Rattle.records.specs.Sets.{setAccepted, mostThreads}
+use Rattle.records.specs.Maps.{map_accepted, run_cells}
+use Rattle.records.specs.Sets.{set_accepted, most_threads}
 use Rattle.machine.specs.declared.RunAnswer.{RunAnswer}
 use Rattle.machine.specs.declared.RunAnswer.TheVariants.{Ran, Refused}
 use Rattle.simulation.specs.Simulation.{simulated}
-use Rattle.machine.specs.Traces.{longestTrace}
-use Rattle.machine.specs.Runs.{flushByte}
+use Rattle.machine.specs.Traces.{longest_trace}
+use Rattle.machine.specs.Runs.{flush_byte}
 
 -- a set and a map that 9 does not refuse
 abbrev pub accepts : (set map : List ℕ) → Bool
-accepts set map = setAccepted set && mapAccepted runCells map
+accepts set map = set_accepted set && map_accepted run_cells map
 
 -- the eight schedule bytes in order: executes by thread, then flushes by thread
 abbrev pub candidate : ℕ → ℕ
-candidate j = cond (ltb j mostThreads) j (flushByte + (j - mostThreads))
+candidate j = cond (ltb j most_threads) j (flush_byte + (j - most_threads))
 
 -- an answer that a choice is not permitted
 abbrev pub denies : RunAnswer → Bool
@@ -25,8 +25,8 @@ denies (Refused number place) = eqb number 12
 
 -- candidate j is permitted after a schedule
 abbrev pub allows : (set map schedule : List ℕ) → ℕ → Bool
-allows set map schedule j = not (denies (simulated set map (schedule ++ (candidate j ∷ [])) longestTrace))
+allows set map schedule j = not (denies (simulated set map (schedule ++ (candidate j ∷ [])) longest_trace))
 
 -- the byte of the first candidate that is permitted after a schedule, the last one's where none of the others is
-unfoldable pub nextByte : (set map schedule : List ℕ) → ℕ
-nextByte set map schedule = candidate (least 7 (allows set map schedule))
+unfoldable pub next_byte : (set map schedule : List ℕ) → ℕ
+next_byte set map schedule = candidate (least 7 (allows set map schedule))

@@ -4,16 +4,16 @@ mod lines;
 mod output;
 
 ghost use Rattle.std.specs.Prelude.{◌*◌, ◌<◌, ◌≡◌, true, cond, eqb, take};
-ghost use Rattle.records.specs.Sets.{setOf, mostThreads};
-ghost use Rattle.machine.specs.Machine.{noWrite};
+ghost use Rattle.records.specs.Sets.{set_of, most_threads};
+ghost use Rattle.machine.specs.Machine.{no_write};
 ghost use Rattle.machine.specs.Maps.{begin};
 ghost use Rattle.simulation.specs.Simulation.{simulated};
-ghost use Rattle.listing_output.specs.Listings.{listingFrom, listing, refusedLine};
+ghost use Rattle.listing_output.specs.Listings.{listing_from, listing, refused_line};
 ghost use Rattle.listing_output.specs.Outputs.{Stands, Prints, last_of};
 ghost use Rattle.listing_output.specs.Printed.{printed, count};
-ghost use Rattle.listing_output.specs.Schedules.{candidate as candidateOf, denies, nextByte, accepts};
-ghost use Rattle.machine.specs.Traces.{longestTrace};
-ghost use Rattle.machine.specs.Runs.{mostSteps};
+ghost use Rattle.listing_output.specs.Schedules.{candidate as candidate_of, denies, next_byte, accepts};
+ghost use Rattle.machine.specs.Traces.{longest_trace};
+ghost use Rattle.machine.specs.Runs.{most_steps};
 
 use lines::{last, line, refusal};
 use machine::{Choice, Machine, RunAnswer};
@@ -21,8 +21,8 @@ use records::refusals;
 
 // The schedule byte of candidate j: executes by thread, then flushes by thread.
 fn candidate(j: u8) -> u8
-    requires { j < 2 * mostThreads }
-    ensures { result ≡ candidateOf j }
+    requires { j < 2 * most_threads }
+    ensures { result ≡ candidate_of j }
 {
     if j < Machine::THREADS {
         return j;
@@ -32,7 +32,7 @@ fn candidate(j: u8) -> u8
 
 // Whether simulation answers that a choice of the schedule is not permitted.
 fn denied(set: &[u8], map: &[u8], schedule: &[u8]) -> bool
-    ensures { result ≡ denies (simulated set.now map.now schedule.now longestTrace) }
+    ensures { result ≡ denies (simulated set.now map.now schedule.now longest_trace) }
 {
     let mut trace = [0u8; Machine::TRACE];
     let answer = simulation::simulate(set, map, schedule, &mut trace);
@@ -44,8 +44,8 @@ fn denied(set: &[u8], map: &[u8], schedule: &[u8]) -> bool
 
 // The byte of the first candidate that is permitted after the first k bytes of a schedule.
 fn next(set: &[u8], map: &[u8], schedule: [u8; Machine::STEPS], k: usize) -> u8
-    requires { k < mostSteps }
-    ensures { result ≡ nextByte set.now map.now (take k schedule) }
+    requires { k < most_steps }
+    ensures { result ≡ next_byte set.now map.now (take k schedule) }
 {
     let mut tried = schedule;
     let mut j: u8 = 0;
@@ -62,7 +62,7 @@ fn next(set: &[u8], map: &[u8], schedule: [u8; Machine::STEPS], k: usize) -> u8
 
 // Prints the last line after a schedule.
 fn finish(set: &[u8], map: &[u8], schedule: &[u8], out: &mut [u8], at: usize) -> usize
-    ensures { Prints at out.old (last_of (simulated set.now map.now schedule.now longestTrace)) result out.new }
+    ensures { Prints at out.old (last_of (simulated set.now map.now schedule.now longest_trace)) result out.new }
 {
     let mut trace = [0u8; Machine::TRACE];
     let answer = simulation::simulate(set, map, schedule, &mut trace);
@@ -74,7 +74,7 @@ fn finish(set: &[u8], map: &[u8], schedule: &[u8], out: &mut [u8], at: usize) ->
 
 // Prints the last line after a schedule whose next choice was refused with a number.
 fn stop(set: &[u8], map: &[u8], schedule: &[u8], number: u8, out: &mut [u8], at: usize) -> usize
-    ensures { Prints at out.old (cond (eqb number 14) (refusedLine 14) (last_of (simulated set.now map.now schedule.now longestTrace))) result out.new }
+    ensures { Prints at out.old (cond (eqb number 14) (refused_line 14) (last_of (simulated set.now map.now schedule.now longest_trace))) result out.new }
 {
     if number == refusals::LACKS_CELL {
         return refusal(out, at, refusals::LACKS_CELL);
@@ -85,7 +85,7 @@ fn stop(set: &[u8], map: &[u8], schedule: &[u8], number: u8, out: &mut [u8], at:
 // Prints the lines of an accepted set and map, then the last line.
 fn run(set: &[u8], map: &[u8], out: &mut [u8]) -> usize
     requires { accepts set.now map.now ≡ true }
-    ensures { Stands (listingFrom (setOf set.now) (begin map.now) noWrite mostSteps) out.old result out.new }
+    ensures { Stands (listing_from (set_of set.now) (begin map.now) no_write most_steps) out.old result out.new }
 {
     let mut schedule = [0u8; Machine::STEPS];
     let mut trace = [0u8; Machine::TRACE];
@@ -124,8 +124,8 @@ pub fn list(set: &[u8], map: &[u8], out: &mut [u8]) -> usize
 
 // Prints the line of a refusal from the start of an output on, and gives how many bytes it printed.
 pub fn refused(number: u8, out: &mut [u8]) -> usize
-    ensures { (result ≡ count (refusedLine number) out.old)
-        × (out.new ≡ printed (refusedLine number) out.old) }
+    ensures { (result ≡ count (refused_line number) out.old)
+        × (out.new ≡ printed (refused_line number) out.old) }
 {
     refusal(out, 0, number)
 }

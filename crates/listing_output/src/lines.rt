@@ -1,7 +1,7 @@
 // The line of a step, from the bytes of its trace step, and the last line.
 ghost use Rattle.std.specs.Prelude.{◌≤◌, ◌<◌};
-ghost use Rattle.listing_output.specs.Listings.{item as item_of, name as name_of, argument as argumentOf, pair as pair_of, lastLine, refusedLine};
-ghost use Rattle.listing_output.specs.Outputs.{Prints, actAt, registersAt, cellShown, line_at};
+ghost use Rattle.listing_output.specs.Listings.{item as item_of, name as name_of, argument as argument_of, pair as pair_of, last_line, refused_line};
+ghost use Rattle.listing_output.specs.Outputs.{Prints, act_at, registers_at, cell_shown, line_at};
 
 use crate::output::{item, number, put};
 use machine::{End, offsets};
@@ -87,7 +87,7 @@ fn name(out: &mut [u8], at: usize, n: u8) -> usize
 
 // Prints an argument: - for none, an indirect one in brackets.
 fn argument(out: &mut [u8], at: usize, i: Statement) -> usize
-    ensures { Prints at out.old (argumentOf i) result out.new }
+    ensures { Prints at out.old (argument_of i) result out.new }
 {
     if is_bare(i.number) | (i.number == Statement::INSTRUCTIONS) {
         return put(out, at, b"-");
@@ -110,7 +110,7 @@ fn word(out: &mut [u8], at: usize, n: u8) -> usize
 
 // Prints thread, pc, word and argument of a trace step, each with the space after it.
 fn act(out: &mut [u8], at: usize, step: &[u8]) -> usize
-    ensures { Prints at out.old (actAt step.now) result out.new }
+    ensures { Prints at out.old (act_at step.now) result out.new }
 {
     let n = base::byte_at(step, offsets::NUMBER);
     let i = Statement {
@@ -127,7 +127,7 @@ fn act(out: &mut [u8], at: usize, step: &[u8]) -> usize
 
 // Prints accu, mem, adr, val and full of a trace step, each with the space after it.
 fn registers(out: &mut [u8], at: usize, step: &[u8]) -> usize
-    ensures { Prints at out.old (registersAt step.now) result out.new }
+    ensures { Prints at out.old (registers_at step.now) result out.new }
 {
     let accu = item(out, at, base::word_at(step, offsets::ACCU));
     let mem = item(out, accu, base::word_at(step, offsets::MEM));
@@ -149,7 +149,7 @@ fn pair(out: &mut [u8], at: usize, address: u16, value: u16) -> usize
 
 // Prints the cell that the step before a trace step wrote, {} if none.
 fn cell(out: &mut [u8], at: usize, step: &[u8]) -> usize
-    ensures { Prints at out.old (cellShown step.now) result out.new }
+    ensures { Prints at out.old (cell_shown step.now) result out.new }
 {
     if base::byte_at(step, offsets::WROTE) == 1 {
         let address = base::word_at(step, offsets::ADDRESS);
@@ -170,7 +170,7 @@ pub fn line(out: &mut [u8], at: usize, step: &[u8]) -> usize
 
 // Prints the last line of a run that was not refused.
 pub fn last(out: &mut [u8], at: usize, end: End) -> usize
-    ensures { Prints at out.old (lastLine end) result out.new }
+    ensures { Prints at out.old (last_line end) result out.new }
 {
     match end {
         End::Code(code) => {
@@ -185,7 +185,7 @@ pub fn last(out: &mut [u8], at: usize, end: End) -> usize
 
 // Prints the last line of a refusal.
 pub fn refusal(out: &mut [u8], at: usize, n: u8) -> usize
-    ensures { Prints at out.old (refusedLine n) result out.new }
+    ensures { Prints at out.old (refused_line n) result out.new }
 {
     let word = put(out, at, b"refused ");
     let next = number(out, word, n as u16);

@@ -1,6 +1,6 @@
 // Texts and numbers printed into a lent output, one after the other, as far as there is room.
 ghost use Rattle.std.specs.Prelude.{◌≡◌};
-ghost use Rattle.listing_output.specs.Listings.{digits as digitsOf, places as places_of, decimal, item as item_of};
+ghost use Rattle.listing_output.specs.Listings.{digits as digits_of, places as places_of, decimal, item as item_of};
 ghost use Rattle.listing_output.specs.Outputs.{Prints};
 
 // Writes bytes at a place, as many as there is room for, and gives the place after them.
@@ -42,7 +42,7 @@ fn places(n: u16) -> usize
 
 // The five last digits of a word.
 fn digits(n: u16) -> [u8; 5]
-    ensures { result ≡ digitsOf 5 n }
+    ensures { result ≡ digits_of 5 n }
 {
     [
         48 + (n / 10 / 10 / 10 / 10 % 10) as u8,

@@ -14,12 +14,12 @@ unfolding some
 some_next test i = rw (add-one i) refl
 
 -- where none of the next n passes, the search goes on behind them
-pub least-group : (test group : ℕ → Bool) (i n : ℕ) → least i test ≡ i → some n group ≡ false → ((k : ℕ) → k < n → test (i + k) ≡ group k) →
+pub least_group : (test group : ℕ → Bool) (i n : ℕ) → least i test ≡ i → some n group ≡ false → ((k : ℕ) → k < n → test (i + k) ≡ group k) →
     least (i + n) test ≡ i + n
 unfolding some
-least-group test group i zero e none same = rw (add-zero i) e
-least-group test group i (suc n) e none same =
-    let more = least_more test (i + n) (least-group test group i n e (or_left (some n group) (group n) none) (λ k l. same k (omega arith)))
+least_group test group i zero e none same = rw (add-zero i) e
+least_group test group i (suc n) e none same =
+    let more = least_more test (i + n) (least_group test group i n e (or_left (some n group) (group n) none) (λ k l. same k (omega arith)))
     (same n (omega arith) ∙ or_right (some n group) (group n) none) in
     let q : i + suc n ≡ i + n + 1 = omega arith in
     ap (λ (k : ℕ). least k test) q ∙ more ∙ sym q

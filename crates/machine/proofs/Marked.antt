@@ -5,29 +5,29 @@ use mathlib.Core.Bool.{Bool, true, false, cond, not, ◌&&◌, ◌||◌}
 use mathlib.Core.List.{List, [], ◌∷◌}
 use lib.Dec.{eqb, ltb}
 use borrow.Author.Tests.{eqb-true, eq-eqb}
-use Rattle.base.proofs.Choice.{and-true, and_left, and_right, clash}
+use Rattle.base.proofs.Choice.{and_true, and_left, and_right, clash}
 use Rattle.records.specs.Instructions.{CHECK, HALT, EXIT, instructions}
 use Rattle.records.specs.Sets.{Set}
 use Rattle.records.specs.declared.Statement.{Statement}
-use Rattle.machine.specs.Machine.{State, start, unmarked, current, actor, isCheck, opened, waiting, permitted, leavesMark, cleared, acted, executed, nextPc, jumps, threadsAfter, step}
-use Rattle.machine.specs.Runs.{isRun, after}
+use Rattle.machine.specs.Machine.{State, start, unmarked, current, actor, is_check, opened, waiting, permitted, leaves_mark, cleared, acted, executed, next_pc, jumps, threads_after, step}
+use Rattle.machine.specs.Runs.{is_run, after}
 use Rattle.machine.specs.declared.Choice.{Choice}
 use Rattle.machine.specs.declared.Choice.TheVariants.{Execute, Flush}
 use Rattle.machine.specs.declared.Mark.{Mark}
 use Rattle.machine.specs.declared.Thread.{Thread}
-use Rattle.machine.proofs.Marks.{runs-free}
+use Rattle.machine.proofs.Marks.{runs_free}
 use Rattle.machine.proofs.Runs.{run-first, run-rest}
 
 -- thread t stands right after a CHECK c
 abbrev After : Set → Thread → (t c : ℕ) → Type 0
-After S x t c = (p : ℕ) × (x.pc ≡ suc p) × (isCheck S t c p ≡ true)
+After S x t c = (p : ℕ) × (x.pc ≡ suc p) × (is_check S t c p ≡ true)
 
 -- a marked thread stands right after a CHECK of its checkpoint
 abbrev pub StandsAfter : Set → State → Type 0
 StandsAfter S s = (t : ℕ) → (s.marks t).on ≡ true → After S (s.threads t) t (s.marks t).checkpoint
 
-check-goes-on : (i : Statement) (x : Thread) → i.number ≡ CHECK → nextPc i x ≡ suc x.pc
-unfolding nextPc jumps
+check-goes-on : (i : Statement) (x : Thread) → i.number ≡ CHECK → next_pc i x ≡ suc x.pc
+unfolding next_pc jumps
 check-goes-on i x e =
     ap (λ (n : ℕ). cond (eqb n HALT || eqb n EXIT || not (ltb n instructions)) x.pc (cond (jumps n x.accu) i.argument (suc x.pc))) e
 
@@ -54,48 +54,48 @@ module _ (S : Set) (s : State) (t : ℕ) where
   pc-stays : waiting S s.marks t ≡ true → (c : Choice) → permitted S s c ≡ true → (b : Bool) → eqb t (actor c) ≡ b →
       (cond b (acted S s c) (s.threads t)).pc ≡ (s.threads t).pc
   unfolding acted
-  pc-stays waits (Execute u) may true e = clash waits (ap (waiting S s.marks) (eqb-true t u e) ∙ runs-free S s u may)
+  pc-stays waits (Execute u) may true e = clash waits (ap (waiting S s.marks) (eqb-true t u e) ∙ runs_free S s u may)
   pc-stays waits (Flush u) may true e = ap (λ (v : ℕ). (s.threads v).pc) (sym (eqb-true t u e))
   pc-stays waits (Execute u) may false e = refl
   pc-stays waits (Flush u) may false e = refl
 
   -- a CHECK's thread then stands after it
-  check-stands : (c : Choice) → leavesMark S s c ≡ true → t ≡ actor c → After S (acted S s c) t (current S s (actor c)).argument
-  unfolding leavesMark acted executed
+  check-stands : (c : Choice) → leaves_mark S s c ≡ true → t ≡ actor c → After S (acted S s c) t (current S s (actor c)).argument
+  unfolding leaves_mark acted executed
   check-stands (Execute u) l e =
       let i = current S s u in (
         (s.threads u).pc,
         check-goes-on i (s.threads u) (eqb-true i.number CHECK l),
-        subst (λ (v : ℕ). isCheck S v i.argument (s.threads u).pc ≡ true) (sym e) (and-true l (eq-eqb i.argument i.argument refl)),
+        subst (λ (v : ℕ). is_check S v i.argument (s.threads u).pc ≡ true) (sym e) (and_true l (eq-eqb i.argument i.argument refl)),
       )
   check-stands (Flush u) l e = clash l refl
 
   stands-step : StandsAfter S s → (c : Choice) → permitted S s c ≡ true → ((step S s c).marks t).on ≡ true → After S ((step S s c).threads t) t ((step S s c).marks t).checkpoint
   unfolding step
-  stands-step stands c may = go (leavesMark S s c && eqb t (actor c)) refl
+  stands-step stands c may = go (leaves_mark S s c && eqb t (actor c)) refl
     where
       left : Mark
       left = record { on = true; checkpoint = (current S s (actor c)).argument }
 
-      go : (b : Bool) → (leavesMark S s c && eqb t (actor c)) ≡ b → (cond b left (cleared S s.marks t)).on ≡ true →
-          After S (threadsAfter S s c t) t (cond b left (cleared S s.marks t)).checkpoint
+      go : (b : Bool) → (leaves_mark S s c && eqb t (actor c)) ≡ b → (cond b left (cleared S s.marks t)).on ≡ true →
+          After S (threads_after S s c t) t (cond b left (cleared S s.marks t)).checkpoint
       go true e on =
-          let here = and_right (leavesMark S s c) (eqb t (actor c)) e in
+          let here = and_right (leaves_mark S s c) (eqb t (actor c)) e in
           subst⁻¹ (λ (b : Bool). After S (cond b (acted S s c) (s.threads t)) t left.checkpoint) here
-          (check-stands c (and_left (leavesMark S s c) (eqb t (actor c)) e) (eqb-true t (actor c) here))
+          (check-stands c (and_left (leaves_mark S s c) (eqb t (actor c)) e) (eqb-true t (actor c) here))
       go false e on =
           let r = uncleared on in
           let was = stands t (sym (ap (λ (m : Mark). m.on) r.0) ∙ on) in (
             was.0,
             pc-stays r.1 c may (eqb t (actor c)) refl ∙ was.1,
-            subst⁻¹ (λ (m : Mark). isCheck S t m.checkpoint was.0 ≡ true) r.0 was.2,
+            subst⁻¹ (λ (m : Mark). is_check S t m.checkpoint was.0 ≡ true) r.0 was.2,
           )
 
-pub stands-run : (S : Set) (memory : ℕ → ℕ) (run : List Choice) → isRun S (start memory) run ≡ true → StandsAfter S (after S (start memory) run)
+pub stands-run : (S : Set) (memory : ℕ → ℕ) (run : List Choice) → is_run S (start memory) run ≡ true → StandsAfter S (after S (start memory) run)
 unfolding after
 stands-run S memory run = go (start memory) run (λ t e. clash e refl)
   where
-    go : (s : State) (run : List Choice) → StandsAfter S s → isRun S s run ≡ true → StandsAfter S (after S s run)
+    go : (s : State) (run : List Choice) → StandsAfter S s → is_run S s run ≡ true → StandsAfter S (after S s run)
     go s [] stands e = stands
     go s (c ∷ run) stands e =
         go (step S s c) run (λ t. stands-step S s t stands c (and_right (not s.ended) (permitted S s c) (run-first S s c run e))) (run-rest S s c run e)

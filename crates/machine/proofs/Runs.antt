@@ -12,13 +12,13 @@ use lib.Seq.{take_at, drop_at, drop-drop, get_or-take}
 use borrow.Author.Tests.{ltb-true, ltb-false, lt-ltb, le-ltb, eqb-true, ne_eqb}
 use Rattle.base.specs.Bytes.{same}
 use Rattle.base.proofs.Bytes.{same_parts}
-use Rattle.base.proofs.Choice.{chosen, passed, and-true, and_left, and_right, and_yes, clash}
-use Rattle.records.specs.Instructions.{JMP, JZ, JNZ, JS, JNS, JNZNS, HALT, EXIT, instructions, isJump, isLast}
+use Rattle.base.proofs.Choice.{chosen, passed, and_true, and_left, and_right, and_yes, clash}
+use Rattle.records.specs.Instructions.{JMP, JZ, JNZ, JS, JNS, JNZNS, HALT, EXIT, instructions, is_jump, is_last}
 use Rattle.records.specs.Sets.{Set, WellFormedSet}
-use Rattle.machine.specs.Machine.{State, start, current, jumps, nextPc, executed, permitted, actor, acted, written, reads, step}
-use Rattle.machine.specs.Runs.{flushByte, choice_of, choices, takes, isRun, after, end_of}
-use Rattle.machine.specs.Maps.{Held, knowsAll, addressKnown, wordKnown, outcome, advanced, onOutcome, follow}
-use Rattle.machine.specs.Traces.{bit, shown, stepBytes, traceStep, sameFields, sameAddress, trace, stepChoice, stepLength}
+use Rattle.machine.specs.Machine.{State, start, current, jumps, next_pc, executed, permitted, actor, acted, written, reads, step}
+use Rattle.machine.specs.Runs.{flush_byte, choice_of, choices, takes, is_run, after, end_of}
+use Rattle.machine.specs.Maps.{Held, knows_all, address_known, word_known, outcome, advanced, on_outcome, follow}
+use Rattle.machine.specs.Traces.{bit, shown, step_bytes, trace_step, same_fields, same_address, trace, step_choice, step_length}
 use Rattle.machine.proofs.Loads.{knows-cells}
 use Rattle.machine.specs.declared.RunAnswer.{RunAnswer}
 use Rattle.machine.specs.declared.RunAnswer.TheVariants.{Ran, Refused}
@@ -42,12 +42,12 @@ pub ran-after : (b : Bool) (number place : ℕ) {n : ℕ} {e : End} {rest : RunA
 ran-after true number place p = refused-ran p
 ran-after false number place p = (refl, p)
 
-pub ran-where : (b : Bool) (number place : ℕ) {n : ℕ} {e : End} {rest : RunAnswer} → cond b rest (Refused number place) ≡ Ran n e →
+pub ran_where : (b : Bool) (number place : ℕ) {n : ℕ} {e : End} {rest : RunAnswer} → cond b rest (Refused number place) ≡ Ran n e →
     (b ≡ true) × (rest ≡ Ran n e)
-ran-where true number place p = (refl, p)
-ran-where false number place p = refused-ran p
+ran_where true number place p = (refl, p)
+ran_where false number place p = refused-ran p
 
-pub ran-taken : (o : Outcome) (i : ℕ) {n : ℕ} {e : End} {rest : RunAnswer} → onOutcome o i rest ≡ Ran n e → (o ≡ Taken) × (rest ≡ Ran n e)
+pub ran-taken : (o : Outcome) (i : ℕ) {n : ℕ} {e : End} {rest : RunAnswer} → on_outcome o i rest ≡ Ran n e → (o ≡ Taken) × (rest ≡ Ran n e)
 ran-taken Taken i p = (refl, p)
 ran-taken NotPermitted i p = refused-ran p
 ran-taken Lacking i p = refused-ran p
@@ -58,7 +58,7 @@ abbrev pub Inside : Set → (ℕ → Thread) → Type 0
 Inside S threads = (t : ℕ) → t < S.threads → (threads t).pc < S.count t
 
 -- what jumps is a jump
-pub jumps-jump : (n accu : ℕ) → jumps n accu ≡ true → isJump n ≡ true
+pub jumps-jump : (n accu : ℕ) → jumps n accu ≡ true → is_jump n ≡ true
 unfolding jumps
 jumps-jump n accu = go (eqb n JMP) (eqb n JZ) (eqb n JNZ) (eqb n JS) (eqb n JNS) (eqb n JNZNS) _ _ _ _ _
   where
@@ -77,7 +77,7 @@ abbrev stays : ℕ → Bool
 stays n = eqb n HALT || eqb n EXIT || not (ltb n instructions)
 
 -- what may end a thread never goes to pc + 1
-last-jumps : (n accu : ℕ) → isLast n ≡ true → stays n ≡ false → jumps n accu ≡ true
+last-jumps : (n accu : ℕ) → is_last n ≡ true → stays n ≡ false → jumps n accu ≡ true
 unfolding jumps
 last-jumps n accu = go (eqb n EXIT) (eqb n JMP) (eqb n HALT) (not (ltb n instructions)) _
   where
@@ -89,23 +89,23 @@ last-jumps n accu = go (eqb n EXIT) (eqb n JMP) (eqb n HALT) (not (ltb n instruc
     go false false false d r h k = clash h refl
 
 module _ (S : Set) (well : WellFormedSet S) where
-  next-inside : (t : ℕ) (x : Thread) → t < S.threads → x.pc < S.count t → nextPc (S.statement t x.pc) x < S.count t
-  unfolding nextPc
+  next-inside : (t : ℕ) (x : Thread) → t < S.threads → x.pc < S.count t → next_pc (S.statement t x.pc) x < S.count t
+  unfolding next_pc
   next-inside t x h k = go (stays n) refl (jumps n x.accu) refl (dec_lt (suc x.pc) (S.count t))
     where
       n : ℕ
       n = (S.statement t x.pc).number
 
-      within : {p : ℕ} → nextPc (S.statement t x.pc) x ≡ p → p < S.count t → nextPc (S.statement t x.pc) x < S.count t
+      within : {p : ℕ} → next_pc (S.statement t x.pc) x ≡ p → p < S.count t → next_pc (S.statement t x.pc) x < S.count t
       within e l = omega arith
 
-      at_last : S.count t ≤ suc x.pc → isLast n ≡ true
+      at_last : S.count t ≤ suc x.pc → is_last n ≡ true
       at_last l =
           let e : S.count t - 1 ≡ x.pc = omega arith in
-          subst (λ (p : ℕ). isLast (S.statement t p).number ≡ true) e (well.lasts t h)
+          subst (λ (p : ℕ). is_last (S.statement t p).number ≡ true) e (well.lasts t h)
 
       go : (a : Bool) → stays n ≡ a → (b : Bool) → jumps n x.accu ≡ b → Dec (suc x.pc < S.count t)
-          → nextPc (S.statement t x.pc) x < S.count t
+          → next_pc (S.statement t x.pc) x < S.count t
       go true e b f d = within (chosen _ _ e) k
       go false e true f d = within (passed _ _ e ∙ chosen _ _ f) (well.targets t x.pc k (jumps-jump n x.accu f))
       go false e false f (yes l) = within (passed _ _ e ∙ passed _ _ f) l
@@ -130,7 +130,7 @@ module _ (S : Set) (well : WellFormedSet S) where
 
   -- so does a run, from the start on
   pub inside-start : (first : ℕ → ℕ) → Inside S (start first).threads
-  inside-start first t h = well.someStatement t h
+  inside-start first t h = well.some_statement t h
 
   pub inside-after : (s : State) (run : List Choice) → Inside S s.threads → Inside S (after S s run).threads
   unfolding after
@@ -154,52 +154,52 @@ module _ (S : Set) (s : State) where
   takes-actor c e = permitted-actor c (and_right (not s.ended) (permitted S s c) e)
 
   -- a run's first choice, and the rest of it
-  pub run-first : (c : Choice) (run : List Choice) → isRun S s (c ∷ run) ≡ true → takes S s c ≡ true
-  unfolding isRun
-  run-first c run e = and_left (takes S s c) (isRun S (step S s c) run) e
+  pub run-first : (c : Choice) (run : List Choice) → is_run S s (c ∷ run) ≡ true → takes S s c ≡ true
+  unfolding is_run
+  run-first c run e = and_left (takes S s c) (is_run S (step S s c) run) e
 
-  pub run-rest : (c : Choice) (run : List Choice) → isRun S s (c ∷ run) ≡ true → isRun S (step S s c) run ≡ true
-  unfolding isRun
-  run-rest c run e = and_right (takes S s c) (isRun S (step S s c) run) e
+  pub run-rest : (c : Choice) (run : List Choice) → is_run S s (c ∷ run) ≡ true → is_run S (step S s c) run ≡ true
+  unfolding is_run
+  run-rest c run e = and_right (takes S s c) (is_run S (step S s c) run) e
 
 -- ---- schedules
 
 -- the schedule byte of a choice
-abbrev pub scheduleOf : Choice → ℕ
-scheduleOf (Execute t) = t
-scheduleOf (Flush t) = flushByte + t
+abbrev pub schedule_of : Choice → ℕ
+schedule_of (Execute t) = t
+schedule_of (Flush t) = flush_byte + t
 
 -- the schedule of a run
 unfoldable pub schedule : List Choice → List ℕ
 schedule [] = []
-schedule (c ∷ run) = scheduleOf c ∷ schedule run
+schedule (c ∷ run) = schedule_of c ∷ schedule run
 
 -- a choice and its byte give each other back
-pub choiceOf-scheduleOf : (c : Choice) → actor c < flushByte → choice_of (scheduleOf c) ≡ c
+pub choice_of_schedule_of : (c : Choice) → actor c < flush_byte → choice_of (schedule_of c) ≡ c
 unfolding choice_of
-choiceOf-scheduleOf (Execute t) h = chosen _ _ (lt-ltb t flushByte h)
-choiceOf-scheduleOf (Flush t) h = passed _ _ (le-ltb (flushByte + t) flushByte (omega arith)) ∙ ap Flush (omega arith)
+choice_of_schedule_of (Execute t) h = chosen _ _ (lt-ltb t flush_byte h)
+choice_of_schedule_of (Flush t) h = passed _ _ (le-ltb (flush_byte + t) flush_byte (omega arith)) ∙ ap Flush (omega arith)
 
-pub scheduleOf-choiceOf : (k : ℕ) → scheduleOf (choice_of k) ≡ k
+pub schedule_of_choice_of : (k : ℕ) → schedule_of (choice_of k) ≡ k
 unfolding choice_of
-scheduleOf-choiceOf k = go (ltb k flushByte) refl
+schedule_of_choice_of k = go (ltb k flush_byte) refl
   where
-    go : (b : Bool) → ltb k flushByte ≡ b → scheduleOf (cond (ltb k flushByte) (Execute k) (Flush (k - flushByte))) ≡ k
-    go true e = ap scheduleOf (chosen _ _ e)
-    go false e = let l = ltb-false k flushByte e in ap scheduleOf (passed _ _ e) ∙ omega arith
+    go : (b : Bool) → ltb k flush_byte ≡ b → schedule_of (cond (ltb k flush_byte) (Execute k) (Flush (k - flush_byte))) ≡ k
+    go true e = ap schedule_of (chosen _ _ e)
+    go false e = let l = ltb-false k flush_byte e in ap schedule_of (passed _ _ e) ∙ omega arith
 
 -- a run and its schedule give each other back
 pub schedule-choices : (bytes : List ℕ) → schedule (choices bytes) ≡ bytes
 unfolding schedule choices
 schedule-choices [] = refl
-schedule-choices (k ∷ bytes) = ap₂ ◌∷◌ (scheduleOf-choiceOf k) (schedule-choices bytes)
+schedule-choices (k ∷ bytes) = ap₂ ◌∷◌ (schedule_of_choice_of k) (schedule-choices bytes)
 
-pub choices-schedule : (S : Set) (s : State) (run : List Choice) → S.threads ≤ flushByte → isRun S s run ≡ true → choices (schedule run) ≡ run
+pub choices-schedule : (S : Set) (s : State) (run : List Choice) → S.threads ≤ flush_byte → is_run S s run ≡ true → choices (schedule run) ≡ run
 unfolding schedule choices
 choices-schedule S s [] h e = refl
 choices-schedule S s (c ∷ run) h e =
     let l = takes-actor S s c (run-first S s c run e) in
-    ap₂ ◌∷◌ (choiceOf-scheduleOf c (omega arith)) (choices-schedule S (step S s c) run h (run-rest S s c run e))
+    ap₂ ◌∷◌ (choice_of_schedule_of c (omega arith)) (choices-schedule S (step S s c) run h (run-rest S s c run e))
 
 pub length-choices : (bytes : List ℕ) → length (choices bytes) ≡ length bytes
 unfolding choices
@@ -225,21 +225,21 @@ AllTaken S h [] = Unit {0}
 AllTaken S h (c ∷ run) = (outcome S h c ≡ Taken) × AllTaken S (advanced S h c) run
 
 module _ (S : Set) (h : Held) (c : Choice) where
-  pub outcome-taken : takes S h.state c ≡ true → knowsAll h.known (reads S h.state c) ≡ true → outcome S h c ≡ Taken
+  pub outcome-taken : takes S h.state c ≡ true → knows_all h.known (reads S h.state c) ≡ true → outcome S h c ≡ Taken
   unfolding outcome
   outcome-taken e f = chosen _ _ e ∙ chosen _ _ f
 
   pub taken-takes : outcome S h c ≡ Taken → takes S h.state c ≡ true
   unfolding outcome
-  taken-takes = go (takes S h.state c) (knowsAll h.known (reads S h.state c))
+  taken-takes = go (takes S h.state c) (knows_all h.known (reads S h.state c))
     where
       go : (a b : Bool) → cond a (cond b Taken Lacking) NotPermitted ≡ Taken → a ≡ true
       go true b e = refl
       go false b e = cc
 
-  pub taken-knows : outcome S h c ≡ Taken → knowsAll h.known (reads S h.state c) ≡ true
+  pub taken-knows : outcome S h c ≡ Taken → knows_all h.known (reads S h.state c) ≡ true
   unfolding outcome
-  taken-knows = go (takes S h.state c) (knowsAll h.known (reads S h.state c))
+  taken-knows = go (takes S h.state c) (knows_all h.known (reads S h.state c))
     where
       go : (a b : Bool) → cond a (cond b Taken Lacking) NotPermitted ≡ Taken → b ≡ true
       go a true e = refl
@@ -247,10 +247,10 @@ module _ (S : Set) (h : Held) (c : Choice) where
       go false false e = cc
 
 -- what is taken is a run of the machine
-pub taken-run : (S : Set) (h : Held) (run : List Choice) → AllTaken S h run → isRun S h.state run ≡ true
-unfolding isRun advanced
+pub taken-run : (S : Set) (h : Held) (run : List Choice) → AllTaken S h run → is_run S h.state run ≡ true
+unfolding is_run advanced
 taken-run S h [] taken = refl
-taken-run S h (c ∷ run) taken = and-true (taken-takes S h c taken.0) (taken-run S (advanced S h c) run taken.1)
+taken-run S h (c ∷ run) taken = and_true (taken-takes S h c taken.0) (taken-run S (advanced S h c) run taken.1)
 
 -- a run followed from step i on to n steps and the end e
 pub record Followed (S : Set) (h : Held) (i : ℕ) (run : List Choice) (n : ℕ) (e : End) : Type 0 where
@@ -264,7 +264,7 @@ pub follow-taken : (S : Set) (h : Held) (i : ℕ) (run : List Choice) → AllTak
 unfolding follow after advanced
 follow-taken S h i [] taken = ap (λ (n : ℕ). Ran n (end_of S h.state)) (omega arith)
 follow-taken S h i (c ∷ run) taken =
-    ap (λ (o : Outcome). onOutcome o i (follow S (advanced S h c) (suc i) run)) taken.0
+    ap (λ (o : Outcome). on_outcome o i (follow S (advanced S h c) (suc i) run)) taken.0
     ∙ follow-taken S (advanced S h c) (suc i) run taken.1
     ∙ ap (λ (n : ℕ). Ran n (end_of S (after S (step S h.state c) run))) (omega arith)
 
@@ -278,86 +278,86 @@ follow-ran S h i (c ∷ run) n e p =
 
 -- ---- traces
 
-pub length-traceStep : (S : Set) (s : State) (w : Written) (c : Choice) → length (traceStep S s w c) ≡ stepLength
-unfolding traceStep stepBytes
-length-traceStep S s w c = refl
+pub length-trace_step : (S : Set) (s : State) (w : Written) (c : Choice) → length (trace_step S s w c) ≡ step_length
+unfolding trace_step step_bytes
+length-trace_step S s w c = refl
 
-pub length-trace : (S : Set) (s : State) (w : Written) (run : List Choice) → length (trace S s w run) ≡ stepLength * length run
+pub length-trace : (S : Set) (s : State) (w : Written) (run : List Choice) → length (trace S s w run) ≡ step_length * length run
 unfolding trace
 length-trace S s w [] = omega arith
 length-trace S s w (c ∷ run) =
-    length-append (traceStep S s w c) (trace S (step S s c) (written S s c) run)
-    ∙ omega (arith, length-traceStep S s w c, length-trace S (step S s c) (written S s c) run)
+    length-append (trace_step S s w c) (trace S (step S s c) (written S s c) run)
+    ∙ omega (arith, length-trace_step S s w c, length-trace S (step S s c) (written S s c) run)
 
 -- a trace's first step, and what follows it
 module _ (S : Set) (s : State) (w : Written) (c : Choice) where
-  pub take-trace : (run : List Choice) → take stepLength (trace S s w (c ∷ run)) ≡ traceStep S s w c
+  pub take-trace : (run : List Choice) → take step_length (trace S s w (c ∷ run)) ≡ trace_step S s w c
   unfolding trace
-  take-trace run = take_at (traceStep S s w c) (trace S (step S s c) (written S s c) run) stepLength (length-traceStep S s w c)
+  take-trace run = take_at (trace_step S s w c) (trace S (step S s c) (written S s c) run) step_length (length-trace_step S s w c)
 
-  pub drop-trace : (run : List Choice) → drop stepLength (trace S s w (c ∷ run)) ≡ trace S (step S s c) (written S s c) run
+  pub drop-trace : (run : List Choice) → drop step_length (trace S s w (c ∷ run)) ≡ trace S (step S s c) (written S s c) run
   unfolding trace
-  drop-trace run = drop_at (traceStep S s w c) (trace S (step S s c) (written S s c) run) stepLength (length-traceStep S s w c)
+  drop-trace run = drop_at (trace_step S s w c) (trace S (step S s c) (written S s c) run) step_length (length-trace_step S s w c)
 
 -- the choice of a step is read from its own record alone
-pub stepChoice-take : (bytes : List ℕ) → stepChoice (take stepLength bytes) ≡ stepChoice bytes
-unfolding stepChoice
-stepChoice-take bytes =
+pub step_choice-take : (bytes : List ℕ) → step_choice (take step_length bytes) ≡ step_choice bytes
+unfolding step_choice
+step_choice-take bytes =
     ap₂ (λ (n t : ℕ). cond (eqb n instructions) (Flush t) (Execute t))
-    (get_or-take stepLength bytes 1 0 (omega arith)) (get_or-take stepLength bytes 0 0 (omega arith))
+    (get_or-take step_length bytes 1 0 (omega arith)) (get_or-take step_length bytes 0 0 (omega arith))
 
 module _ (S : Set) (s : State) (w : Written) where
   -- a step's record shows its choice
-  pub stepChoice-execute : (t : ℕ) → (current S s t).number < instructions → stepChoice (traceStep S s w (Execute t)) ≡ Execute t
-  unfolding stepChoice traceStep stepBytes shown
-  stepChoice-execute t h = passed _ _ (ne_eqb (current S s t).number instructions (omega arith))
+  pub step_choice_execute : (t : ℕ) → (current S s t).number < instructions → step_choice (trace_step S s w (Execute t)) ≡ Execute t
+  unfolding step_choice trace_step step_bytes shown
+  step_choice_execute t h = passed _ _ (ne_eqb (current S s t).number instructions (omega arith))
 
-  pub stepChoice-flush : (t : ℕ) → stepChoice (traceStep S s w (Flush t)) ≡ Flush t
-  unfolding stepChoice traceStep stepBytes shown
-  stepChoice-flush t = refl
+  pub step_choice-flush : (t : ℕ) → step_choice (trace_step S s w (Flush t)) ≡ Flush t
+  unfolding step_choice trace_step step_bytes shown
+  step_choice-flush t = refl
 
-  pub stepChoice-traceStep : (c : Choice) → WellFormedSet S → Inside S s.threads → takes S s c ≡ true → stepChoice (traceStep S s w c) ≡ c
-  stepChoice-traceStep (Execute t) well inside e = stepChoice-execute t (number-inside S well s t inside (takes-actor S s (Execute t) e))
-  stepChoice-traceStep (Flush t) well inside e = stepChoice-flush t
+  pub step_choice-trace_step : (c : Choice) → WellFormedSet S → Inside S s.threads → takes S s c ≡ true → step_choice (trace_step S s w c) ≡ c
+  step_choice-trace_step (Execute t) well inside e = step_choice_execute t (number-inside S well s t inside (takes-actor S s (Execute t) e))
+  step_choice-trace_step (Flush t) well inside e = step_choice-flush t
 
-  pub stepChoice-trace : (c : Choice) (run : List Choice) → WellFormedSet S → Inside S s.threads → takes S s c ≡ true →
-      stepChoice (trace S s w (c ∷ run)) ≡ c
-  stepChoice-trace c run well inside e =
-      sym (stepChoice-take (trace S s w (c ∷ run))) ∙ ap stepChoice (take-trace S s w c run) ∙ stepChoice-traceStep c well inside e
+  pub step_choice-trace : (c : Choice) (run : List Choice) → WellFormedSet S → Inside S s.threads → takes S s c ≡ true →
+      step_choice (trace S s w (c ∷ run)) ≡ c
+  step_choice-trace c run well inside e =
+      sym (step_choice-take (trace S s w (c ∷ run))) ∙ ap step_choice (take-trace S s w c run) ∙ step_choice-trace_step c well inside e
 
 -- the choices that the first n steps of a trace show
-unfoldable pub stepChoices : ℕ → List ℕ → List Choice
-stepChoices zero bytes = []
-stepChoices (suc n) bytes = stepChoice bytes ∷ stepChoices n (drop stepLength bytes)
+unfoldable pub step_choices : ℕ → List ℕ → List Choice
+step_choices zero bytes = []
+step_choices (suc n) bytes = step_choice bytes ∷ step_choices n (drop step_length bytes)
 
-pub length-stepChoices : (n : ℕ) (bytes : List ℕ) → length (stepChoices n bytes) ≡ n
-unfolding stepChoices
-length-stepChoices zero bytes = refl
-length-stepChoices (suc n) bytes = ap suc (length-stepChoices n (drop stepLength bytes))
+pub length-step_choices : (n : ℕ) (bytes : List ℕ) → length (step_choices n bytes) ≡ n
+unfolding step_choices
+length-step_choices zero bytes = refl
+length-step_choices (suc n) bytes = ap suc (length-step_choices n (drop step_length bytes))
 
 -- a run's trace shows its choices
-pub stepChoices-trace : (S : Set) (s : State) (w : Written) (run : List Choice) → WellFormedSet S → Inside S s.threads →
-    isRun S s run ≡ true → stepChoices (length run) (trace S s w run) ≡ run
-unfolding stepChoices
-stepChoices-trace S s w [] well inside e = refl
-stepChoices-trace S s w (c ∷ run) well inside e =
-    ap₂ ◌∷◌ (stepChoice-trace S s w c run well inside (run-first S s c run e))
-    (ap (stepChoices (length run)) (drop-trace S s w c run)
-    ∙ stepChoices-trace S (step S s c) (written S s c) run well (inside-step S well s c inside) (run-rest S s c run e))
+pub step_choices-trace : (S : Set) (s : State) (w : Written) (run : List Choice) → WellFormedSet S → Inside S s.threads →
+    is_run S s run ≡ true → step_choices (length run) (trace S s w run) ≡ run
+unfolding step_choices
+step_choices-trace S s w [] well inside e = refl
+step_choices-trace S s w (c ∷ run) well inside e =
+    ap₂ ◌∷◌ (step_choice-trace S s w c run well inside (run-first S s c run e))
+    (ap (step_choices (length run)) (drop-trace S s w c run)
+    ∙ step_choices-trace S (step S s c) (written S s c) run well (inside-step S well s c inside) (run-rest S s c run e))
 
 -- a step that lacks a cell can be taken, and reads one that is not known
 module _ (S : Set) (h : Held) (c : Choice) where
-  pub lacking-takes : outcome S h c ≡ Lacking → takes S h.state c ≡ true
+  pub lacking_takes : outcome S h c ≡ Lacking → takes S h.state c ≡ true
   unfolding outcome
-  lacking-takes = go (takes S h.state c) (knowsAll h.known (reads S h.state c))
+  lacking_takes = go (takes S h.state c) (knows_all h.known (reads S h.state c))
     where
       go : (a b : Bool) → cond a (cond b Taken Lacking) NotPermitted ≡ Lacking → a ≡ true
       go true b e = refl
       go false b e = cc
 
-  pub lacking-knows : outcome S h c ≡ Lacking → knowsAll h.known (reads S h.state c) ≡ false
+  pub lacking_knows : outcome S h c ≡ Lacking → knows_all h.known (reads S h.state c) ≡ false
   unfolding outcome
-  lacking-knows = go (takes S h.state c) (knowsAll h.known (reads S h.state c))
+  lacking_knows = go (takes S h.state c) (knows_all h.known (reads S h.state c))
     where
       go : (a b : Bool) → cond a (cond b Taken Lacking) NotPermitted ≡ Lacking → b ≡ false
       go a false e = refl
@@ -367,7 +367,7 @@ module _ (S : Set) (h : Held) (c : Choice) where
 -- one that is not permitted cannot
 pub not-permitted-takes : (S : Set) (h : Held) (c : Choice) → outcome S h c ≡ NotPermitted → takes S h.state c ≡ false
 unfolding outcome
-not-permitted-takes S h c = go (takes S h.state c) (knowsAll h.known (reads S h.state c))
+not-permitted-takes S h c = go (takes S h.state c) (knows_all h.known (reads S h.state c))
   where
     go : (a b : Bool) → cond a (cond b Taken Lacking) NotPermitted ≡ NotPermitted → a ≡ false
     go false b e = refl
@@ -375,18 +375,18 @@ not-permitted-takes S h c = go (takes S h.state c) (knowsAll h.known (reads S h.
     go true false e = cc
 
 -- the cells that a step reads are known where those of its address word and of its data word are
-pub knows_both : (S : Set) (h : Held) (c : Choice) → knowsAll h.known (reads S h.state c) ≡ (addressKnown S h c && wordKnown S h c)
-unfolding reads addressKnown wordKnown
+pub knows_both : (S : Set) (h : Held) (c : Choice) → knows_all h.known (reads S h.state c) ≡ (address_known S h c && word_known S h c)
+unfolding reads address_known word_known
 knows_both S h (Execute t) = knows-cells (current S h.state t) (h.state.threads t) h.state.memory h.known
 knows_both S h (Flush t) = refl
 
 -- two records are the same where their other fields are and their effective addresses are
-pub same_step : (one other : List ℕ) → same one other ≡ (sameFields one other && sameAddress one other)
+pub same_step : (one other : List ℕ) → same one other ≡ (same_fields one other && same_address one other)
 same_step one other =
     same_parts 22 one other
     ∙ ap (λ (b : Bool). same (take 22 one) (take 22 other) && b)
-    (same_parts 2 (drop 22 one) (drop 22 other) ∙ ap₂ (λ (xs ys : List ℕ). sameAddress one other && same xs ys) (drop-drop 2 22 one) (drop-drop 2 22 other))
-    ∙ turned (same (take 22 one) (take 22 other)) (sameAddress one other) (same (drop 24 one) (drop 24 other))
+    (same_parts 2 (drop 22 one) (drop 22 other) ∙ ap₂ (λ (xs ys : List ℕ). same_address one other && same xs ys) (drop-drop 2 22 one) (drop-drop 2 22 other))
+    ∙ turned (same (take 22 one) (take 22 other)) (same_address one other) (same (drop 24 one) (drop 24 other))
   where
     turned : (p q r : Bool) → (p && (q && r)) ≡ (p && r && q)
     turned true true r = sym (and_yes r)

@@ -3,7 +3,7 @@
 use Rattle.std.specs.Prelude.{ℕ, Bool, false, cond, not, ◌&&◌, ◌||◌, List, [], ◌∷◌, ◌++◌, length, get_or}
 use Rattle.records.specs.Maps.{holds, content}
 use Rattle.records.specs.declared.Statement.{Statement}
-use Rattle.machine.specs.Machine.{State, fresh, unmarked, is_empty, needsEmpty}
+use Rattle.machine.specs.Machine.{State, fresh, unmarked, is_empty, needs_empty}
 use Rattle.machine.specs.Maps.{Held}
 use Rattle.machine.specs.declared.Choice.{Choice}
 use Rattle.machine.specs.declared.Choice.TheVariants.{Execute, Flush}
@@ -22,16 +22,16 @@ state_of m memory = record {
 }
 
 -- the first `filled` cells of the sparse memory
-abbrev pub memoryOf : List ℕ → List ℕ → ℕ → ℕ → ℕ
-memoryOf addresses values filled a = content (λ k. get_or addresses k 0) (λ k. get_or values k 0) filled a
+abbrev pub memory_of : List ℕ → List ℕ → ℕ → ℕ → ℕ
+memory_of addresses values filled a = content (λ k. get_or addresses k 0) (λ k. get_or values k 0) filled a
 
 -- the addresses of these cells are known
 abbrev pub known_of : List ℕ → ℕ → ℕ → Bool
 known_of addresses filled a = holds (λ k. get_or addresses k 0) filled a
 
 -- the whole of two slices
-abbrev pub memoryIn : List ℕ → List ℕ → ℕ → ℕ
-memoryIn addresses values = memoryOf addresses values (length addresses)
+abbrev pub memory_in : List ℕ → List ℕ → ℕ → ℕ
+memory_in addresses values = memory_of addresses values (length addresses)
 
 -- every address of a slice is known
 abbrev pub known_in : List ℕ → ℕ → Bool
@@ -39,17 +39,17 @@ known_in addresses = known_of addresses (length addresses)
 
 -- what a machine and its sparse memory hold
 abbrev pub held_of : Machine → List ℕ → List ℕ → ℕ → Held
-held_of m addresses values filled = record { state = state_of m (memoryOf addresses values filled); known = known_of addresses filled }
+held_of m addresses values filled = record { state = state_of m (memory_of addresses values filled); known = known_of addresses filled }
 
 -- the choice of a thread that is there is permitted, by its statement i, its registers x and whether it waits
-abbrev pub permittedBy : Choice → Statement → Thread → Bool → Bool
-permittedBy (Execute t) i x waiting = not x.halted && not waiting && (not (needsEmpty i.number) || is_empty x)
-permittedBy (Flush t) i x waiting = not (is_empty x)
+abbrev pub permitted_by : Choice → Statement → Thread → Bool → Bool
+permitted_by (Execute t) i x waiting = not x.halted && not waiting && (not (needs_empty i.number) || is_empty x)
+permitted_by (Flush t) i x waiting = not (is_empty x)
 
 -- the cells that a step read, as the code reports them
 abbrev pub cells_of : Read → List ℕ
 cells_of r = cond r.argument (r.first ∷ []) [] ++ cond r.word (r.second ∷ []) []
 
 -- no cell read
-abbrev pub noRead : Read
-noRead = record { argument = false; first = 0; word = false; second = 0 }
+abbrev pub no_read : Read
+no_read = record { argument = false; first = 0; word = false; second = 0 }

@@ -3,7 +3,7 @@
 use Rattle.std.specs.Prelude.{ℕ, suc, Bool, true, false, cond, not, ◌&&◌, ◌||◌, List, [], ◌∷◌, ◌++◌, eqb, ltb}
 use Rattle.base.specs.Below.{every, some}
 use Rattle.base.specs.Words.{plus, minus, times, top_bit}
-use Rattle.records.specs.Instructions.{LOAD, STORE, FENCE, ADD, ADDI, SUB, SUBI, MUL, MULI, JMP, JZ, JNZ, JS, JNS, JNZNS, MEM, CAS, HALT, EXIT, CHECK, instructions, isMemory}
+use Rattle.records.specs.Instructions.{LOAD, STORE, FENCE, ADD, ADDI, SUB, SUBI, MUL, MULI, JMP, JZ, JNZ, JS, JNS, JNZNS, MEM, CAS, HALT, EXIT, CHECK, instructions, is_memory}
 use Rattle.records.specs.Sets.{Set}
 use Rattle.records.specs.declared.Statement.{Statement}
 use Rattle.machine.specs.declared.Choice.{Choice}
@@ -60,70 +60,70 @@ flushed x = record { accu = x.accu; mem = x.mem; adr = x.adr; val = x.val; full 
 -- ---- other registers
 
 -- the registers with accu v
-abbrev pub withAccu : ℕ → Thread → Thread
-withAccu v x = record { accu = v; mem = x.mem; adr = x.adr; val = x.val; full = x.full; pc = x.pc; halted = x.halted }
+abbrev pub with_accu : ℕ → Thread → Thread
+with_accu v x = record { accu = v; mem = x.mem; adr = x.adr; val = x.val; full = x.full; pc = x.pc; halted = x.halted }
 
 -- the registers with mem v
-abbrev pub withMem : ℕ → Thread → Thread
-withMem v x = record { accu = x.accu; mem = v; adr = x.adr; val = x.val; full = x.full; pc = x.pc; halted = x.halted }
+abbrev pub with_mem : ℕ → Thread → Thread
+with_mem v x = record { accu = x.accu; mem = v; adr = x.adr; val = x.val; full = x.full; pc = x.pc; halted = x.halted }
 
 -- the registers with pc p
-abbrev pub withPc : ℕ → Thread → Thread
-withPc p x = record { accu = x.accu; mem = x.mem; adr = x.adr; val = x.val; full = x.full; pc = p; halted = x.halted }
+abbrev pub with_pc : ℕ → Thread → Thread
+with_pc p x = record { accu = x.accu; mem = x.mem; adr = x.adr; val = x.val; full = x.full; pc = p; halted = x.halted }
 
 -- the registers of a thread that has halted
-abbrev pub withHalt : Thread → Thread
-withHalt x = record { accu = x.accu; mem = x.mem; adr = x.adr; val = x.val; full = x.full; pc = x.pc; halted = true }
+abbrev pub with_halt : Thread → Thread
+with_halt x = record { accu = x.accu; mem = x.mem; adr = x.adr; val = x.val; full = x.full; pc = x.pc; halted = true }
 
 -- ---- what a statement reads
 
 -- Arguments in square brackets are indirect: the address is the load of the argument, forwarding included. 0 for other than memory words.
 unfoldable pub address : Statement → Thread → (ℕ → ℕ) → ℕ
 address i x memory =
-    cond (isMemory i.number) (cond (eqb i.mode 1) (load x memory i.argument) i.argument) 0
+    cond (is_memory i.number) (cond (eqb i.mode 1) (load x memory i.argument) i.argument) 0
 
 -- LOAD, ADD, SUB, MUL, MEM and CAS take a word at their address; STORE takes none.
-abbrev pub takesWord : ℕ → Bool
-takesWord n = isMemory n && not (eqb n STORE)
+abbrev pub takes_word : ℕ → Bool
+takes_word n = is_memory n && not (eqb n STORE)
 
 -- the word taken: the load of the address; of CAS the cell. 0 where none is taken
-unfoldable pub wordTaken : Statement → Thread → (ℕ → ℕ) → ℕ
-wordTaken i x memory =
-    cond (takesWord i.number)
+unfoldable pub word_taken : Statement → Thread → (ℕ → ℕ) → ℕ
+word_taken i x memory =
+    cond (takes_word i.number)
     (cond (eqb i.number CAS) (memory (address i x memory)) (load x memory (address i x memory)))
     0
 
 -- the address word is read from its cell: it is indirect and not forwarded
-abbrev pub readsArgument : Statement → Thread → Bool
-readsArgument i x = isMemory i.number && eqb i.mode 1 && not (forwards x i.argument)
+abbrev pub reads_argument : Statement → Thread → Bool
+reads_argument i x = is_memory i.number && eqb i.mode 1 && not (forwards x i.argument)
 
 -- the word taken is read from its cell: by a load not forwarded or a CAS
-abbrev pub readsAddress : Statement → Thread → ℕ → Bool
-readsAddress i x a = takesWord i.number && (eqb i.number CAS || not (forwards x a))
+abbrev pub reads_address : Statement → Thread → ℕ → Bool
+reads_address i x a = takes_word i.number && (eqb i.number CAS || not (forwards x a))
 
 -- the cells that a statement reads, the address word first
-unfoldable pub cellsRead : Statement → Thread → (ℕ → ℕ) → List ℕ
-cellsRead i x memory =
-    cond (readsArgument i x) (i.argument ∷ []) []
-    ++ cond (readsAddress i x (address i x memory)) (address i x memory ∷ []) []
+unfoldable pub cells_read : Statement → Thread → (ℕ → ℕ) → List ℕ
+cells_read i x memory =
+    cond (reads_argument i x) (i.argument ∷ []) []
+    ++ cond (reads_address i x (address i x memory)) (address i x memory ∷ []) []
 
 -- ---- the table of instructions
 
 -- the registers after statement number n, its pc apart: a is its address, w the word taken
 unfoldable pub row : ℕ → (argument a w : ℕ) → Thread → Thread
 row n argument a w x =
-    cond (eqb n LOAD) (withAccu w x)
+    cond (eqb n LOAD) (with_accu w x)
     (cond (eqb n STORE) (buffered a x)
     (cond (eqb n FENCE) x
-    (cond (eqb n ADD) (withAccu (plus x.accu w) x)
-    (cond (eqb n ADDI) (withAccu (plus x.accu argument) x)
-    (cond (eqb n SUB) (withAccu (minus x.accu w) x)
-    (cond (eqb n SUBI) (withAccu (minus x.accu argument) x)
-    (cond (eqb n MUL) (withAccu (times x.accu w) x)
-    (cond (eqb n MULI) (withAccu (times x.accu argument) x)
-    (cond (eqb n MEM) (withAccu w (withMem w x))
-    (cond (eqb n CAS) (withAccu (cond (eqb w x.mem) 1 0) x)
-    (cond (eqb n HALT) (withHalt x) x)))))))))))
+    (cond (eqb n ADD) (with_accu (plus x.accu w) x)
+    (cond (eqb n ADDI) (with_accu (plus x.accu argument) x)
+    (cond (eqb n SUB) (with_accu (minus x.accu w) x)
+    (cond (eqb n SUBI) (with_accu (minus x.accu argument) x)
+    (cond (eqb n MUL) (with_accu (times x.accu w) x)
+    (cond (eqb n MULI) (with_accu (times x.accu argument) x)
+    (cond (eqb n MEM) (with_accu w (with_mem w x))
+    (cond (eqb n CAS) (with_accu (cond (eqb w x.mem) 1 0) x)
+    (cond (eqb n HALT) (with_halt x) x)))))))))))
 
 -- jumps: always; accu zero, not zero; top bit set, unset, unset and accu not 0
 unfoldable pub jumps : ℕ → ℕ → Bool
@@ -136,37 +136,37 @@ jumps n accu =
     (cond (eqb n JNZNS) (not (top_bit accu) && not (eqb accu 0)) false)))))
 
 -- A statement that neither jumps, halts nor exits goes to pc + 1.
-unfoldable pub nextPc : Statement → Thread → ℕ
-nextPc i x =
+unfoldable pub next_pc : Statement → Thread → ℕ
+next_pc i x =
     cond (eqb i.number HALT || eqb i.number EXIT || not (ltb i.number instructions)) x.pc
     (cond (jumps i.number x.accu) i.argument (suc x.pc))
 
 -- the registers after a statement
 unfoldable pub executed : Statement → (ℕ → ℕ) → Thread → Thread
 executed i memory x =
-    withPc (nextPc i x) (row i.number i.argument (address i x memory) (wordTaken i x memory) x)
+    with_pc (next_pc i x) (row i.number i.argument (address i x memory) (word_taken i x memory) x)
 
 -- a CAS whose cell equals mem
-unfoldable pub casMatches : Statement → Thread → (ℕ → ℕ) → Bool
-casMatches i x memory = eqb i.number CAS && eqb (wordTaken i x memory) x.mem
+unfoldable pub cas_matches : Statement → Thread → (ℕ → ℕ) → Bool
+cas_matches i x memory = eqb i.number CAS && eqb (word_taken i x memory) x.mem
 
 -- ---- checkpoints
 
 -- thread t's statement p is CHECK c
-abbrev pub isCheck : Set → ℕ → ℕ → ℕ → Bool
-isCheck S t c p = eqb (S.statement t p).number CHECK && eqb (S.statement t p).argument c
+abbrev pub is_check : Set → ℕ → ℕ → ℕ → Bool
+is_check S t c p = eqb (S.statement t p).number CHECK && eqb (S.statement t p).argument c
 
 -- thread t contains CHECK c
 unfoldable pub contains : Set → ℕ → ℕ → Bool
-contains S t c = some (S.count t) (isCheck S t c)
+contains S t c = some (S.count t) (is_check S t c)
 
 -- the mark is one at checkpoint c
-abbrev pub markedAt : Mark → ℕ → Bool
-markedAt m c = m.on && eqb m.checkpoint c
+abbrev pub marked_at : Mark → ℕ → Bool
+marked_at m c = m.on && eqb m.checkpoint c
 
 -- A checkpoint opens when every thread containing that CHECK is marked.
 unfoldable pub opened : Set → (ℕ → Mark) → ℕ → Bool
-opened S marks c = every S.threads (λ t. not (contains S t c) || markedAt (marks t) c)
+opened S marks c = every S.threads (λ t. not (contains S t c) || marked_at (marks t) c)
 
 -- A marked thread waits until then.
 unfoldable pub waiting : Set → (ℕ → Mark) → ℕ → Bool
@@ -179,8 +179,8 @@ abbrev pub current : Set → State → ℕ → Statement
 current S s t = S.statement t (s.threads t).pc
 
 -- STORE, FENCE, CAS and HALT also need full = 0.
-abbrev pub needsEmpty : ℕ → Bool
-needsEmpty n = eqb n STORE || eqb n FENCE || eqb n CAS || eqb n HALT
+abbrev pub needs_empty : ℕ → Bool
+needs_empty n = eqb n STORE || eqb n FENCE || eqb n CAS || eqb n HALT
 
 -- Executing needs that the thread has not halted and is not waiting. Flush needs full = 1; waiting does not forbid it.
 unfoldable pub permitted : Set → State → Choice → Bool
@@ -188,7 +188,7 @@ permitted S s (Execute t) =
     ltb t S.threads
     && not (s.threads t).halted
     && not (waiting S s.marks t)
-    && (not (needsEmpty (current S s t).number) || is_empty (s.threads t))
+    && (not (needs_empty (current S s t).number) || is_empty (s.threads t))
 permitted S s (Flush t) = ltb t S.threads && not (is_empty (s.threads t))
 
 -- ---- one step
@@ -204,28 +204,28 @@ acted S s (Execute t) = executed (current S s t) s.memory (s.threads t)
 acted S s (Flush t) = flushed (s.threads t)
 
 -- One step changes the acting thread's registers and none of another thread's.
-abbrev pub threadsAfter : Set → State → Choice → ℕ → Thread
-threadsAfter S s c u = cond (eqb u (actor c)) (acted S s c) (s.threads u)
+abbrev pub threads_after : Set → State → Choice → ℕ → Thread
+threads_after S s c u = cond (eqb u (actor c)) (acted S s c) (s.threads u)
 
 -- CHECK marks the thread at that checkpoint.
-unfoldable pub leavesMark : Set → State → Choice → Bool
-leavesMark S s (Execute t) = eqb (current S s t).number CHECK
-leavesMark S s (Flush t) = false
+unfoldable pub leaves_mark : Set → State → Choice → Bool
+leaves_mark S s (Execute t) = eqb (current S s t).number CHECK
+leaves_mark S s (Flush t) = false
 
 -- The next step, by anyone, clears an open checkpoint's marks.
 unfoldable pub cleared : Set → (ℕ → Mark) → ℕ → Mark
 cleared S marks u = cond ((marks u).on && opened S marks (marks u).checkpoint) unmarked (marks u)
 
 -- the marks after a step: a CHECK's own is set after the clearing, also where this very step clears that checkpoint (request 2026-05)
-abbrev pub marksAfter : Set → State → Choice → ℕ → Mark
-marksAfter S s c u =
-    cond (leavesMark S s c && eqb u (actor c))
+abbrev pub marks_after : Set → State → Choice → ℕ → Mark
+marks_after S s c u =
+    cond (leaves_mark S s c && eqb u (actor c))
     (record { on = true; checkpoint = (current S s (actor c)).argument })
     (cleared S s.marks u)
 
 -- no cell written
-abbrev pub noWrite : Written
-noWrite = record { done = false; address = 0; value = 0 }
+abbrev pub no_write : Written
+no_write = record { done = false; address = 0; value = 0 }
 
 -- v written at address a
 abbrev pub wrote : (a v : ℕ) → Written
@@ -234,14 +234,14 @@ wrote a v = record { done = true; address = a; value = v }
 -- the cell that a step writes: a flush val at adr, a CAS that matches accu at its address
 unfoldable pub written : Set → State → Choice → Written
 written S s (Execute t) =
-    cond (casMatches (current S s t) (s.threads t) s.memory)
+    cond (cas_matches (current S s t) (s.threads t) s.memory)
     (wrote (address (current S s t) (s.threads t) s.memory) (s.threads t).accu)
-    noWrite
+    no_write
 written S s (Flush t) = wrote (s.threads t).adr (s.threads t).val
 
 -- the memory once the write is made, if there is one
-abbrev pub memoryAfter : Written → (ℕ → ℕ) → ℕ → ℕ
-memoryAfter w memory a = cond (w.done && eqb w.address a) w.value (memory a)
+abbrev pub memory_after : Written → (ℕ → ℕ) → ℕ → ℕ
+memory_after w memory a = cond (w.done && eqb w.address a) w.value (memory a)
 
 -- EXIT: the machine ends, its code the argument.
 abbrev pub exits : Set → State → Choice → Bool
@@ -249,20 +249,20 @@ exits S s (Execute t) = eqb (current S s t).number EXIT
 exits S s (Flush t) = false
 
 -- When all threads have halted the machine ends, its code 0: the one it starts with, which EXIT alone changes.
-abbrev pub allHalted : Set → (ℕ → Thread) → Bool
-allHalted S threads = every S.threads (λ t. (threads t).halted)
+abbrev pub all_halted : Set → (ℕ → Thread) → Bool
+all_halted S threads = every S.threads (λ t. (threads t).halted)
 
 -- the state after a step
 unfoldable pub step : Set → State → Choice → State
 step S s c = record {
-  threads = threadsAfter S s c;
-  marks = marksAfter S s c;
-  memory = memoryAfter (written S s c) s.memory;
-  ended = s.ended || exits S s c || allHalted S (threadsAfter S s c);
+  threads = threads_after S s c;
+  marks = marks_after S s c;
+  memory = memory_after (written S s c) s.memory;
+  ended = s.ended || exits S s c || all_halted S (threads_after S s c);
   code = cond (exits S s c) (current S s (actor c)).argument s.code;
 }
 
 -- the cells that a step reads: by a load not forwarded or a CAS
 unfoldable pub reads : Set → State → Choice → List ℕ
-reads S s (Execute t) = cellsRead (current S s t) (s.threads t) s.memory
+reads S s (Execute t) = cells_read (current S s t) (s.threads t) s.memory
 reads S s (Flush t) = []

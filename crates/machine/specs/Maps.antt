@@ -1,11 +1,11 @@
 -- Runs over a map: the same machine, with the cells that are mapped or written known, by choices or along a trace (document 01, "Records", refusals
 -- 12 to 14; of effective addresses change request 2026-07). A reader of the calls believes this. Assumes nothing.
 use Rattle.std.specs.Prelude.{ℕ, zero, suc, Bool, true, cond, not, ◌&&◌, ◌||◌, List, [], ◌∷◌, eqb, take, drop}
-use Rattle.records.specs.Maps.{mapped, mapValue}
+use Rattle.records.specs.Maps.{mapped, map_value}
 use Rattle.records.specs.Sets.{Set}
-use Rattle.machine.specs.Machine.{State, start, address, readsArgument, readsAddress, current, step, written, reads}
+use Rattle.machine.specs.Machine.{State, start, address, reads_argument, reads_address, current, step, written, reads}
 use Rattle.machine.specs.Runs.{takes, end_of}
-use Rattle.machine.specs.Traces.{stepLength, traceStep, sameFields, sameAddress, stepChoice}
+use Rattle.machine.specs.Traces.{step_length, trace_step, same_fields, same_address, step_choice}
 use Rattle.machine.specs.declared.RunAnswer.{RunAnswer}
 use Rattle.machine.specs.declared.RunAnswer.TheVariants.{Ran, Refused}
 use Rattle.machine.specs.declared.Choice.{Choice}
@@ -21,56 +21,56 @@ pub record Held : Type 0 where
 
 -- the start over a map: its cells are known
 unfoldable pub begin : List ℕ → Held
-begin map = record { state = start (mapValue map); known = mapped map }
+begin map = record { state = start (map_value map); known = mapped map }
 
 -- each of these cells is known
-abbrev pub knowsAll : (ℕ → Bool) → List ℕ → Bool
-knowsAll known [] = true
-knowsAll known (a ∷ addresses) = known a && knowsAll known addresses
+abbrev pub knows_all : (ℕ → Bool) → List ℕ → Bool
+knows_all known [] = true
+knows_all known (a ∷ addresses) = known a && knows_all known addresses
 
 -- a written cell is known from then on
-abbrev pub knownAfter : Written → (ℕ → Bool) → ℕ → Bool
-knownAfter w known a = w.done && eqb w.address a || known a
+abbrev pub known_after : Written → (ℕ → Bool) → ℕ → Bool
+known_after w known a = w.done && eqb w.address a || known a
 
 -- a step's outcome: not permitted, a first cell read that the map lacks, or taken
 unfoldable pub outcome : Set → Held → Choice → Outcome
 outcome S h c =
     cond (takes S h.state c)
-    (cond (knowsAll h.known (reads S h.state c)) Taken Lacking)
+    (cond (knows_all h.known (reads S h.state c)) Taken Lacking)
     NotPermitted
 
 -- the state after a step, and the cells known then
 unfoldable pub advanced : Set → Held → Choice → Held
-advanced S h c = record { state = step S h.state c; known = knownAfter (written S h.state c) h.known }
+advanced S h c = record { state = step S h.state c; known = known_after (written S h.state c) h.known }
 
 -- what an outcome at step i gives: 12, 14, or what the rest gives
-abbrev pub onOutcome : Outcome → ℕ → RunAnswer → RunAnswer
-onOutcome Taken i rest = rest
-onOutcome NotPermitted i rest = Refused 12 i
-onOutcome Lacking i rest = Refused 14 i
+abbrev pub on_outcome : Outcome → ℕ → RunAnswer → RunAnswer
+on_outcome Taken i rest = rest
+on_outcome NotPermitted i rest = Refused 12 i
+on_outcome Lacking i rest = Refused 14 i
 
 -- the run of a list of choices, from step i on
 unfoldable pub follow : Set → Held → ℕ → List Choice → RunAnswer
 follow S h i [] = Ran i (end_of S h.state)
-follow S h i (c ∷ run) = onOutcome (outcome S h c) i (follow S (advanced S h c) (suc i) run)
+follow S h i (c ∷ run) = on_outcome (outcome S h c) i (follow S (advanced S h c) (suc i) run)
 
 -- ---- along a trace
 
 -- the cell of a step's address word is known, where it is read
-unfoldable pub addressKnown : Set → Held → Choice → Bool
-addressKnown S h (Execute t) =
+unfoldable pub address_known : Set → Held → Choice → Bool
+address_known S h (Execute t) =
     let i = current S h.state t in
-    not (readsArgument i (h.state.threads t)) || h.known i.argument
-addressKnown S h (Flush t) = true
+    not (reads_argument i (h.state.threads t)) || h.known i.argument
+address_known S h (Flush t) = true
 
 -- the cell of its data word is known, where it is read
-unfoldable pub wordKnown : Set → Held → Choice → Bool
-wordKnown S h (Execute t) =
+unfoldable pub word_known : Set → Held → Choice → Bool
+word_known S h (Execute t) =
     let i = current S h.state t in
     let x = h.state.threads t in
     let a = address i x h.state.memory in
-    not (readsAddress i x a) || h.known a
-wordKnown S h (Flush t) = true
+    not (reads_address i x a) || h.known a
+word_known S h (Flush t) = true
 
 -- where a test holds the rest, else a refusal at step i
 abbrev pub demands : Bool → (number i : ℕ) → RunAnswer → RunAnswer
@@ -81,12 +81,12 @@ demands test number i rest = cond test rest (Refused number i)
 unfoldable pub retrace : Set → Held → Written → ℕ → ℕ → List ℕ → RunAnswer
 retrace S h w i zero bytes = Ran i (end_of S h.state)
 retrace S h w i (suc n) bytes =
-    let c = stepChoice bytes in
-    let given = take stepLength bytes in
-    let right = traceStep S h.state w c in
+    let c = step_choice bytes in
+    let given = take step_length bytes in
+    let right = trace_step S h.state w c in
     demands (takes S h.state c) 12 i
-    (demands (sameFields given right) 13 i
-    (demands (addressKnown S h c) 14 i
-    (demands (sameAddress given right) 13 i
-    (demands (wordKnown S h c) 14 i
-    (retrace S (advanced S h c) (written S h.state c) (suc i) n (drop stepLength bytes))))))
+    (demands (same_fields given right) 13 i
+    (demands (address_known S h c) 14 i
+    (demands (same_address given right) 13 i
+    (demands (word_known S h c) 14 i
+    (retrace S (advanced S h c) (written S h.state c) (suc i) n (drop step_length bytes))))))

@@ -10,16 +10,16 @@ use Rattle.machine.specs.declared.End.{End}
 use Rattle.machine.specs.declared.End.TheVariants.{Code, Stuck, Open}
 
 -- the most steps of a schedule and of a trace
-abbrev pub mostSteps : ℕ
-mostSteps = 64
+abbrev pub most_steps : ℕ
+most_steps = 64
 
 -- schedule bytes from here on flush
-abbrev pub flushByte : ℕ
-flushByte = 128
+abbrev pub flush_byte : ℕ
+flush_byte = 128
 
 -- Schedule byte: t executes thread t, 128 + t flushes it; any other byte is a choice not permitted.
 unfoldable pub choice_of : ℕ → Choice
-choice_of k = cond (ltb k flushByte) (Execute k) (Flush (k - flushByte))
+choice_of k = cond (ltb k flush_byte) (Execute k) (Flush (k - flush_byte))
 
 -- the choices of a schedule, byte by byte
 unfoldable pub choices : List ℕ → List Choice
@@ -31,9 +31,9 @@ abbrev pub takes : Set → State → Choice → Bool
 takes S s c = not s.ended && permitted S s c
 
 -- A run is a list of choices, each permitted when taken and none after the end.
-unfoldable pub isRun : Set → State → List Choice → Bool
-isRun S s [] = true
-isRun S s (c ∷ run) = takes S s c && isRun S (step S s c) run
+unfoldable pub is_run : Set → State → List Choice → Bool
+is_run S s [] = true
+is_run S s (c ∷ run) = takes S s c && is_run S (step S s c) run
 
 -- the state after a run
 unfoldable pub after : Set → State → List Choice → State
@@ -41,13 +41,13 @@ after S s [] = s
 after S s (c ∷ run) = after S (step S s c) run
 
 -- thread t is permitted a choice
-abbrev pub canAct : Set → State → ℕ → Bool
-canAct S s t = permitted S s (Execute t) || permitted S s (Flush t)
+abbrev pub can_act : Set → State → ℕ → Bool
+can_act S s t = permitted S s (Execute t) || permitted S s (Flush t)
 
 -- some choice is permitted
-unfoldable pub somePermitted : Set → State → Bool
-somePermitted S s = some S.threads (canAct S s)
+unfoldable pub some_permitted : Set → State → Bool
+some_permitted S s = some S.threads (can_act S s)
 
 -- A run that has not ended is stuck if no choice is permitted, else open.
 unfoldable pub end_of : Set → State → End
-end_of S s = cond s.ended (Code s.code) (cond (somePermitted S s) Open Stuck)
+end_of S s = cond s.ended (Code s.code) (cond (some_permitted S s) Open Stuck)

@@ -1,8 +1,8 @@
 // Checkpoints: which threads contain a CHECK, when a checkpoint is open, and the marks that a step clears.
 ghost use Rattle.std.specs.Prelude.{◌≡◌, cond, not, ◌&&◌, ◌||◌, eqb, get_or};
 ghost use Rattle.records.specs.Instructions.{CHECK as check};
-ghost use Rattle.records.specs.Sets.{setBy};
-ghost use Rattle.machine.specs.Machine.{unmarked, contains as containsOf, markedAt, opened as opened_of, cleared as clearedOf};
+ghost use Rattle.records.specs.Sets.{set_by};
+ghost use Rattle.machine.specs.Machine.{unmarked, contains as contains_of, marked_at, opened as opened_of, cleared as cleared_of};
 
 use crate::Mark;
 use records::instructions::CHECK;
@@ -20,7 +20,7 @@ fn checks(i: Statement, c: u16) -> bool
 
 // Whether thread t contains CHECK c.
 fn contains(set: &[u8], layout: Layout, t: u8, c: u16) -> bool
-    ensures { result ≡ containsOf (setBy set.now layout) t c }
+    ensures { result ≡ contains_of (set_by set.now layout) t c }
 {
     let n = records::count(layout, t);
     let first = records::first(layout, t);
@@ -37,7 +37,7 @@ fn contains(set: &[u8], layout: Layout, t: u8, c: u16) -> bool
 
 // Whether a mark is one at checkpoint c.
 fn marked_at(m: Mark, c: u16) -> bool
-    ensures { result ≡ markedAt m c }
+    ensures { result ≡ marked_at m c }
 {
     if m.on {
         return m.checkpoint == c;
@@ -61,7 +61,7 @@ fn mark_of(marks: [Mark; Layout::THREADS], t: u8) -> Mark
 
 // Whether thread t keeps checkpoint c shut: it contains CHECK c and is not marked there.
 fn shuts(set: &[u8], layout: Layout, m: Mark, t: u8, c: u16) -> bool
-    ensures { not result ≡ (not (containsOf (setBy set.now layout) t c) || markedAt m c) }
+    ensures { not result ≡ (not (contains_of (set_by set.now layout) t c) || marked_at m c) }
 {
     if marked_at(m, c) {
         return false;
@@ -71,7 +71,7 @@ fn shuts(set: &[u8], layout: Layout, m: Mark, t: u8, c: u16) -> bool
 
 // Whether checkpoint c is open: every thread containing CHECK c is marked there.
 pub fn opened(set: &[u8], layout: Layout, marks: [Mark; Layout::THREADS], c: u16) -> bool
-    ensures { result ≡ opened_of (setBy set.now layout) (λ t. get_or marks t unmarked) c }
+    ensures { result ≡ opened_of (set_by set.now layout) (λ t. get_or marks t unmarked) c }
 {
     let mut t: u8 = 0;
     while t < layout.threads {
@@ -85,7 +85,7 @@ pub fn opened(set: &[u8], layout: Layout, marks: [Mark; Layout::THREADS], c: u16
 
 // Whether a mark is at an open checkpoint.
 fn clears(set: &[u8], layout: Layout, marks: [Mark; Layout::THREADS], m: Mark) -> bool
-    ensures { result ≡ (m.on && opened_of (setBy set.now layout) (λ t. get_or marks t unmarked) m.checkpoint) }
+    ensures { result ≡ (m.on && opened_of (set_by set.now layout) (λ t. get_or marks t unmarked) m.checkpoint) }
 {
     if m.on {
         return opened(set, layout, marks, m.checkpoint);
@@ -102,8 +102,8 @@ fn clears_too(
     other: Mark,
     known: bool,
 ) -> bool
-    requires { known ≡ (other.on && opened_of (setBy set.now layout) (λ t. get_or marks t unmarked) other.checkpoint) }
-    ensures { result ≡ (m.on && opened_of (setBy set.now layout) (λ t. get_or marks t unmarked) m.checkpoint) }
+    requires { known ≡ (other.on && opened_of (set_by set.now layout) (λ t. get_or marks t unmarked) other.checkpoint) }
+    ensures { result ≡ (m.on && opened_of (set_by set.now layout) (λ t. get_or marks t unmarked) m.checkpoint) }
 {
     if m.on {
         if marked_at(other, m.checkpoint) {
@@ -129,7 +129,7 @@ fn kept(cleared: bool, m: Mark) -> Mark
 
 // The marks once those of open checkpoints are cleared.
 pub fn clear(set: &[u8], layout: Layout, marks: [Mark; Layout::THREADS]) -> [Mark; Layout::THREADS]
-    ensures { (λ t. get_or result t unmarked) ≡ clearedOf (setBy set.now layout) (λ t. get_or marks t unmarked) }
+    ensures { (λ t. get_or result t unmarked) ≡ cleared_of (set_by set.now layout) (λ t. get_or marks t unmarked) }
 {
     let a = clears(set, layout, marks, marks[0]);
     let b = clears_too(set, layout, marks, marks[1], marks[0], a);

@@ -1,8 +1,8 @@
 // Which choices are permitted.
 ghost use Rattle.std.specs.Prelude.{◌≡◌, not, ◌&&◌, ℕ, leb, get_or};
-ghost use Rattle.records.specs.Sets.{setBy, mostThreads};
-ghost use Rattle.machine.specs.Held.{state_of, permittedBy};
-ghost use Rattle.machine.specs.Machine.{unmarked, needsEmpty, opened, actor as actorOf, permitted};
+ghost use Rattle.records.specs.Sets.{set_by, most_threads};
+ghost use Rattle.machine.specs.Held.{state_of, permitted_by};
+ghost use Rattle.machine.specs.Machine.{unmarked, needs_empty, opened, actor as actor_of, permitted};
 
 use crate::{Choice, Machine, Mark, Thread, checkpoints};
 use records::instructions::{CAS, FENCE, HALT, STORE};
@@ -10,7 +10,7 @@ use records::{Layout, Statement};
 
 // STORE, FENCE, CAS and HALT.
 pub fn needs_empty(n: u8) -> bool
-    ensures { result ≡ needsEmpty n }
+    ensures { result ≡ needs_empty n }
 {
     (n == STORE) | (n == FENCE) | (n == CAS) | (n == HALT)
 }
@@ -26,7 +26,7 @@ pub fn may(
     x: Thread,
     choice: Choice,
 ) -> bool
-    ensures { result ≡ permittedBy choice i x (mark.on && not (opened (setBy set.now layout) (λ u. get_or marks u unmarked) mark.checkpoint)) }
+    ensures { result ≡ permitted_by choice i x (mark.on && not (opened (set_by set.now layout) (λ u. get_or marks u unmarked) mark.checkpoint)) }
 {
     match choice {
         Choice::Execute(_) => {
@@ -45,7 +45,7 @@ pub fn may(
 
 // The acting thread.
 pub fn actor(choice: Choice) -> u8
-    ensures { result ≡ actorOf choice }
+    ensures { result ≡ actor_of choice }
 {
     match choice {
         Choice::Execute(t) => t,
@@ -55,7 +55,7 @@ pub fn actor(choice: Choice) -> u8
 
 // Whether a choice is permitted, whether or not the machine has ended; none is of more than four threads.
 pub fn permits(set: &[u8], layout: Layout, m: Machine, choice: Choice) -> bool
-    ensures { (memory : ℕ → ℕ) → result ≡ (leb layout.threads mostThreads && permitted (setBy set.now layout) (state_of m memory) choice) }
+    ensures { (memory : ℕ → ℕ) → result ≡ (leb layout.threads most_threads && permitted (set_by set.now layout) (state_of m memory) choice) }
 {
     let t = actor(choice);
     if Machine::THREADS < layout.threads {

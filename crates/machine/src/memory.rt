@@ -3,7 +3,7 @@
 ghost use Rattle.std.specs.Prelude.{◌≡◌, true, ◌≤◌, eqb, length, get_or};
 ghost use Rattle.base.specs.Below.{some};
 ghost use Rattle.records.specs.Maps.{cell_at};
-ghost use Rattle.machine.specs.Held.{memoryIn, known_in};
+ghost use Rattle.machine.specs.Held.{memory_in, known_in};
 
 // Cells that are passed over at a time.
 const GROUP: usize = 16;
@@ -64,7 +64,7 @@ pub fn cell_at(addresses: &[u16], a: u16) -> usize
 // What is known of the cell at address a.
 pub fn look(addresses: &[u16], values: &[u16], a: u16) -> Word
     ensures { (result.known ≡ known_in addresses.now a)
-        × (result.value ≡ memoryIn addresses.now values.now a) × (result.read ≡ true) }
+        × (result.value ≡ memory_in addresses.now values.now a) × (result.read ≡ true) }
 {
     let i = cell_at(addresses, a);
     if addresses.len() <= i {

@@ -1,9 +1,9 @@
 // What a statement takes from its thread's buffer and from memory. The slices hold the cells that are known.
 ghost use Rattle.std.specs.Prelude.{◌≡◌, true, not, ◌||◌};
-ghost use Rattle.records.specs.Instructions.{isMemory};
-ghost use Rattle.machine.specs.Held.{noRead, memoryIn, known_in, cells_of};
-ghost use Rattle.machine.specs.Machine.{load as load_of, forwards, address as address_of, takesWord, wordTaken, cellsRead, readsArgument, readsAddress};
-ghost use Rattle.machine.specs.Maps.{knowsAll};
+ghost use Rattle.records.specs.Instructions.{is_memory};
+ghost use Rattle.machine.specs.Held.{no_read, memory_in, known_in, cells_of};
+ghost use Rattle.machine.specs.Machine.{load as load_of, forwards, address as address_of, takes_word, word_taken, cells_read, reads_argument, reads_address};
+ghost use Rattle.machine.specs.Maps.{knows_all};
 
 use crate::memory::Word;
 use crate::{Read, Thread, memory};
@@ -23,7 +23,7 @@ pub struct Operand {
 // A load of address a, forwarding included.
 fn load(x: Thread, addresses: &[u16], values: &[u16], a: u16) -> Word
     ensures { (result.known ≡ (forwards x a || known_in addresses.now a))
-        × (result.value ≡ load_of x (memoryIn addresses.now values.now) a) × (result.read ≡ not (forwards x a)) }
+        × (result.value ≡ load_of x (memory_in addresses.now values.now) a) × (result.read ≡ not (forwards x a)) }
 {
     if x.full {
         if x.adr == a {
@@ -39,9 +39,9 @@ fn load(x: Thread, addresses: &[u16], values: &[u16], a: u16) -> Word
 
 // The address of a memory word: of an indirect one the load of its argument.
 fn address(i: Statement, x: Thread, addresses: &[u16], values: &[u16]) -> Word
-    requires { isMemory i.number ≡ true }
-    ensures { (result.known ≡ (not (readsArgument i x) || known_in addresses.now i.argument))
-        × (result.value ≡ address_of i x (memoryIn addresses.now values.now)) × (result.read ≡ readsArgument i x) }
+    requires { is_memory i.number ≡ true }
+    ensures { (result.known ≡ (not (reads_argument i x) || known_in addresses.now i.argument))
+        × (result.value ≡ address_of i x (memory_in addresses.now values.now)) × (result.read ≡ reads_argument i x) }
 {
     if i.mode == 1 {
         return load(x, addresses, values, i.argument);
@@ -55,10 +55,10 @@ fn address(i: Statement, x: Thread, addresses: &[u16], values: &[u16]) -> Word
 
 // The word at the address a of a statement that takes one: of CAS the cell.
 fn word(i: Statement, x: Thread, addresses: &[u16], values: &[u16], a: u16) -> Word
-    requires { (takesWord i.number ≡ true)
-        × (a ≡ address_of i x (memoryIn addresses.now values.now)) }
-    ensures { (result.known ≡ (not (readsAddress i x a) || known_in addresses.now a))
-        × (result.value ≡ wordTaken i x (memoryIn addresses.now values.now)) × (result.read ≡ readsAddress i x a) }
+    requires { (takes_word i.number ≡ true)
+        × (a ≡ address_of i x (memory_in addresses.now values.now)) }
+    ensures { (result.known ≡ (not (reads_address i x a) || known_in addresses.now a))
+        × (result.value ≡ word_taken i x (memory_in addresses.now values.now)) × (result.read ≡ reads_address i x a) }
 {
     if i.number == CAS {
         return memory::look(addresses, values, a);
@@ -68,7 +68,7 @@ fn word(i: Statement, x: Thread, addresses: &[u16], values: &[u16], a: u16) -> W
 
 // Nothing taken.
 pub fn none() -> Operand
-    ensures { (result.known ≡ true) × (result.address ≡ 0) × (result.word ≡ 0) × (result.read ≡ noRead) × (result.addressed ≡ true) }
+    ensures { (result.known ≡ true) × (result.address ≡ 0) × (result.word ≡ 0) × (result.read ≡ no_read) × (result.addressed ≡ true) }
 {
     let read = Read {
         argument: false,
@@ -87,11 +87,11 @@ pub fn none() -> Operand
 
 // What a statement takes: nothing but for memory words, and no word for STORE.
 pub fn operands(i: Statement, x: Thread, addresses: &[u16], values: &[u16]) -> Operand
-    ensures { (result.known ≡ knowsAll (known_in addresses.now) (cellsRead i x (memoryIn addresses.now values.now)))
-        × (result.address ≡ address_of i x (memoryIn addresses.now values.now))
-        × (result.word ≡ wordTaken i x (memoryIn addresses.now values.now))
-        × (cells_of result.read ≡ cellsRead i x (memoryIn addresses.now values.now))
-        × (result.addressed ≡ (not (readsArgument i x) || known_in addresses.now i.argument)) }
+    ensures { (result.known ≡ knows_all (known_in addresses.now) (cells_read i x (memory_in addresses.now values.now)))
+        × (result.address ≡ address_of i x (memory_in addresses.now values.now))
+        × (result.word ≡ word_taken i x (memory_in addresses.now values.now))
+        × (cells_of result.read ≡ cells_read i x (memory_in addresses.now values.now))
+        × (result.addressed ≡ (not (reads_argument i x) || known_in addresses.now i.argument)) }
 {
     if records::is_memory(i.number) {
         let a = address(i, x, addresses, values);

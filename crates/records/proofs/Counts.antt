@@ -6,11 +6,11 @@ use lib.Dec.{eqb}
 use mir.Val.{bool_byte}
 use Rattle.base.specs.Below.{number}
 use Rattle.base.proofs.Below.{number-next, number-below}
-use Rattle.base.proofs.Choice.{cast-test}
+use Rattle.base.proofs.Choice.{cast_test}
 
 module _ (place : ℕ → ℕ) (t k counter : ℕ) (e : counter ≡ number k (λ j. eqb (place j) t)) where
   pub counted : counter + bool_byte (eqb (place k) t) ≡ number (k + 1) (λ j. eqb (place j) t)
-  counted = ap₂ ◌+◌ e (cast-test (eqb (place k) t)) ∙ sym (number-next (λ j. eqb (place j) t) k)
+  counted = ap₂ ◌+◌ e (cast_test (eqb (place k) t)) ∙ sym (number-next (λ j. eqb (place j) t) k)
 
   pub counted-below : counter + bool_byte (eqb (place k) t) ≤ k + 1
   counted-below = omega (arith, counted, number-below (λ j. eqb (place j) t) (k + 1))

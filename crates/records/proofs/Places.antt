@@ -124,8 +124,8 @@ module _ (thread pc : ℕ → ℕ) (n : ℕ) (rows : Rows thread pc n) where
   ]
 
   -- a record before another of its thread is not its thread's last
-  pub goes_on : (k : ℕ) → k + 1 < n → thread (k + 1) ≡ thread k → pc k + 1 < count thread n (thread k)
-  goes_on k b t = ⊎_elim (λ w. omega (arith, w.1, ap (count thread n) t, stands-below (k + 1) b)) (λ w. absurd (omega arith)) (rows.next k b)
+  pub goes_on_lem : (k : ℕ) → k + 1 < n → thread (k + 1) ≡ thread k → pc k + 1 < count thread n (thread k)
+  goes_on_lem k b t = ⊎_elim (λ w. omega (arith, w.1, ap (count thread n) t, stands-below (k + 1) b)) (λ w. absurd (omega arith)) (rows.next k b)
 
   -- no thread has more records than pcs go up to
   pub few : (most : ℕ) → ((k : ℕ) → k < n → pc k < most) → (t : ℕ) → count thread n t ≤ most

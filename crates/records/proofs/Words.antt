@@ -11,7 +11,7 @@ use borrow.Author.Tests.{eqb-true, eq-eqb}
 use Rattle.base.specs.Below.{every, least}
 use Rattle.base.specs.Bytes.{same}
 use Rattle.base.proofs.Below.{every-at, least_more, least-none}
-use Rattle.base.proofs.Bytes.{same-equal}
+use Rattle.base.proofs.Bytes.{same_equal}
 use Rattle.base.proofs.Choice.{chosen, passed, refuted, clash}
 use Rattle.records.specs.Instructions.{words, word_of}
 
@@ -26,7 +26,7 @@ different = refl
 
 -- w is the word of n
 pub found : (w : List ℕ) (n : ℕ) → n < 20 → same w (word_of n) ≡ true → n ≡ named w
-found w n h e = eqb-true n (named (word_of n)) (every-at (λ m. eqb m (named (word_of m))) 20 n different h) ∙ ap named (sym (same-equal w (word_of n) e))
+found w n h e = eqb-true n (named (word_of n)) (every-at (λ m. eqb m (named (word_of m))) 20 n different h) ∙ ap named (sym (same_equal w (word_of n) e))
 
 -- w is no word
 unnamed : (w : List ℕ) → ((n : ℕ) → n < 20 → same w (word_of n) ≡ true → ⊥) → 20 ≡ named w
@@ -69,7 +69,7 @@ none-starting w x ns h s f = unnamed w (λ n l e. clash e (each_at (λ m. same w
   where
     listed : (n : ℕ) → n < 20 → same w (word_of n) ≡ true → among n ns ≡ true
     listed n l e =
-        let starts = ap first (sym (same-equal w (word_of n) e)) ∙ h in
+        let starts = ap first (sym (same_equal w (word_of n) e)) ∙ h in
         sym (chosen (among n ns) true (eq-eqb (first (word_of n)) x starts)) ∙ every-at (λ m. cond (eqb (first (word_of m)) x) (among m ns) true) 20 n s l
 
 -- w starts with x, and one word does
@@ -89,6 +89,6 @@ unfolding every among words word_of
 covered = refl
 
 -- w starts with x, which is none of them
-pub other-letter : (w : List ℕ) (x : ℕ) → x ≡ first w → Each (λ y. x ≡ y → ⊥) letters → 20 ≡ named w
-other-letter w x h f = unnamed w (λ n l e.
-    each_at (λ y. x ≡ y → ⊥) letters (first (word_of n)) f (every-at (λ m. among (first (word_of m)) letters) 20 n covered l) (h ∙ ap first (same-equal w (word_of n) e)))
+pub other_letter : (w : List ℕ) (x : ℕ) → x ≡ first w → Each (λ y. x ≡ y → ⊥) letters → 20 ≡ named w
+other_letter w x h f = unnamed w (λ n l e.
+    each_at (λ y. x ≡ y → ⊥) letters (first (word_of n)) f (every-at (λ m. among (first (word_of m)) letters) 20 n covered l) (h ∙ ap first (same_equal w (word_of n) e)))

@@ -70,20 +70,20 @@ instructions = 20
 -- ---- classes
 
 -- memory words: LOAD, STORE, ADD, SUB, MUL, MEM, CAS
-abbrev pub isMemory : ℕ → Bool
-isMemory n = eqb n LOAD || eqb n STORE || eqb n ADD || eqb n SUB || eqb n MUL || eqb n MEM || eqb n CAS
+abbrev pub is_memory : ℕ → Bool
+is_memory n = eqb n LOAD || eqb n STORE || eqb n ADD || eqb n SUB || eqb n MUL || eqb n MEM || eqb n CAS
 
 -- jumps: JMP, JZ, JNZ, JS, JNS, JNZNS
-abbrev pub isJump : ℕ → Bool
-isJump n = eqb n JMP || eqb n JZ || eqb n JNZ || eqb n JS || eqb n JNS || eqb n JNZNS
+abbrev pub is_jump : ℕ → Bool
+is_jump n = eqb n JMP || eqb n JZ || eqb n JNZ || eqb n JS || eqb n JNS || eqb n JNZNS
 
 -- no argument: FENCE, HALT
 abbrev pub is_bare : ℕ → Bool
 is_bare n = eqb n FENCE || eqb n HALT
 
 -- what a thread may end in: EXIT, JMP, HALT
-abbrev pub isLast : ℕ → Bool
-isLast n = eqb n EXIT || eqb n JMP || eqb n HALT
+abbrev pub is_last : ℕ → Bool
+is_last n = eqb n EXIT || eqb n JMP || eqb n HALT
 
 -- ---- words
 

@@ -1,37 +1,37 @@
 -- Map records: the cells that they give, and which maps are accepted (document 01, "Records"). A reader of the calls believes this. Assumes nothing.
 use Rattle.std.specs.Prelude.{ℕ, ◌+◌, ◌-◌, ◌*◌, ◌/◌, ◌%◌, Bool, true, cond, ◌&&◌, List, eqb, ltb, leb, length}
 use Rattle.base.specs.Below.{every, least}
-use Rattle.base.specs.Bytes.{wordAt}
+use Rattle.base.specs.Bytes.{word_at}
 
 -- the bytes of a map cell
-abbrev pub cellLength : ℕ
-cellLength = 4
+abbrev pub cell_length : ℕ
+cell_length = 4
 
 -- Map cell, 4 bytes: address, value.
 abbrev pub cells : List ℕ → ℕ
-cells bytes = length bytes / cellLength
+cells bytes = length bytes / cell_length
 
-abbrev pub addressAt : List ℕ → ℕ → ℕ
-addressAt bytes k = wordAt bytes (cellLength * k)
+abbrev pub address_at : List ℕ → ℕ → ℕ
+address_at bytes k = word_at bytes (cell_length * k)
 
 abbrev pub value_at : List ℕ → ℕ → ℕ
-value_at bytes k = wordAt bytes (cellLength * k + 2)
+value_at bytes k = word_at bytes (cell_length * k + 2)
 
 -- Addresses strictly ascend.
-unfoldable pub ascendsAt : List ℕ → ℕ → Bool
-ascendsAt bytes k = cond (eqb k 0) true (ltb (addressAt bytes (k - 1)) (addressAt bytes k))
+unfoldable pub ascends_at : List ℕ → ℕ → Bool
+ascends_at bytes k = cond (eqb k 0) true (ltb (address_at bytes (k - 1)) (address_at bytes k))
 
 -- A set's map has at most 128 cells, one given to simulation or replay 256.
-abbrev pub setCells : ℕ
-setCells = 128
+abbrev pub set_cells : ℕ
+set_cells = 128
 
-abbrev pub runCells : ℕ
-runCells = 256
+abbrev pub run_cells : ℕ
+run_cells = 256
 
 -- A map is accepted unless 9 refuses it: whole records, at most `limit` of them (128 for a set's map, 256 in simulation and replay).
-unfoldable pub mapAccepted : ℕ → List ℕ → Bool
-mapAccepted limit bytes =
-    eqb (length bytes % cellLength) 0 && leb (cells bytes) limit && every (cells bytes) (ascendsAt bytes)
+unfoldable pub map_accepted : ℕ → List ℕ → Bool
+map_accepted limit bytes =
+    eqb (length bytes % cell_length) 0 && leb (cells bytes) limit && every (cells bytes) (ascends_at bytes)
 
 -- ---- cells by address
 
@@ -49,7 +49,7 @@ content address value n a = cond (holds address n a) (value (cell_at address n a
 
 -- the map has a cell at address a, and its value, 0 where there is none
 abbrev pub mapped : List ℕ → ℕ → Bool
-mapped bytes a = holds (addressAt bytes) (cells bytes) a
+mapped bytes a = holds (address_at bytes) (cells bytes) a
 
-abbrev pub mapValue : List ℕ → ℕ → ℕ
-mapValue bytes a = content (addressAt bytes) (value_at bytes) (cells bytes) a
+abbrev pub map_value : List ℕ → ℕ → ℕ
+map_value bytes a = content (address_at bytes) (value_at bytes) (cells bytes) a

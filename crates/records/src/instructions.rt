@@ -2,7 +2,7 @@
 ghost use Rattle.std.specs.Prelude.{◌≡◌, cond, get_or};
 ghost use Rattle.base.specs.Below.{least};
 ghost use Rattle.base.specs.Bytes.{same};
-ghost use Rattle.records.specs.Instructions.{word_of, isMemory, isJump, is_bare, isLast};
+ghost use Rattle.records.specs.Instructions.{word_of, is_memory, is_jump, is_bare, is_last};
 
 use crate::Statement;
 use base::{byte_at, same};
@@ -49,14 +49,14 @@ pub const CHECK: u8 = 19;
 
 // Memory words, which may be indirect. The tests of a class are joined without branches: a few compares.
 pub fn is_memory(n: u8) -> bool
-    ensures { result ≡ isMemory n }
+    ensures { result ≡ is_memory n }
 {
     (n == LOAD) | (n == STORE) | (n == ADD) | (n == SUB) | (n == MUL) | (n == MEM) | (n == CAS)
 }
 
 // Jumps, whose argument is a pc.
 pub fn is_jump(n: u8) -> bool
-    ensures { result ≡ isJump n }
+    ensures { result ≡ is_jump n }
 {
     (n == JMP) | (n == JZ) | (n == JNZ) | (n == JS) | (n == JNS) | (n == JNZNS)
 }
@@ -70,7 +70,7 @@ pub fn is_bare(n: u8) -> bool
 
 // What a thread may end in.
 pub fn is_last(n: u8) -> bool
-    ensures { result ≡ isLast n }
+    ensures { result ≡ is_last n }
 {
     (n == EXIT) | (n == JMP) | (n == HALT)
 }

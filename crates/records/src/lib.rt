@@ -5,8 +5,8 @@ pub mod refusals;
 pub mod set;
 
 ghost use Rattle.std.specs.Prelude.{◌≡◌, ◌+◌, ◌<◌, length, get_or};
-ghost use Rattle.base.specs.Bytes.{wordAt};
-ghost use Rattle.records.specs.Sets.{statementAt, setBy};
+ghost use Rattle.base.specs.Bytes.{word_at};
+ghost use Rattle.records.specs.Sets.{statement_at, set_by};
 
 pub use instructions::is_memory;
 
@@ -55,14 +55,14 @@ impl Layout {
 // The word from index at on, of a record that is known to be there.
 fn word(s: &[u8], at: usize) -> u16
     requires { at + 1 < length s.now }
-    ensures { result ≡ wordAt s.now at }
+    ensures { result ≡ word_at s.now at }
 {
     (s[at] as u16) + 256 * (s[at + 1] as u16)
 }
 
 // The statement in record k; a byte past the end is 0.
 pub fn statement_at(set: &[u8], k: u32) -> Statement
-    ensures { result ≡ statementAt set.now k }
+    ensures { result ≡ statement_at set.now k }
 {
     let at = Statement::SIZE * (k as usize);
     // One test for the whole statement, so that its argument is read at once.
@@ -111,7 +111,7 @@ pub fn first(layout: Layout, t: u8) -> u32
 
 // Thread t's statement p, or no instruction where there is none.
 pub fn fetch(set: &[u8], layout: Layout, t: u8, p: u16) -> Statement
-    ensures { result ≡ (setBy set.now layout).statement t p }
+    ensures { result ≡ (set_by set.now layout).statement t p }
 {
     let thread = t as usize;
     if thread < Layout::THREADS {

@@ -1,7 +1,7 @@
 // Which sets of statement records are accepted (refusal 9), and the layout of those that are.
 ghost use Rattle.std.specs.Prelude.{◌≡◌, ◌&&◌, ◌≤◌, ◌<◌, leb};
 ghost use Rattle.base.specs.Below.{every, some, number};
-ghost use Rattle.records.specs.Sets.{records, threadAt, count_of, follows, argumentFits, recordFits, checksAt, opens_at, setAccepted, countsOf, layout_of, mostCheckpoints, mostRecords};
+ghost use Rattle.records.specs.Sets.{records, thread_at, count_of, follows, argument_fits, record_fits, checks_at, opens_at, set_accepted, counts_of, layout_of, most_checkpoints, most_records};
 
 use crate::instructions::{CHECK, is_bare, is_jump, is_last, is_memory};
 use crate::{Layout, Statement, word};
@@ -29,8 +29,8 @@ fn follows(set: &[u8], k: usize) -> bool
 
 // Whether record k has the argument that its instruction takes, in a thread of `count` statements.
 fn argument_fits(set: &[u8], k: usize, count: u16) -> bool
-    requires { (k < records set.now) × (count ≡ count_of set.now (threadAt set.now k)) }
-    ensures { result ≡ argumentFits set.now k }
+    requires { (k < records set.now) × (count ≡ count_of set.now (thread_at set.now k)) }
+    ensures { result ≡ argument_fits set.now k }
 {
     let at = Statement::SIZE * k;
     let number = set[at + 1];
@@ -48,8 +48,8 @@ fn argument_fits(set: &[u8], k: usize, count: u16) -> bool
 
 // Whether record k's fields are in their ranges, given how many statements each thread has.
 fn record_fits(set: &[u8], k: usize, counts: [u16; Layout::THREADS]) -> bool
-    requires { (k < records set.now) × (counts ≡ countsOf set.now) }
-    ensures { result ≡ recordFits set.now k }
+    requires { (k < records set.now) × (counts ≡ counts_of set.now) }
+    ensures { result ≡ record_fits set.now k }
 {
     let at = Statement::SIZE * k;
     let thread = set[at] as usize;
@@ -69,8 +69,8 @@ fn record_fits(set: &[u8], k: usize, counts: [u16; Layout::THREADS]) -> bool
 
 // Whether every record follows the one before it and fits.
 fn records_fit(set: &[u8], counts: [u16; Layout::THREADS]) -> bool
-    requires { counts ≡ countsOf set.now }
-    ensures { result ≡ every (records set.now) (λ k. follows set.now k && recordFits set.now k) }
+    requires { counts ≡ counts_of set.now }
+    ensures { result ≡ every (records set.now) (λ k. follows set.now k && record_fits set.now k) }
 {
     let n = set.len() / Statement::SIZE;
     let mut k = 0;
@@ -86,7 +86,7 @@ fn records_fit(set: &[u8], counts: [u16; Layout::THREADS]) -> bool
 // Whether record k is a CHECK of checkpoint c.
 fn checks(set: &[u8], c: u16, k: usize) -> bool
     requires { k < records set.now }
-    ensures { result ≡ checksAt set.now c k }
+    ensures { result ≡ checks_at set.now c k }
 {
     let at = Statement::SIZE * k;
     (set[at + 1] == CHECK) & (word(set, at + 4) == c)
@@ -95,7 +95,7 @@ fn checks(set: &[u8], c: u16, k: usize) -> bool
 // Whether a record before k is a CHECK of checkpoint c.
 fn checked_before(set: &[u8], c: u16, k: usize) -> bool
     requires { k < records set.now }
-    ensures { result ≡ some k (checksAt set.now c) }
+    ensures { result ≡ some k (checks_at set.now c) }
 {
     let mut j = 0;
     while j < k {
@@ -121,7 +121,7 @@ fn opens(set: &[u8], k: usize) -> bool
 
 // Whether there are at most 8 different checkpoints; it stops at a ninth.
 pub fn few_checkpoints(set: &[u8]) -> bool
-    ensures { result ≡ leb (number (records set.now) (opens_at set.now)) mostCheckpoints }
+    ensures { result ≡ leb (number (records set.now) (opens_at set.now)) most_checkpoints }
 {
     let n = set.len() / Statement::SIZE;
     let mut found: u8 = 0;
@@ -140,8 +140,8 @@ pub fn few_checkpoints(set: &[u8]) -> bool
 
 // How many statements each thread has. Four counters keep the loop free of stores.
 fn counts_of(set: &[u8]) -> [u16; Layout::THREADS]
-    requires { records set.now ≤ mostRecords }
-    ensures { result ≡ countsOf set.now }
+    requires { records set.now ≤ most_records }
+    ensures { result ≡ counts_of set.now }
 {
     let n = set.len() / Statement::SIZE;
     let mut first: u16 = 0;
@@ -162,8 +162,8 @@ fn counts_of(set: &[u8]) -> [u16; Layout::THREADS]
 
 // Whether a set is accepted, given how many statements each thread has.
 fn accepted(set: &[u8], counts: [u16; Layout::THREADS]) -> bool
-    requires { counts ≡ countsOf set.now }
-    ensures { result ≡ setAccepted set.now }
+    requires { counts ≡ counts_of set.now }
+    ensures { result ≡ set_accepted set.now }
 {
     let n = set.len() / Statement::SIZE;
     if set.len() % Statement::SIZE != 0 {

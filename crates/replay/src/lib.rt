@@ -1,8 +1,8 @@
 // Replay of a trace: its answer.
 ghost use Rattle.std.specs.Prelude.{◌≡◌, ◌≤◌};
-ghost use Rattle.records.specs.Maps.{cells, runCells};
-ghost use Rattle.records.specs.Sets.{setBy, mostThreads};
-ghost use Rattle.replay.specs.Replay.{limitedTrace, replayed};
+ghost use Rattle.records.specs.Maps.{cells, run_cells};
+ghost use Rattle.records.specs.Sets.{set_by, most_threads};
+ghost use Rattle.replay.specs.Replay.{limited_trace, replayed};
 
 use machine::{Machine, RunAnswer};
 use records::{Layout, refusals};
@@ -16,8 +16,8 @@ fn refused(number: u8) -> RunAnswer
 
 // The call once set and map are accepted.
 fn accepted(set: &[u8], layout: Layout, map: &[u8], trace: &[u8]) -> RunAnswer
-    requires { (layout.threads ≤ mostThreads) × (cells map.now ≤ runCells) }
-    ensures { result ≡ limitedTrace (setBy set.now layout) map.now trace.now }
+    requires { (layout.threads ≤ most_threads) × (cells map.now ≤ run_cells) }
+    ensures { result ≡ limited_trace (set_by set.now layout) map.now trace.now }
 {
     let whole = trace.len() % Machine::STEP;
     if whole != 0 {

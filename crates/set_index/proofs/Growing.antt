@@ -8,7 +8,7 @@ use native.Mathlib.Decide.{ℕ_discrete, dec_lt}
 use lib.ListN.{length, set, get_or, length-set}
 use lib.Seq.{get_or-set_same, get_or-set_other}
 use Rattle.records.specs.Sets.{Set}
-use Rattle.set_index.specs.Members.{inClass, members_of}
+use Rattle.set_index.specs.Members.{in_class, members_of}
 use Rattle.set_index.proofs.Listed.{members-at, members-below, members-order}
 use Rattle.set_index.specs.Lists.{Leads, Lists}
 
@@ -34,9 +34,9 @@ module _ (P : ℕ → ℕ → Bool) (n : ℕ) where
 
   module _ (In More : ℕ → Type 0) (keep : (y : ℕ) → In y → More y) (head next head' next' : ℕ → ℕ) (old : Lists P n In head next) where
     -- the statements that matter and their numbers are the same
-    pub lists-as : ((p y : ℕ) → p < n → More y → P p y ≡ true → In y) → ((p : ℕ) → p < n → head' p ≡ head p) →
+    pub lists_as : ((p y : ℕ) → p < n → More y → P p y ≡ true → In y) → ((p : ℕ) → p < n → head' p ≡ head p) →
         ((p y : ℕ) → p < n → In y → P p y ≡ true → next' y ≡ next y) → Lists P n More head' next'
-    lists-as back same after = record {
+    lists_as back same after = record {
       heads = λ (p : ℕ) h. subst (λ (it : ℕ). Leads More (P p) it 0) (sym (same p h))
           (widened In More keep (P p) (head p) 0 0 (omega arith) (old.heads p h) (λ x m l e. back p x h m e));
       nexts = λ (p x : ℕ) h m e. let i = back p x h m e in
@@ -116,8 +116,8 @@ module _ (numbers : List ℕ) (place list i : ℕ) where
   pub put-length : length (set under list i) ≡ length numbers
   put-length = length-set under list i ∙ under-length
 
-  pub put-head : list < length numbers → get_or (set under list i) list 0 ≡ i
-  put-head h = get_or-set_same under list i 0 (let e = under-length in omega arith)
+  pub put_head : list < length numbers → get_or (set under list i) list 0 ≡ i
+  put_head h = get_or-set_same under list i 0 (let e = under-length in omega arith)
 
   pub put_next : place < length numbers → (place ≡ list → ⊥) → get_or (set under list i) place 0 ≡ get_or numbers list 0
   put_next h apart = get_or-set_other under list place i 0 apart ∙ get_or-set_same numbers place (get_or numbers list 0) 0 h
@@ -132,7 +132,7 @@ abbrev pub From : Set → (c t j : ℕ) → ℕ → Type 0
 From S c t j x = (x < S.count t) × ((q : ℕ) → q < j → get_or (members_of S c t) q 0 < x)
 
 -- the lists have members alone
-module _ (S : Set) (c t : ℕ) (P : ℕ → ℕ → Bool) (n : ℕ) (belong : (p x : ℕ) → P p x ≡ true → inClass c (S.statement t x).number ≡ true) where
+module _ (S : Set) (c t : ℕ) (P : ℕ → ℕ → Bool) (n : ℕ) (belong : (p x : ℕ) → P p x ≡ true → in_class c (S.statement t x).number ≡ true) where
   -- no member comes after all of them
   pub from-none : (j : ℕ) → j ≡ length (members_of S c t) → (head next : ℕ → ℕ) → ((p : ℕ) → p < n → head p ≡ 32) → Lists P n (From S c t j) head next
   from-none j e head next =
@@ -147,7 +147,7 @@ module _ (S : Set) (c t : ℕ) (P : ℕ → ℕ → Bool) (n : ℕ) (belong : (p
   -- every statement comes after none of them
   pub from_all : (j : ℕ) → j ≡ 0 → (head next : ℕ → ℕ) → Lists P n (From S c t j) head next → Lists P n (λ x. x < S.count t) head next
   from_all j e head next old =
-      lists-as P n (From S c t j) (λ x. x < S.count t) (λ (y : ℕ) f. f.0) head next head next old
+      lists_as P n (From S c t j) (λ x. x < S.count t) (λ (y : ℕ) f. f.0) head next head next old
       (λ (p y : ℕ) k i is. (i, λ (q : ℕ) (b : q < j). absurd (omega arith))) (λ p k. refl) (λ p y k i is. refl)
 
   -- member j comes before the others
@@ -188,7 +188,7 @@ module _ (S : Set) (c t : ℕ) (P : ℕ → ℕ → Bool) (n : ℕ) (belong : (p
       -- it is of no list
       pub from-same : ((p : ℕ) → p < n → P p one ≡ true → ⊥) → ((p : ℕ) → p < n → head' p ≡ head p) → Lists P n (From S c t j) head' next'
       from-same none same =
-          lists-as P n (From S c t r) (From S c t j) keep head next head' next' old
+          lists_as P n (From S c t r) (From S c t j) keep head next head' next' old
           (λ (p y : ℕ) h f is. split p y f is (λ (e : y ≡ one). none p h (ap (P p) (sym e) ∙ is))) same
           (λ (p y : ℕ) h f is. at_next y (later y f))
 

@@ -13,7 +13,7 @@ use Rattle.base.proofs.Choice.{passed}
 use Rattle.records.specs.Sets.{Set}
 use Rattle.encoding.specs.Slots.{Term}
 use Rattle.encoding.specs.Steps.{Link, skip, linked, chain}
-use Rattle.set_index.specs.Members.{inClass, added, members, ofClass}
+use Rattle.set_index.specs.Members.{in_class, added, members, of_class}
 
 -- ---- one more at the end
 
@@ -86,49 +86,49 @@ module _ (S : Set) (c t : ℕ) where
   members-none = refl
 
   -- statement k belongs or not
-  pub members-more : (k : ℕ) (b : Bool) → b ≡ inClass c (S.statement t k).number → members S c t (k + 1) ≡ added b (members S c t k) k
+  pub members-more : (k : ℕ) (b : Bool) → b ≡ in_class c (S.statement t k).number → members S c t (k + 1) ≡ added b (members S c t k) k
   unfolding members
   members-more k b e = ap (members S c t) (add-one k) ∙ ap (λ (x : Bool). added x (members S c t k) k) (sym e)
 
   pub members-few : (k : ℕ) → length (members S c t k) ≤ k
   unfolding members
   members-few zero = omega arith
-  members-few (suc k) = added-few (inClass c (S.statement t k).number) (members S c t k) k (members-few k)
+  members-few (suc k) = added-few (in_class c (S.statement t k).number) (members S c t k) k (members-few k)
 
   pub members-below : (k j : ℕ) → j < length (members S c t k) → get_or (members S c t k) j 0 < k
   unfolding members
   members-below zero = λ (j : ℕ) (h : j < 0). absurd (omega arith)
   members-below (suc k) =
-      added-each (λ x. x < suc k) (inClass c (S.statement t k).number) (members S c t k) k
+      added-each (λ x. x < suc k) (in_class c (S.statement t k).number) (members S c t k) k
       (λ (j : ℕ) (h : j < length (members S c t k)). let l = members-below k j h in omega arith) (λ e. omega arith)
 
   -- each is of the class
-  pub members-belong : (k j : ℕ) → j < length (members S c t k) → inClass c (S.statement t (get_or (members S c t k) j 0)).number ≡ true
+  pub members-belong : (k j : ℕ) → j < length (members S c t k) → in_class c (S.statement t (get_or (members S c t k) j 0)).number ≡ true
   unfolding members
   members-belong zero = λ (j : ℕ) (h : j < 0). absurd (omega arith)
   members-belong (suc k) =
-      added-each (λ x. inClass c (S.statement t x).number ≡ true) (inClass c (S.statement t k).number) (members S c t k) k (members-belong k) (λ e. e)
+      added-each (λ x. in_class c (S.statement t x).number ≡ true) (in_class c (S.statement t k).number) (members S c t k) k (members-belong k) (λ e. e)
 
   -- and each of the class is one
-  pub members-at : (k x : ℕ) → x < k → inClass c (S.statement t x).number ≡ true → At (members S c t k) x
+  pub members-at : (k x : ℕ) → x < k → in_class c (S.statement t x).number ≡ true → At (members S c t k) x
   unfolding members
   members-at zero x h e = absurd (omega arith)
   members-at (suc k) x h e = elim (ℕ_discrete x k) [
     | yes same ↦
-        let b = inClass c (S.statement t k).number in
+        let b = in_class c (S.statement t k).number in
         subst (At (added b (members S c t k) k)) (sym same)
-        (added-here b (members S c t k) k (ap (λ (y : ℕ). inClass c (S.statement t y).number) (sym same) ∙ e))
-    | no other ↦ added-at (inClass c (S.statement t k).number) (members S c t k) k x (members-at k x (omega arith) e)
+        (added-here b (members S c t k) k (ap (λ (y : ℕ). in_class c (S.statement t y).number) (sym same) ∙ e))
+    | no other ↦ added-at (in_class c (S.statement t k).number) (members S c t k) k x (members-at k x (omega arith) e)
   ]
 
   pub members-order : (k p q : ℕ) → p < q → q < length (members S c t k) → get_or (members S c t k) p 0 < get_or (members S c t k) q 0
   unfolding members
   members-order zero = λ (p q : ℕ) (l : p < q) (h : q < 0). absurd (omega arith)
-  members-order (suc k) = added-order (inClass c (S.statement t k).number) (members S c t k) k (members-below k) (members-order k)
+  members-order (suc k) = added-order (in_class c (S.statement t k).number) (members S c t k) k (members-below k) (members-order k)
 
 -- past the last class nothing is of a class
-pub class-past : (c n : ℕ) → 10 < c → inClass c n ≡ false
-class-past c n h =
+pub class_past : (c n : ℕ) → 10 < c → in_class c n ≡ false
+class_past c n h =
     passed _ _ (ne_eqb c 0 (λ e. omega arith))
     ∙ passed _ _ (ne_eqb c 1 (λ e. omega arith))
     ∙ passed _ _ (ne_eqb c 2 (λ e. omega arith))
@@ -167,8 +167,8 @@ module _ (links : ℕ → Link) (base : Term) where
       ap (over new) (added-length ms k ∙ add-one (length ms)) ∙ (λ z. linked (links (last z)) (rest z))
   added-chain false ms k under e = e
 
-  pub members-chain : (S : Set) (c t k : ℕ) → over (members S c t k) (length (members S c t k)) ≡ chain (ofClass S c t links) k base
+  pub members-chain : (S : Set) (c t k : ℕ) → over (members S c t k) (length (members S c t k)) ≡ chain (of_class S c t links) k base
   unfolding members chain
   members-chain S c t zero = refl
   members-chain S c t (suc k) =
-      added-chain (inClass c (S.statement t k).number) (members S c t k) k (chain (ofClass S c t links) k base) (members-chain S c t k)
+      added-chain (in_class c (S.statement t k).number) (members S c t k) k (chain (of_class S c t links) k base) (members-chain S c t k)

@@ -9,14 +9,14 @@ use native.Mathlib.Omega.{arith}
 use lib.Dec.{eqb}
 use lib.ListN.{length, get_or, take, drop, set, length-append}
 use lib.Seq.{take_all, take-append-le, drop-cons, length-take-le, take-suc-set}
-use Rattle.base.proofs.Choice.{chosen, passed, and-true, and-false, and-right-false}
+use Rattle.base.proofs.Choice.{chosen, passed, and_true, and_false, and_right_false}
 use Rattle.records.specs.Instructions.{CHECK}
 use Rattle.records.specs.Sets.{Set}
 use Rattle.records.specs.declared.Statement.{Statement}
 use Rattle.set_index.specs.Points.{listed}
 use Rattle.set_index.specs.declared.points.Points.{Points}
 use Rattle.set_index.proofs.Counted.{listed-most}
-use Rattle.encoding.specs.Checkpoints.{member, noted, noted_in, notedBelow}
+use Rattle.encoding.specs.Checkpoints.{member, noted, noted_in, noted_below}
 
 -- eight are enough: what comes after the eighth changes nothing among them
 full : (seen : List ℕ) (i : Statement) → 8 ≤ length seen → take 8 (noted seen i) ≡ take 8 seen
@@ -27,8 +27,8 @@ full seen i h = go (eqb i.number CHECK && not (member i.argument seen))
     go true = take-append-le 8 seen (i.argument ∷ []) h
     go false = refl
 
-pub eight-noted : (seen : List ℕ) (i : Statement) → take 8 (noted (take 8 seen) i) ≡ take 8 (noted seen i)
-eight-noted seen i = elim (dec_lt 8 (length seen)) [
+pub eight_noted : (seen : List ℕ) (i : Statement) → take 8 (noted (take 8 seen) i) ≡ take 8 (noted seen i)
+eight_noted seen i = elim (dec_lt 8 (length seen)) [
   | yes h ↦
       let e : length (take 8 seen) ≡ 8 = length-take-le 8 seen (omega arith) in
       full (take 8 seen) i (omega arith) ∙ (take_all 8 (take 8 seen) (omega arith) ∙ sym (full seen i (omega arith)))
@@ -41,7 +41,7 @@ pub noted_more : (S : Set) (t : ℕ) (before now after : List ℕ) (i : ℕ) →
 unfolding noted_in
 noted_more S t before now after i e f =
     f ∙ (ap (λ (xs : List ℕ). take 8 (noted xs (S.statement t i))) e
-    ∙ (eight-noted (noted_in S t before i) (S.statement t i)
+    ∙ (eight_noted (noted_in S t before i) (S.statement t i)
     ∙ ap (λ (n : ℕ). take 8 (noted_in S t before n)) (sym (add-one i))))
 
 pub noted-start : (S : Set) (t : ℕ) (before : List ℕ) → noted_in S t before 0 ≡ before
@@ -49,12 +49,12 @@ unfolding noted_in
 noted-start S t before = refl
 
 -- one thread more
-pub below_more : (S : Set) (t : ℕ) → noted_in S t (notedBelow S t) (S.count t) ≡ notedBelow S (t + 1)
-unfolding notedBelow
-below_more S t = ap (notedBelow S) (sym (add-one t))
+pub below_more : (S : Set) (t : ℕ) → noted_in S t (noted_below S t) (S.count t) ≡ noted_below S (t + 1)
+unfolding noted_below
+below_more S t = ap (noted_below S) (sym (add-one t))
 
-pub below-start : (S : Set) → notedBelow S 0 ≡ []
-unfolding notedBelow
+pub below-start : (S : Set) → noted_below S 0 ≡ []
+unfolding noted_below
 below-start S = refl
 
 -- ---- one statement
@@ -62,15 +62,15 @@ below-start S = refl
 module _ (seen : List ℕ) (i : Statement) where
   pub not-check : eqb i.number CHECK ≡ false → noted seen i ≡ seen
   unfolding noted
-  not-check e = passed _ _ (and-false (not (member i.argument seen)) e)
+  not-check e = passed _ _ (and_false (not (member i.argument seen)) e)
 
   pub is_known : member i.argument seen ≡ true → noted seen i ≡ seen
   unfolding noted
-  is_known e = passed _ _ (and-right-false (eqb i.number CHECK) (ap not e))
+  is_known e = passed _ _ (and_right_false (eqb i.number CHECK) (ap not e))
 
   pub is-new : eqb i.number CHECK ≡ true → member i.argument seen ≡ false → noted seen i ≡ seen ++ (i.argument ∷ [])
   unfolding noted
-  is-new e f = chosen _ _ (and-true e (ap not f))
+  is-new e f = chosen _ _ (and_true e (ap not f))
 
 -- ---- members
 

@@ -1,6 +1,6 @@
 // Classes of instructions, as a table sees them.
 ghost use Rattle.std.specs.Prelude.{◌≡◌};
-ghost use Rattle.encoding.specs.Steps.{loads as loadsOf, setsAccu, isConditional, is_plain, rests as restsOf};
+ghost use Rattle.encoding.specs.Steps.{loads as loads_of, sets_accu, is_conditional, is_plain, rests as rests_of};
 
 use records::instructions::{
     ADD, ADDI, CAS, EXIT, HALT, JMP, JS, JZ, LOAD, MEM, MUL, MULI, SUB, SUBI, is_jump,
@@ -8,14 +8,14 @@ use records::instructions::{
 
 // Words that load.
 pub fn loads(n: u8) -> bool
-    ensures { result ≡ loadsOf n }
+    ensures { result ≡ loads_of n }
 {
     (n == LOAD) | (n == ADD) | (n == SUB) | (n == MUL) | (n == MEM)
 }
 
 // Words that change accu.
 pub fn sets_accu(n: u8) -> bool
-    ensures { result ≡ setsAccu n }
+    ensures { result ≡ sets_accu n }
 {
     (n == LOAD)
         | (n == ADD)
@@ -30,7 +30,7 @@ pub fn sets_accu(n: u8) -> bool
 
 // Conditional jumps.
 pub fn is_conditional(n: u8) -> bool
-    ensures { result ≡ isConditional n }
+    ensures { result ≡ is_conditional n }
 {
     is_jump(n) & (n != JMP)
 }
@@ -44,7 +44,7 @@ pub fn is_plain(n: u8) -> bool
 
 // HALT and EXIT, whose pc stays.
 pub fn rests(n: u8) -> bool
-    ensures { result ≡ restsOf n }
+    ensures { result ≡ rests_of n }
 {
     (n == HALT) | (n == EXIT)
 }

@@ -1,9 +1,9 @@
 // Lists of a set's statements, in a table that is made once for a set: the CHECKs of each thread by checkpoint, and its jumps by the statement that they name.
 ghost use Rattle.std.specs.Prelude.{◌≡◌, ℕ, ◌+◌, ◌≤◌, ◌<◌, length, get_or, replicate};
-ghost use Rattle.records.specs.Sets.{setBy, mostThreads};
+ghost use Rattle.records.specs.Sets.{set_by, most_threads};
 ghost use Rattle.set_index.specs.Points.{listed};
-ghost use Rattle.set_index.specs.Members.{Members, classCount};
-ghost use Rattle.set_index.specs.ListTables.{ListTable, Distinct, many, name, all_of, Listing, Made, listsLength, noStatement};
+ghost use Rattle.set_index.specs.Members.{Members, class_count};
+ghost use Rattle.set_index.specs.ListTables.{ListTable, Distinct, many, name, all_of, Listing, Made, lists_length, no_statement};
 
 use crate::members::{IS_CHECK, IS_JUMP, count_of, member};
 use crate::numbers::add;
@@ -36,8 +36,8 @@ pub const LENGTH: usize = (NEXT_JUMPS + STATEMENT_ROW * THREADS_OF) as usize;
 
 // The checkpoint that has number c, NONE if there is none.
 fn point_of(points: Points, c: u16) -> u16
-    ensures { (result < noStatement → (result < length (listed points)) × (get_or (listed points) result 0 ≡ c))
-        × (noStatement ≤ result → (p : ℕ) → p < length (listed points) → get_or (listed points) p 0 ≡ c → ⊥) }
+    ensures { (result < no_statement → (result < length (listed points)) × (get_or (listed points) result 0 ≡ c))
+        × (no_statement ≤ result → (p : ℕ) → p < length (listed points) → get_or (listed points) p 0 ≡ c → ⊥) }
 {
     let n = points::points_count(points);
     let mut p: u16 = 0;
@@ -52,8 +52,8 @@ fn point_of(points: Points, c: u16) -> u16
 
 // Which list of its class a statement with this argument is of: a CHECK of its checkpoint's, a jump of that of the statement it names; NONE or more if none.
 fn list_of(points: Points, class: u8, argument: u16) -> u16
-    ensures { (result < noStatement → (result < many (listed points) class) × (name (listed points) class result ≡ argument))
-        × (noStatement ≤ result → (p : ℕ) → p < many (listed points) class → name (listed points) class p ≡ argument → ⊥) }
+    ensures { (result < no_statement → (result < many (listed points) class) × (name (listed points) class result ≡ argument))
+        × (no_statement ≤ result → (p : ℕ) → p < many (listed points) class → name (listed points) class p ≡ argument → ⊥) }
 {
     if class == IS_CHECK {
         return point_of(points, argument);
@@ -74,10 +74,10 @@ fn list_members(
     t: u8,
 )
     ensures { (length table.new ≡ length table.old)
-        × (class < classCount → t < mostThreads → Members (setBy set.now layout) members.now → Distinct (listed points)
+        × (class < class_count → t < most_threads → Members (set_by set.now layout) members.now → Distinct (listed points)
         → heads + many (listed points) class ≤ nexts → nexts + 32 ≤ length table.old
-        → ((p : ℕ) → p < many (listed points) class → get_or table.old (heads + p) 0 ≡ noStatement)
-        → Listing (setBy set.now layout) (listed points) class t (all_of (setBy set.now layout) t) heads nexts table.old table.new) }
+        → ((p : ℕ) → p < many (listed points) class → get_or table.old (heads + p) 0 ≡ no_statement)
+        → Listing (set_by set.now layout) (listed points) class t (all_of (set_by set.now layout) t) heads nexts table.old table.new) }
 {
     let first = records::first(layout, t);
     let mut j = count_of(members, class, t);
@@ -92,9 +92,9 @@ fn list_members(
 // Makes the lists of thread t.
 fn make_thread(set: &[u8], layout: Layout, points: Points, members: &[u8], table: &mut [u8], t: u8)
     ensures { (length table.new ≡ length table.old)
-        × (t < mostThreads → Members (setBy set.now layout) members.now → Distinct (listed points)
-        → Made (setBy set.now layout) (listed points) t table.old
-        → Made (setBy set.now layout) (listed points) (t + 1) table.new) }
+        × (t < most_threads → Members (set_by set.now layout) members.now → Distinct (listed points)
+        → Made (set_by set.now layout) (listed points) t table.old
+        → Made (set_by set.now layout) (listed points) (t + 1) table.new) }
 {
     let row = STATEMENT_ROW * (t as u16);
     let checks = POINT_ROW * (t as u16);
@@ -125,8 +125,8 @@ fn make_thread(set: &[u8], layout: Layout, points: Points, members: &[u8], table
 // Makes the table, from one whose numbers are all NONE.
 pub fn make(set: &[u8], layout: Layout, points: Points, members: &[u8], table: &mut [u8])
     ensures { (length table.new ≡ length table.old)
-        × (table.old ≡ replicate listsLength noStatement → layout.threads ≤ mostThreads → Members (setBy set.now layout) members.now → Distinct (listed points)
-        → ListTable (setBy set.now layout) (listed points) table.new) }
+        × (table.old ≡ replicate lists_length no_statement → layout.threads ≤ most_threads → Members (set_by set.now layout) members.now → Distinct (listed points)
+        → ListTable (set_by set.now layout) (listed points) table.new) }
 {
     let threads = layout.threads;
     if THREADS < threads {

@@ -1,7 +1,7 @@
 // A table of the statements of each class, made once for a set: most statements give a chain no link, and are not visited by it.
 ghost use Rattle.std.specs.Prelude.{◌≡◌, ℕ, ◌+◌, ◌≤◌, ◌<◌, length, get_or, replicate};
-ghost use Rattle.records.specs.Sets.{Set, setBy, mostThreads, mostStatements};
-ghost use Rattle.set_index.specs.Members.{inClass, members_of, Members, Filled, classCount, membersLength};
+ghost use Rattle.records.specs.Sets.{Set, set_by, most_threads, most_statements};
+ghost use Rattle.set_index.specs.Members.{in_class, members_of, Members, Filled, class_count, members_length};
 
 use crate::classes::{is_conditional, loads, sets_accu};
 use machine::choices::needs_empty;
@@ -50,7 +50,7 @@ const THREADS: u8 = Layout::THREADS as u8;
 
 // How many statements of thread t are of a class.
 pub fn count_of(members: &[u8], class: u8, t: u8) -> u16
-    ensures { ((S : Set) → Members S members.now → class < classCount → t < mostThreads → result ≡ length (members_of S class t)) × (result ≤ mostStatements) }
+    ensures { ((S : Set) → Members S members.now → class < class_count → t < most_threads → result ≡ length (members_of S class t)) × (result ≤ most_statements) }
 {
     let many = base::byte_at(members, CLASS * (class as usize) + ROW * (t as usize));
     if many < STATEMENTS {
@@ -61,7 +61,7 @@ pub fn count_of(members: &[u8], class: u8, t: u8) -> u16
 
 // Which statement is the one of number j among them.
 pub fn member(members: &[u8], class: u8, t: u8, j: u16) -> u16
-    ensures { (S : Set) → Members S members.now → class < classCount → t < mostThreads → j < length (members_of S class t)
+    ensures { (S : Set) → Members S members.now → class < class_count → t < most_threads → j < length (members_of S class t)
         → result ≡ get_or (members_of S class t) j 0 }
 {
     let row = CLASS * (class as usize) + ROW * (t as usize);
@@ -71,7 +71,7 @@ pub fn member(members: &[u8], class: u8, t: u8, j: u16) -> u16
 // Adds statement i of thread t to the members of a class, where it belongs to them.
 fn visit(members: &mut [u8], class: u8, t: u8, i: u8, belongs: bool)
     ensures { (length members.new ≡ length members.old)
-        × ((S : Set) → class < classCount → t < mostThreads → i < mostStatements → belongs ≡ inClass class (S.statement t i).number
+        × ((S : Set) → class < class_count → t < most_threads → i < most_statements → belongs ≡ in_class class (S.statement t i).number
         → Filled S t i class members.old → Filled S t i (class + 1) members.new) }
 {
     if belongs {
@@ -90,7 +90,7 @@ fn visit(members: &mut [u8], class: u8, t: u8, i: u8, belongs: bool)
 // Visits the first five classes for statement i of thread t, of instruction n. A proof allows five calls that lend one buffer.
 fn visit_first(members: &mut [u8], t: u8, i: u8, n: u8)
     ensures { (length members.new ≡ length members.old)
-        × ((S : Set) → t < mostThreads → i < mostStatements → n ≡ (S.statement t i).number → Filled S t i 0 members.old → Filled S t i 5 members.new) }
+        × ((S : Set) → t < most_threads → i < most_statements → n ≡ (S.statement t i).number → Filled S t i 0 members.old → Filled S t i 5 members.new) }
 {
     visit(members, IS_STORE, t, i, n == STORE);
     visit(members, IS_MEM, t, i, n == MEM);
@@ -102,7 +102,7 @@ fn visit_first(members: &mut [u8], t: u8, i: u8, n: u8)
 // Visits the next four classes.
 fn visit_next(members: &mut [u8], t: u8, i: u8, n: u8)
     ensures { (length members.new ≡ length members.old)
-        × ((S : Set) → t < mostThreads → i < mostStatements → n ≡ (S.statement t i).number → Filled S t i 5 members.old → Filled S t i 9 members.new) }
+        × ((S : Set) → t < most_threads → i < most_statements → n ≡ (S.statement t i).number → Filled S t i 5 members.old → Filled S t i 9 members.new) }
 {
     visit(members, IS_EXIT, t, i, n == EXIT);
     visit(members, NEEDS_EMPTY, t, i, needs_empty(n));
@@ -113,7 +113,7 @@ fn visit_next(members: &mut [u8], t: u8, i: u8, n: u8)
 // Visits the last two classes.
 fn visit_last(members: &mut [u8], t: u8, i: u8, n: u8)
     ensures { (length members.new ≡ length members.old)
-        × ((S : Set) → t < mostThreads → i < mostStatements → n ≡ (S.statement t i).number → Filled S t i 9 members.old → Filled S t i 11 members.new) }
+        × ((S : Set) → t < most_threads → i < most_statements → n ≡ (S.statement t i).number → Filled S t i 9 members.old → Filled S t i 11 members.new) }
 {
     visit(members, LOADS, t, i, loads(n));
     visit(members, IS_CONDITIONAL, t, i, is_conditional(n));
@@ -121,7 +121,7 @@ fn visit_last(members: &mut [u8], t: u8, i: u8, n: u8)
 
 // How many of a thread's statements the table is of.
 fn listed_count(count: u16) -> u8
-    ensures { (result ≤ mostStatements) × (count ≤ mostStatements → result ≡ count) }
+    ensures { (result ≤ most_statements) × (count ≤ most_statements → result ≡ count) }
 {
     if count < Layout::STATEMENTS {
         return count as u8;
@@ -132,8 +132,8 @@ fn listed_count(count: u16) -> u8
 // Makes the table for a thread.
 fn make_thread(set: &[u8], layout: Layout, members: &mut [u8], t: u8)
     ensures { (length members.new ≡ length members.old)
-        × (t < mostThreads → Filled (setBy set.now layout) t 0 0 members.old
-        → Filled (setBy set.now layout) (t + 1) 0 0 members.new) }
+        × (t < most_threads → Filled (set_by set.now layout) t 0 0 members.old
+        → Filled (set_by set.now layout) (t + 1) 0 0 members.new) }
 {
     // With these known, the compiler drops the tests of places in the loop.
     if THREADS <= t {
@@ -158,8 +158,8 @@ fn make_thread(set: &[u8], layout: Layout, members: &mut [u8], t: u8)
 // Makes the table.
 pub fn make(set: &[u8], layout: Layout, members: &mut [u8])
     ensures { (length members.new ≡ length members.old)
-        × (members.old ≡ replicate membersLength 0 → ((t : ℕ) → t < mostThreads → get_or layout.counts t 0 ≤ mostStatements)
-        → Members (setBy set.now layout) members.new) }
+        × (members.old ≡ replicate members_length 0 → ((t : ℕ) → t < most_threads → get_or layout.counts t 0 ≤ most_statements)
+        → Members (set_by set.now layout) members.new) }
 {
     make_thread(set, layout, members, 0);
     make_thread(set, layout, members, 1);

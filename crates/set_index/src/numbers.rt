@@ -1,7 +1,7 @@
 // The numbers of the table: of each list its first statement, and of each statement the next one of its list; NONE where there is none.
 ghost use Rattle.std.specs.Prelude.{◌≡◌, ◌+◌, ◌≤◌, ◌<◌, length, get_or};
-ghost use Rattle.set_index.specs.ListTables.{onward, put, noStatement};
-ghost use Rattle.records.specs.Sets.{mostStatements};
+ghost use Rattle.set_index.specs.ListTables.{onward, put, no_statement};
+ghost use Rattle.records.specs.Sets.{most_statements};
 
 use crate::lists::{NONE, STATEMENT_ROW};
 
@@ -26,9 +26,9 @@ pub fn next(table: &[u8], row: u16, i: u16) -> u16
 // Puts statement i before the others of a list. The first ones stand from `heads` on, the next ones from `nexts` on.
 pub fn add(table: &mut [u8], heads: u16, nexts: u16, list: u16, i: u16)
     ensures { (length table.new ≡ length table.old)
-        × (list < noStatement → i < mostStatements → heads + list < length table.old → nexts + i < length table.old
+        × (list < no_statement → i < most_statements → heads + list < length table.old → nexts + i < length table.old
         → table.new ≡ put table.old (heads + list) (nexts + i) i)
-        × (noStatement ≤ list → table.new ≡ table.old) }
+        × (no_statement ≤ list → table.new ≡ table.old) }
 {
     if NONE <= list {
         return;

@@ -1,6 +1,6 @@
 // The checkpoints of a set, in the order of their first CHECK.
 ghost use Rattle.std.specs.Prelude.{◌≡◌, List, ℕ, length, get_or, take};
-ghost use Rattle.records.specs.Sets.{setBy, mostCheckpoints};
+ghost use Rattle.records.specs.Sets.{set_by, most_checkpoints};
 ghost use Rattle.encoding.specs.Checkpoints.{member, noted, noted_in, checkpoints};
 ghost use Rattle.set_index.specs.Points.{listed};
 
@@ -59,7 +59,7 @@ fn known(points: Points, c: u16) -> bool
 
 // The checkpoints seen once a statement is looked at.
 fn note(points: Points, statement: Statement) -> Points
-    ensures { listed result ≡ take mostCheckpoints (noted (listed points) statement) }
+    ensures { listed result ≡ take most_checkpoints (noted (listed points) statement) }
 {
     if statement.number != CHECK {
         return points;
@@ -83,7 +83,7 @@ fn note(points: Points, statement: Statement) -> Points
 // The checkpoints seen once a thread is looked at.
 fn points_of(set: &[u8], layout: Layout, t: u8, seen: Points) -> Points
     ensures { (before : List ℕ) → listed seen ≡ take 8 before
-        → listed result ≡ take mostCheckpoints (noted_in (setBy set.now layout) t before (get_or layout.counts t 0)) }
+        → listed result ≡ take most_checkpoints (noted_in (set_by set.now layout) t before (get_or layout.counts t 0)) }
 {
     let n = records::count(layout, t);
     let first = records::first(layout, t);
@@ -98,7 +98,7 @@ fn points_of(set: &[u8], layout: Layout, t: u8, seen: Points) -> Points
 
 // The first eight checkpoints of a set: an accepted set has no more.
 pub fn of_set(set: &[u8], layout: Layout) -> Points
-    ensures { listed result ≡ take mostCheckpoints (checkpoints (setBy set.now layout)) }
+    ensures { listed result ≡ take most_checkpoints (checkpoints (set_by set.now layout)) }
 {
     let threads = layout.threads;
     let mut points = Points {

@@ -5,12 +5,12 @@ use mathlib.Core.Bool.{true, false}
 use mathlib.Core.List.{List, [], ◌∷◌, ◌++◌}
 use lib.ListN.{replicate, drop}
 use Rattle.base.specs.Below.{every, some, number, least}
-use Rattle.records.specs.Sets.{setOf, threadsOf, count_of, start_of, follows, argumentFits, recordFits, opens_at, setAccepted}
+use Rattle.records.specs.Sets.{set_of, threads_of, count_of, start_of, follows, argument_fits, record_fits, opens_at, set_accepted}
 use Rattle.records.specs.Instructions.{ADDI, MULI, JNZNS}
-use Rattle.records.specs.Maps.{ascendsAt, mapAccepted, mapValue}
-use Rattle.machine.specs.Machine.{State, start, fresh, noWrite, withAccu, address, wordTaken, cellsRead, row, jumps, nextPc, executed, casMatches, contains, opened, waiting, permitted, acted, leavesMark, cleared, written, step, reads}
-use Rattle.machine.specs.Runs.{choice_of, choices, somePermitted, end_of, after}
-use Rattle.machine.specs.Traces.{stepBytes, traceStep, shown, effective, trace}
+use Rattle.records.specs.Maps.{ascends_at, map_accepted, map_value}
+use Rattle.machine.specs.Machine.{State, start, fresh, no_write, with_accu, address, word_taken, cells_read, row, jumps, next_pc, executed, cas_matches, contains, opened, waiting, permitted, acted, leaves_mark, cleared, written, step, reads}
+use Rattle.machine.specs.Runs.{choice_of, choices, some_permitted, end_of, after}
+use Rattle.machine.specs.Traces.{step_bytes, trace_step, shown, effective, trace}
 use Rattle.machine.specs.Maps.{begin, outcome, advanced, follow}
 use Rattle.machine.specs.declared.RunAnswer.TheVariants.{Ran, Refused}
 use Rattle.machine.specs.declared.End.TheVariants.{Code, Open}
@@ -50,30 +50,30 @@ unaddressed = 0 ∷ 1 ∷ 1 ∷ 0 ∷ 9 ∷ 0 ∷ 0 ∷ 0 ∷ statement 0 17 0 1
 
 -- the load of 5 is forwarded from the buffer: EXIT 0
 case2 : simulated set2 (5 ∷ 0 ∷ 0 ∷ 0 ∷ []) (0 ∷ 0 ∷ 0 ∷ 0 ∷ 0 ∷ []) 120 ≡ Ran 5 (Code 0)
-unfolding set2 statement simulated limited follow begin outcome advanced choices choice_of end_of somePermitted step reads written cleared leavesMark acted permitted waiting opened contains casMatches executed nextPc jumps row cellsRead wordTaken address ascendsAt mapAccepted setAccepted opens_at recordFits argumentFits follows start_of count_of threadsOf every some number least
+unfolding set2 statement simulated limited follow begin outcome advanced choices choice_of end_of some_permitted step reads written cleared leaves_mark acted permitted waiting opened contains cas_matches executed next_pc jumps row cells_read word_taken address ascends_at map_accepted set_accepted opens_at record_fits argument_fits follows start_of count_of threads_of every some number least
 case2 = refl
 
 case4 : simulated set4 [] (1 ∷ 0 ∷ 1 ∷ []) 72 ≡ Ran 3 (Code 3)
-unfolding set4 statement simulated limited follow begin outcome advanced choices choice_of end_of somePermitted step reads written cleared leavesMark acted permitted waiting opened contains casMatches executed nextPc jumps row cellsRead wordTaken address ascendsAt mapAccepted setAccepted opens_at recordFits argumentFits follows start_of count_of threadsOf every some number least
+unfolding set4 statement simulated limited follow begin outcome advanced choices choice_of end_of some_permitted step reads written cleared leaves_mark acted permitted waiting opened contains cas_matches executed next_pc jumps row cells_read word_taken address ascends_at map_accepted set_accepted opens_at record_fits argument_fits follows start_of count_of threads_of every some number least
 case4 = refl
 
 case4-long : simulated set4 [] (replicate 60 0 ++ (1 ∷ 0 ∷ 1 ∷ [])) 1536 ≡ Ran 63 (Code 3)
-unfolding set4 statement simulated limited follow begin outcome advanced choices choice_of end_of somePermitted step reads written cleared leavesMark acted permitted waiting opened contains casMatches executed nextPc jumps row cellsRead wordTaken address ascendsAt mapAccepted setAccepted opens_at recordFits argumentFits follows start_of count_of threadsOf every some number least
+unfolding set4 statement simulated limited follow begin outcome advanced choices choice_of end_of some_permitted step reads written cleared leaves_mark acted permitted waiting opened contains cas_matches executed next_pc jumps row cells_read word_taken address ascends_at map_accepted set_accepted opens_at record_fits argument_fits follows start_of count_of threads_of every some number least
 case4-long = refl
 
-case6 : ((row ADDI 1 0 0 (withAccu 65535 fresh)).accu ≡ 0) × ((row MULI 300 0 0 (withAccu 300 fresh)).accu ≡ 24464)
+case6 : ((row ADDI 1 0 0 (with_accu 65535 fresh)).accu ≡ 0) × ((row MULI 300 0 0 (with_accu 300 fresh)).accu ≡ 24464)
     × (jumps JNZNS 32767 ≡ true) × (jumps JNZNS 0 ≡ false) × (jumps JNZNS 32768 ≡ false)
 unfolding row jumps
 case6 = (refl, refl, refl, refl, refl)
 
 -- the state after MEM 4, ADDI 1, CAS 4 over 4→9, and the trace step of the HALT after them
 state7 : State
-state7 = after (setOf set7) (start (mapValue (4 ∷ 0 ∷ 9 ∷ 0 ∷ []))) (choices (0 ∷ 0 ∷ 0 ∷ []))
+state7 = after (set_of set7) (start (map_value (4 ∷ 0 ∷ 9 ∷ 0 ∷ []))) (choices (0 ∷ 0 ∷ 0 ∷ []))
 
 case7 : (state7.memory 4 ≡ 10) × ((state7.threads 0).accu ≡ 1)
-    × (drop 72 (trace (setOf set7) (start (mapValue (4 ∷ 0 ∷ 9 ∷ 0 ∷ []))) noWrite (choices (0 ∷ 0 ∷ 0 ∷ 0 ∷ [])))
+    × (drop 72 (trace (set_of set7) (start (map_value (4 ∷ 0 ∷ 9 ∷ 0 ∷ []))) no_write (choices (0 ∷ 0 ∷ 0 ∷ 0 ∷ [])))
     ≡ 0 ∷ 17 ∷ 3 ∷ 0 ∷ 0 ∷ 0 ∷ 0 ∷ 0 ∷ 1 ∷ 0 ∷ 9 ∷ 0 ∷ 0 ∷ 0 ∷ 0 ∷ 0 ∷ 1 ∷ 0 ∷ 4 ∷ 0 ∷ 10 ∷ 0 ∷ 0 ∷ 0 ∷ [])
-unfolding state7 after trace traceStep stepBytes shown effective set7 statement simulated limited follow begin outcome advanced choices choice_of end_of somePermitted step reads written cleared leavesMark acted permitted waiting opened contains casMatches executed nextPc jumps row cellsRead wordTaken address ascendsAt mapAccepted setAccepted opens_at recordFits argumentFits follows start_of count_of threadsOf every some number least
+unfolding state7 after trace trace_step step_bytes shown effective set7 statement simulated limited follow begin outcome advanced choices choice_of end_of some_permitted step reads written cleared leaves_mark acted permitted waiting opened contains cas_matches executed next_pc jumps row cells_read word_taken address ascends_at map_accepted set_accepted opens_at record_fits argument_fits follows start_of count_of threads_of every some number least
 case7 = (refl, refl, refl)
 
 -- ADDI 9, STORE 5, LOAD [5]
@@ -81,23 +81,23 @@ indirect : List ℕ
 indirect = statement 0 4 9 0 (statement 0 1 5 1 (0 ∷ 0 ∷ 1 ∷ 0 ∷ 5 ∷ 0 ∷ 2 ∷ 0 ∷ statement 0 17 0 3 []))
 
 -- the address word is forwarded from the buffer, so that the load's trace step shows 9; the word is cell 9's
-forwarded-address : (drop 48 (trace (setOf indirect) (start (mapValue (9 ∷ 0 ∷ 7 ∷ 0 ∷ []))) noWrite (choices (0 ∷ 0 ∷ 0 ∷ [])))
+forwarded-address : (drop 48 (trace (set_of indirect) (start (map_value (9 ∷ 0 ∷ 7 ∷ 0 ∷ []))) no_write (choices (0 ∷ 0 ∷ 0 ∷ [])))
     ≡ 0 ∷ 0 ∷ 2 ∷ 0 ∷ 5 ∷ 0 ∷ 1 ∷ 1 ∷ 9 ∷ 0 ∷ 0 ∷ 0 ∷ 5 ∷ 0 ∷ 9 ∷ 0 ∷ 0 ∷ 0 ∷ 0 ∷ 0 ∷ 0 ∷ 0 ∷ 9 ∷ 0 ∷ [])
-    × (((after (setOf indirect) (start (mapValue (9 ∷ 0 ∷ 7 ∷ 0 ∷ []))) (choices (0 ∷ 0 ∷ 0 ∷ []))).threads 0).accu ≡ 7)
-unfolding indirect after trace traceStep stepBytes shown effective statement choices choice_of step written cleared leavesMark acted permitted waiting opened contains casMatches executed nextPc jumps row wordTaken address start_of count_of threadsOf every some number least
+    × (((after (set_of indirect) (start (map_value (9 ∷ 0 ∷ 7 ∷ 0 ∷ []))) (choices (0 ∷ 0 ∷ 0 ∷ []))).threads 0).accu ≡ 7)
+unfolding indirect after trace trace_step step_bytes shown effective statement choices choice_of step written cleared leaves_mark acted permitted waiting opened contains cas_matches executed next_pc jumps row word_taken address start_of count_of threads_of every some number least
 forwarded-address = (refl, refl)
 
 -- FENCE with full 1 is not permitted; CHECK runs
 case8 : (simulated (set8 2) [] (0 ∷ 0 ∷ []) 48 ≡ Refused 12 1) × (simulated (set8 19) [] (0 ∷ 0 ∷ []) 48 ≡ Ran 2 Open)
-unfolding set8 statement simulated limited follow begin outcome advanced choices choice_of end_of somePermitted step reads written cleared leavesMark acted permitted waiting opened contains casMatches executed nextPc jumps row cellsRead wordTaken address ascendsAt mapAccepted setAccepted opens_at recordFits argumentFits follows start_of count_of threadsOf every some number least
+unfolding set8 statement simulated limited follow begin outcome advanced choices choice_of end_of some_permitted step reads written cleared leaves_mark acted permitted waiting opened contains cas_matches executed next_pc jumps row cells_read word_taken address ascends_at map_accepted set_accepted opens_at record_fits argument_fits follows start_of count_of threads_of every some number least
 case8 = (refl, refl)
 
 -- a marked thread waits; once both are marked, both go on
 waits : (simulated meeting [] (0 ∷ 0 ∷ []) 48 ≡ Refused 12 1) × (simulated meeting [] (0 ∷ 1 ∷ 0 ∷ 1 ∷ []) 96 ≡ Ran 4 (Code 0))
-unfolding meeting statement simulated limited follow begin outcome advanced choices choice_of end_of somePermitted step reads written cleared leavesMark acted permitted waiting opened contains casMatches executed nextPc jumps row cellsRead wordTaken address ascendsAt mapAccepted setAccepted opens_at recordFits argumentFits follows start_of count_of threadsOf every some number least
+unfolding meeting statement simulated limited follow begin outcome advanced choices choice_of end_of some_permitted step reads written cleared leaves_mark acted permitted waiting opened contains cas_matches executed next_pc jumps row cells_read word_taken address ascends_at map_accepted set_accepted opens_at record_fits argument_fits follows start_of count_of threads_of every some number least
 waits = (refl, refl)
 
 -- a first cell read that the map lacks: of a data word, of an address word
 lacks : (simulated unmapped [] (0 ∷ []) 24 ≡ Refused 14 0) × (simulated unaddressed [] (0 ∷ []) 24 ≡ Refused 14 0)
-unfolding unmapped unaddressed statement simulated limited follow begin outcome advanced choices choice_of end_of somePermitted step reads written cleared leavesMark acted permitted waiting opened contains casMatches executed nextPc jumps row cellsRead wordTaken address ascendsAt mapAccepted setAccepted opens_at recordFits argumentFits follows start_of count_of threadsOf every some number least
+unfolding unmapped unaddressed statement simulated limited follow begin outcome advanced choices choice_of end_of some_permitted step reads written cleared leaves_mark acted permitted waiting opened contains cas_matches executed next_pc jumps row cells_read word_taken address ascends_at map_accepted set_accepted opens_at record_fits argument_fits follows start_of count_of threads_of every some number least
 lacks = (refl, refl)

@@ -1,18 +1,18 @@
 // Simulation by a given schedule: the answer, and the trace of an accepted run.
 ghost use Rattle.std.specs.Prelude.{◌≡◌, ◌≤◌, length};
-ghost use Rattle.records.specs.Maps.{cells, mapValue, runCells};
-ghost use Rattle.records.specs.Sets.{setBy, mostThreads};
-ghost use Rattle.machine.specs.Machine.{start, noWrite};
+ghost use Rattle.records.specs.Maps.{cells, map_value, run_cells};
+ghost use Rattle.records.specs.Sets.{set_by, most_threads};
+ghost use Rattle.machine.specs.Machine.{start, no_write};
 ghost use Rattle.machine.specs.Runs.{choices};
-ghost use Rattle.machine.specs.Traces.{trace as traceOf};
-ghost use Rattle.simulation.specs.Simulation.{limited, outputOver, simulated, traceOutput, bytesOut};
+ghost use Rattle.machine.specs.Traces.{trace as trace_of};
+ghost use Rattle.simulation.specs.Simulation.{limited, output_over, simulated, trace_output, bytes_out};
 
 use machine::{Machine, RunAnswer};
 use records::{Layout, refusals};
 
 // How many of a run's bytes are written to the output: none where it is refused.
 fn bytes_out(answer: RunAnswer, bytes: usize) -> usize
-    ensures { result ≡ bytesOut answer bytes }
+    ensures { result ≡ bytes_out answer bytes }
 {
     match answer {
         RunAnswer::Ran { steps: _, end: _ } => bytes,
@@ -25,9 +25,9 @@ fn bytes_out(answer: RunAnswer, bytes: usize) -> usize
 
 // The call once set and map are accepted.
 fn accepted(set: &[u8], layout: Layout, map: &[u8], schedule: &[u8], trace: &mut [u8]) -> RunAnswer
-    requires { (layout.threads ≤ mostThreads) × (cells map.now ≤ runCells) }
-    ensures { (result ≡ limited (setBy set.now layout) map.now schedule.now (length trace.old))
-        × (trace.new ≡ outputOver result (traceOf (setBy set.now layout) (start (mapValue map.now)) noWrite (choices schedule.now)) trace.old) }
+    requires { (layout.threads ≤ most_threads) × (cells map.now ≤ run_cells) }
+    ensures { (result ≡ limited (set_by set.now layout) map.now schedule.now (length trace.old))
+        × (trace.new ≡ output_over result (trace_of (set_by set.now layout) (start (map_value map.now)) no_write (choices schedule.now)) trace.old) }
 {
     let n = schedule.len();
     if Machine::STEPS < n {
@@ -54,7 +54,7 @@ fn accepted(set: &[u8], layout: Layout, map: &[u8], schedule: &[u8], trace: &mut
 // Simulates a schedule over a set and a map, and writes its trace.
 pub fn simulate(set: &[u8], map: &[u8], schedule: &[u8], trace: &mut [u8]) -> RunAnswer
     ensures { (result ≡ simulated set.now map.now schedule.now (length trace.old))
-        × (trace.new ≡ traceOutput result set.now map.now schedule.now trace.old) }
+        × (trace.new ≡ trace_output result set.now map.now schedule.now trace.old) }
 {
     let layout = records::set::layout(set);
     if layout.threads == 0 {

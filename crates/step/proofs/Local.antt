@@ -29,30 +29,30 @@ use Rattle.machine.proofs.operands.Operand.TheLaws as O'
 
 -- ---- machine values
 
-abbrev pub threadVal : Thread → Val
-threadVal = LL.val T.the_type T'.the_laws
+abbrev pub thread_val : Thread → Val
+thread_val = LL.val T.the_type T'.the_laws
 
-abbrev pub choiceVal : Choice → Val
-choiceVal = EL.val E.the_type E'.the_laws
+abbrev pub choice_val : Choice → Val
+choice_val = EL.val E.the_type E'.the_laws
 
-abbrev pub statementVal : Statement → Val
-statementVal = LL.val S.the_type S'.the_laws
+abbrev pub statement_val : Statement → Val
+statement_val = LL.val S.the_type S'.the_laws
 
-abbrev pub operandVal : Operand → Val
-operandVal = LL.val O.the_type O'.the_laws
+abbrev pub operand_val : Operand → Val
+operand_val = LL.val O.the_type O'.the_laws
 
 -- ---- a local that is lent
 
 module _ {M : Type 1} {𝓤 : Ura M} (𝓛 : Logic 𝓤) (h : Thread) (b o : ℕ) where
-  pub lies-of : (v : Val) → ent 𝓤 (sep 𝓤 (sem 𝓛 (fat full_share T'.mir b o v)) (sem 𝓛 ((T.the_row).own_val h (v ∷ [])))) (sem 𝓛 ((mem T.the_row).own_at h b o))
+  pub lies_of : (v : Val) → ent 𝓤 (sep 𝓤 (sem 𝓛 (fat full_share T'.mir b o v)) (sem 𝓛 ((T.the_row).own_val h (v ∷ [])))) (sem 𝓛 ((mem T.the_row).own_at h b o))
   unfolding part_of
-  lies-of v =
+  lies_of v =
       qed 𝓛 (‵ (fat full_share T'.mir b o v) ∷ ‵ ((T.the_row).own_val h (v ∷ [])) ∷ []) ∵ use1 𝓛 (‵ (cell_at full_share (T.the_row).mir (v ∷ []) b o)) (𝓛.laws.at_raw full_share T'.mir b o v) $
       fjoin ! $ fpack ! (List Val) (λ us. fsep (cell_at full_share (T.the_row).mir us b o) ((T.the_row).own_val h us)) (v ∷ []) $ done !
 
-  pub of-lies : ent 𝓤 (sem 𝓛 ((mem T.the_row).own_at h b o)) (sep 𝓤 (sem 𝓛 (fat full_share T'.mir b o (threadVal h))) (sem 𝓛 ((T.the_row).own_val h (threadVal h ∷ []))))
+  pub of_lies : ent 𝓤 (sem 𝓛 ((mem T.the_row).own_at h b o)) (sep 𝓤 (sem 𝓛 (fat full_share T'.mir b o (thread_val h))) (sem 𝓛 ((T.the_row).own_val h (thread_val h ∷ []))))
   unfolding part_of
-  of-lies =
+  of_lies =
       qed 𝓛 (‵ ((mem T.the_row).own_at h b o) ∷ []) ∵ fpick ! (λ vs. fsplit ! $
       spelt ! T.the_row (Is T.the_row) (shows 𝓛 T.the_row) (LL.vals T.the_type T'.the_laws) (LL.tells T.the_type T'.the_laws) full_share h vs b o $
-      use1 𝓛 (‵ (fat full_share T'.mir b o (threadVal h))) (𝓛.laws.raw_at full_share T'.mir b o (threadVal h)) $ frame ! $ done !)
+      use1 𝓛 (‵ (fat full_share T'.mir b o (thread_val h))) (𝓛.laws.raw_at full_share T'.mir b o (thread_val h)) $ frame ! $ done !)

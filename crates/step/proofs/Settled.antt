@@ -8,15 +8,15 @@ use borrow.Author.Tests.{eq-eqb, not-true}
 use lib.Dec.{eqb, ltb}
 use lib.ListN.{length, get_or, get_or-eq_default}
 use Rattle.base.proofs.Below.{every-not}
-use Rattle.base.proofs.Choice.{chosen, passed, and_left, and_right, and-false, or_left, or_right, or_no, clash}
+use Rattle.base.proofs.Choice.{chosen, passed, and_left, and_right, and_false, or_left, or_right, or_no, clash}
 use Rattle.base.specs.Below.{every}
 use Rattle.records.specs.Instructions.{CHECK, EXIT}
 use Rattle.records.specs.Sets.{Set}
 use Rattle.records.specs.declared.Statement.{Statement}
 use Rattle.machine.proofs.Permitted.{permitted-is}
-use Rattle.machine.specs.Held.{state_of, memoryOf, known_of, permittedBy, cells_of}
-use Rattle.machine.specs.Maps.{knowsAll, addressKnown, outcome}
-use Rattle.machine.specs.Machine.{State, actor, reads, unmarked, fresh, withPc, nextPc, row, flushed, executed, current, opened, cleared, waiting, written, memoryAfter, acted, leavesMark, step}
+use Rattle.machine.specs.Held.{state_of, memory_of, known_of, permitted_by, cells_of}
+use Rattle.machine.specs.Maps.{knows_all, address_known, outcome}
+use Rattle.machine.specs.Machine.{State, actor, reads, unmarked, fresh, with_pc, next_pc, row, flushed, executed, current, opened, cleared, waiting, written, memory_after, acted, leaves_mark, step}
 use Rattle.machine.specs.Traces.{shown, effective}
 use Rattle.machine.specs.declared.Choice.{Choice}
 use Rattle.machine.specs.declared.Choice.TheVariants.{Execute, Flush}
@@ -26,19 +26,19 @@ use Rattle.machine.specs.declared.Outcome.{Outcome}
 use Rattle.machine.specs.declared.Outcome.TheVariants.{Taken, NotPermitted, Lacking}
 use Rattle.machine.specs.declared.Read.{Read}
 use Rattle.machine.specs.declared.Thread.{Thread}
-use Rattle.step.specs.Acting.{marksSettled, threadsSettled, waits, threadBy, threadFrom, Operands, statementBy, written_by, readsBy, addressBy, addressedBy, outcomeBy, quiet, notTaken, Advances, onPermitted}
-use Rattle.step.specs.Step.{onTaken}
+use Rattle.step.specs.Acting.{marks_settled, threads_settled, waits, thread_by, thread_from, Operands, statement_by, written_by, reads_by, address_by, addressed_by, outcome_by, quiet, not_taken, Advances, on_permitted}
+use Rattle.step.specs.Step.{on_taken}
 use Rattle.step.specs.declared.acting.Stepped.{Stepped}
 
 module _ (S : Set) (marks : ℕ → Mark) (t : ℕ) (i : Statement) where
-  abbrev isCheck : Bool
-  isCheck = eqb i.number CHECK
+  abbrev is_check : Bool
+  is_check = eqb i.number CHECK
 
-  pub marks-cleared : isCheck ≡ false → cleared S marks ≡ marksSettled S marks t i
-  marks-cleared e = fun_ext (λ u. sym (passed _ _ (and-false (eqb u t) e)))
+  pub marks-cleared : is_check ≡ false → cleared S marks ≡ marks_settled S marks t i
+  marks-cleared e = fun_ext (λ u. sym (passed _ _ (and_false (eqb u t) e)))
 
-  pub marks-left : isCheck ≡ true →
-      (λ u. cond (eqb u t) (record { on = true; checkpoint = i.argument }) (cleared S marks u)) ≡ marksSettled S marks t i
+  pub marks-left : is_check ≡ true →
+      (λ u. cond (eqb u t) (record { on = true; checkpoint = i.argument }) (cleared S marks u)) ≡ marks_settled S marks t i
   marks-left e = fun_ext (λ u. sym (ap (λ (b : Bool). cond (b && eqb u t) (record { on = true; checkpoint = i.argument }) (cleared S marks u)) e))
 
 -- where no thread is marked, the marks stay
@@ -46,7 +46,7 @@ pub unmarked-stay : (S : Set) (marks : List Mark) → length marks ≡ 4 →
     ((get_or marks 0 unmarked).on || (get_or marks 1 unmarked).on || (get_or marks 2 unmarked).on || (get_or marks 3 unmarked).on) ≡ false →
     (λ u. get_or marks u unmarked) ≡ cleared S (λ u. get_or marks u unmarked)
 unfolding cleared
-unmarked-stay S marks n e = fun_ext (λ u. sym (passed _ _ (and-false (opened S (λ v. get_or marks v unmarked) (get_or marks u unmarked).checkpoint) (off u))))
+unmarked-stay S marks n e = fun_ext (λ u. sym (passed _ _ (and_false (opened S (λ v. get_or marks v unmarked) (get_or marks u unmarked).checkpoint) (off u))))
   where
     on : ℕ → Bool
     on u = (get_or marks u unmarked).on
@@ -63,104 +63,104 @@ unmarked-stay S marks n e = fun_ext (λ u. sym (passed _ _ (and-false (opened S 
 -- ---- a step by the acting thread alone
 
 -- its registers, from what its choice takes, are those of the machine's step
-pub acted-from : (S : Set) (s : State) (c : Choice) (x : Thread) (i : Statement) (a w : ℕ) → x ≡ s.threads (actor c) → Operands S s c i a w → threadFrom c i a w x ≡ acted S s c
+pub acted-from : (S : Set) (s : State) (c : Choice) (x : Thread) (i : Statement) (a w : ℕ) → x ≡ s.threads (actor c) → Operands S s c i a w → thread_from c i a w x ≡ acted S s c
 unfolding acted executed
 acted-from S s (Execute t) x i a w e o =
     let y = s.threads t in
-    ap (λ (z : Thread). withPc (nextPc i z) (row i.number i.argument a w z)) e
-    ∙ ap₂ (λ (b v : ℕ). withPc (nextPc i y) (row i.number i.argument b v y)) o.1 o.2
+    ap (λ (z : Thread). with_pc (next_pc i z) (row i.number i.argument a w z)) e
+    ∙ ap₂ (λ (b v : ℕ). with_pc (next_pc i y) (row i.number i.argument b v y)) o.1 o.2
     ∙ ap (λ (j : Statement). executed j s.memory y) o.0
 acted-from S s (Flush t) x i a w e o = ap flushed e
 
 -- a set of this statement alone, and a state of these registers alone
-abbrev pub setWith : Statement → Set
-setWith i = record { threads = 0; count = λ t. 0; statement = λ t p. i }
+abbrev pub set_with : Statement → Set
+set_with i = record { threads = 0; count = λ t. 0; statement = λ t p. i }
 
-abbrev pub stateWith : Thread → (ℕ → ℕ) → State
-stateWith x memory = record { threads = λ t. x; marks = λ t. unmarked; memory = memory; ended = false; code = 0 }
+abbrev pub state_with : Thread → (ℕ → ℕ) → State
+state_with x memory = record { threads = λ t. x; marks = λ t. unmarked; memory = memory; ended = false; code = 0 }
 
 module _ (S : Set) (m : Machine) (memory : ℕ → ℕ) where
-  abbrev pub actingIn : Choice → Thread
-  actingIn c = get_or m.threads (actor c) fresh
+  abbrev pub acting_in : Choice → Thread
+  acting_in c = get_or m.threads (actor c) fresh
 
-  pub written-by : (c : Choice) → written S (state_of m memory) c ≡ written_by c (statementBy S c (actingIn c)) (actingIn c) memory
+  pub written-by : (c : Choice) → written S (state_of m memory) c ≡ written_by c (statement_by S c (acting_in c)) (acting_in c) memory
   unfolding written
   written-by (Execute t) = refl
   written-by (Flush t) = refl
 
-  pub reads-by : (c : Choice) → reads S (state_of m memory) c ≡ readsBy c (statementBy S c (actingIn c)) (actingIn c) memory
+  pub reads-by : (c : Choice) → reads S (state_of m memory) c ≡ reads_by c (statement_by S c (acting_in c)) (acting_in c) memory
   unfolding reads
   reads-by (Execute t) = refl
   reads-by (Flush t) = refl
 
-  pub effective-by : (c : Choice) → effective S (state_of m memory) c ≡ addressBy c (statementBy S c (actingIn c)) (actingIn c) memory
+  pub effective-by : (c : Choice) → effective S (state_of m memory) c ≡ address_by c (statement_by S c (acting_in c)) (acting_in c) memory
   unfolding effective
   effective-by (Execute t) = refl
   effective-by (Flush t) = refl
 
-  pub addressed-by : (known : ℕ → Bool) (c : Choice) → addressKnown S (record { state = state_of m memory; known = known }) c ≡ addressedBy c (statementBy S c (actingIn c)) (actingIn c) known
-  unfolding addressKnown
+  pub addressed-by : (known : ℕ → Bool) (c : Choice) → address_known S (record { state = state_of m memory; known = known }) c ≡ addressed_by c (statement_by S c (acting_in c)) (acting_in c) known
+  unfolding address_known
   addressed-by known (Execute t) = refl
   addressed-by known (Flush t) = refl
 
-  pub shown_by : (c : Choice) → shown S (state_of m memory) c ≡ statementBy S c (actingIn c)
+  pub shown_by : (c : Choice) → shown S (state_of m memory) c ≡ statement_by S c (acting_in c)
   unfolding shown
   shown_by (Execute t) = refl
   shown_by (Flush t) = refl
 
-  allowed-by : (c : Choice) (waiting : Bool) → permittedBy c (current S (state_of m memory) (actor c)) (actingIn c) waiting ≡ permittedBy c (statementBy S c (actingIn c)) (actingIn c) waiting
+  allowed-by : (c : Choice) (waiting : Bool) → permitted_by c (current S (state_of m memory) (actor c)) (acting_in c) waiting ≡ permitted_by c (statement_by S c (acting_in c)) (acting_in c) waiting
   allowed-by (Execute t) w = refl
   allowed-by (Flush t) w = refl
 
-  turned : (ended there permittedBy : Bool) → (not ended && (there && permittedBy)) ≡ (there && not ended && permittedBy)
-  turned true true permittedBy = refl
-  turned true false permittedBy = refl
-  turned false true permittedBy = refl
-  turned false false permittedBy = refl
+  turned : (ended there permitted_by : Bool) → (not ended && (there && permitted_by)) ≡ (there && not ended && permitted_by)
+  turned true true permitted_by = refl
+  turned true false permitted_by = refl
+  turned false true permitted_by = refl
+  turned false false permitted_by = refl
 
   pub outcome-by : (known : ℕ → Bool) (c : Choice) →
       outcome S (record { state = state_of m memory; known = known }) c
-      ≡ outcomeBy (ltb (actor c) S.threads && not m.ended) c (statementBy S c (actingIn c)) (actingIn c) (waits S (λ u. get_or m.marks u unmarked) (get_or m.marks (actor c) unmarked)) memory known
+      ≡ outcome_by (ltb (actor c) S.threads && not m.ended) c (statement_by S c (acting_in c)) (acting_in c) (waits S (λ u. get_or m.marks u unmarked) (get_or m.marks (actor c) unmarked)) memory known
   unfolding outcome waiting
   outcome-by known c =
       let w = waits S (λ u. get_or m.marks u unmarked) (get_or m.marks (actor c) unmarked) in
-      ap₂ (λ (b : Bool) (cells : List ℕ). cond b (cond (knowsAll known cells) Taken Lacking) NotPermitted)
+      ap₂ (λ (b : Bool) (cells : List ℕ). cond b (cond (knows_all known cells) Taken Lacking) NotPermitted)
       (ap (λ (b : Bool). not m.ended && b) (permitted-is S (state_of m memory) c ∙ ap (λ (b : Bool). ltb (actor c) S.threads && b) (allowed-by c w))
-      ∙ turned m.ended (ltb (actor c) S.threads) (permittedBy c (statementBy S c (actingIn c)) (actingIn c) w))
+      ∙ turned m.ended (ltb (actor c) S.threads) (permitted_by c (statement_by S c (acting_in c)) (acting_in c) w))
       (reads-by c)
 
   -- the state by what the acting thread's choice does
-  abbrev pub stateBy : ℕ → Thread → Statement → (ℕ → Mark) → (ℕ → ℕ) → State
-  stateBy t y i marks mem = record {
-    threads = threadsSettled (λ u. get_or m.threads u fresh) t y;
+  abbrev pub state_by : ℕ → Thread → Statement → (ℕ → Mark) → (ℕ → ℕ) → State
+  state_by t y i marks mem = record {
+    threads = threads_settled (λ u. get_or m.threads u fresh) t y;
     marks = marks;
     memory = mem;
-    ended = m.ended || eqb i.number EXIT || every S.threads (λ u. (threadsSettled (λ v. get_or m.threads v fresh) t y u).halted);
+    ended = m.ended || eqb i.number EXIT || every S.threads (λ u. (threads_settled (λ v. get_or m.threads v fresh) t y u).halted);
     code = cond (eqb i.number EXIT) i.argument m.code;
   }
 
   step_by : (c : Choice) →
-      let y = threadBy c (statementBy S c (actingIn c)) (actingIn c) memory in
-      let i = statementBy S c (actingIn c) in
-      stateBy (actor c) y i (marksSettled S (λ u. get_or m.marks u unmarked) (actor c) i) (memoryAfter (written S (state_of m memory) c) memory) ≡ step S (state_of m memory) c
-  unfolding step acted leavesMark
+      let y = thread_by c (statement_by S c (acting_in c)) (acting_in c) memory in
+      let i = statement_by S c (acting_in c) in
+      state_by (actor c) y i (marks_settled S (λ u. get_or m.marks u unmarked) (actor c) i) (memory_after (written S (state_of m memory) c) memory) ≡ step S (state_of m memory) c
+  unfolding step acted leaves_mark
   step_by (Execute t) = refl
   step_by (Flush t) = refl
 
   pub stepped : (c : Choice) (y : Thread) (i : Statement) (mem : ℕ → ℕ) →
-      y ≡ threadBy c (statementBy S c (actingIn c)) (actingIn c) memory →
-      i ≡ statementBy S c (actingIn c) →
-      mem ≡ memoryAfter (written S (state_of m memory) c) memory →
-      stateBy (actor c) y i (marksSettled S (λ u. get_or m.marks u unmarked) (actor c) i) mem ≡ step S (state_of m memory) c
+      y ≡ thread_by c (statement_by S c (acting_in c)) (acting_in c) memory →
+      i ≡ statement_by S c (acting_in c) →
+      mem ≡ memory_after (written S (state_of m memory) c) memory →
+      state_by (actor c) y i (marks_settled S (λ u. get_or m.marks u unmarked) (actor c) i) mem ≡ step S (state_of m memory) c
   stepped c y i mem p q s =
-      ap (λ (j : Statement). stateBy (actor c) y j (marksSettled S (λ u. get_or m.marks u unmarked) (actor c) j) mem) q
-      ∙ ap₂ (λ (z : Thread) (k : ℕ → ℕ). stateBy (actor c) z (statementBy S c (actingIn c)) (marksSettled S (λ u. get_or m.marks u unmarked) (actor c) (statementBy S c (actingIn c))) k) p s
+      ap (λ (j : Statement). state_by (actor c) y j (marks_settled S (λ u. get_or m.marks u unmarked) (actor c) j) mem) q
+      ∙ ap₂ (λ (z : Thread) (k : ℕ → ℕ). state_by (actor c) z (statement_by S c (acting_in c)) (marks_settled S (λ u. get_or m.marks u unmarked) (actor c) (statement_by S c (acting_in c))) k) p s
       ∙ step_by c
 
   -- a step that changes neither marks nor end
   pub quiet-state : (t : ℕ) (y : Thread) (i : Statement) (mem : ℕ → ℕ) → length m.marks ≡ 4 → t < S.threads → quiet (λ u. get_or m.marks u unmarked) i y ≡ true →
-      record { threads = threadsSettled (λ u. get_or m.threads u fresh) t y; marks = λ u. get_or m.marks u unmarked; memory = mem; ended = m.ended; code = m.code }
-      ≡ stateBy t y i (marksSettled S (λ u. get_or m.marks u unmarked) t i) mem
+      record { threads = threads_settled (λ u. get_or m.threads u fresh) t y; marks = λ u. get_or m.marks u unmarked; memory = mem; ended = m.ended; code = m.code }
+      ≡ state_by t y i (marks_settled S (λ u. get_or m.marks u unmarked) t i) mem
   quiet-state t y i mem n l q =
       let marks : ℕ → Mark = λ u. get_or m.marks u unmarked in
       let marked = (marks 0).on || (marks 1).on || (marks 2).on || (marks 3).on in
@@ -170,10 +170,10 @@ module _ (S : Set) (m : Machine) (memory : ℕ → ℕ) where
       let noexit = not-true exits (and_right (not marked && not y.halted && not checks) (not exits) q) in
       let nocheck = not-true checks (and_right (not marked && not y.halted) (not checks) p) in
       let r = and_left (not marked && not y.halted) (not checks) p in
-      let halts = every-not (λ u. (threadsSettled (λ v. get_or m.threads v fresh) t y u).halted) S.threads t l
+      let halts = every-not (λ u. (threads_settled (λ v. get_or m.threads v fresh) t y u).halted) S.threads t l
       (ap (λ (z : Thread). z.halted) (chosen y (get_or m.threads t fresh) (eq-eqb t t refl)) ∙ not-true y.halted (and_right (not marked) (not y.halted) r)) in
       λ k. record {
-        threads = threadsSettled (λ u. get_or m.threads u fresh) t y;
+        threads = threads_settled (λ u. get_or m.threads u fresh) t y;
         marks = (unmarked-stay S m.marks n (not-true marked (and_left (not marked) (not y.halted) r)) ∙ marks-cleared S marks t i nocheck) k;
         memory = mem;
         ended = sym (ap₂ (λ (a b : Bool). m.ended || a || b) noexit halts ∙ or_no (m.ended || false) ∙ or_no m.ended) k;
@@ -183,18 +183,18 @@ module _ (S : Set) (m : Machine) (memory : ℕ → ℕ) where
 -- ---- a step that is not taken
 
 module _ (can : Bool) (c : Choice) (i : Statement) (x : Thread) (waiting : Bool) (addresses values : List ℕ) (filled : ℕ) (r : Stepped) where
-  pub unmoved : (o : Outcome) (j : Statement) (read : Read) (a : ℕ) (addressed : Bool) → onTaken o false true ≡ true → r ≡ notTaken o j filled read a addressed → j ≡ i →
-      cells_of read ≡ onPermitted o (readsBy c i x (memoryOf addresses values filled)) [] →
-      a ≡ onPermitted o (addressBy c i x (memoryOf addresses values filled)) 0 → addressed ≡ onPermitted o (addressedBy c i x (known_of addresses filled)) true →
-      o ≡ outcomeBy can c i x waiting (memoryOf addresses values filled) (known_of addresses filled) →
-      Advances can c i x waiting (memoryOf addresses values filled) (known_of addresses filled) filled r (memoryOf addresses values r.filled) (known_of addresses r.filled)
+  pub unmoved : (o : Outcome) (j : Statement) (read : Read) (a : ℕ) (addressed : Bool) → on_taken o false true ≡ true → r ≡ not_taken o j filled read a addressed → j ≡ i →
+      cells_of read ≡ on_permitted o (reads_by c i x (memory_of addresses values filled)) [] →
+      a ≡ on_permitted o (address_by c i x (memory_of addresses values filled)) 0 → addressed ≡ on_permitted o (addressed_by c i x (known_of addresses filled)) true →
+      o ≡ outcome_by can c i x waiting (memory_of addresses values filled) (known_of addresses filled) →
+      Advances can c i x waiting (memory_of addresses values filled) (known_of addresses filled) filled r (memory_of addresses values r.filled) (known_of addresses r.filled)
   unmoved o j read a addressed n e s cells at known q =
-      subst⁻¹ (λ (z : Stepped). Advances can c i x waiting (memoryOf addresses values filled) (known_of addresses filled) filled z (memoryOf addresses values z.filled) (known_of addresses z.filled)) e (go o n cells at known q)
+      subst⁻¹ (λ (z : Stepped). Advances can c i x waiting (memory_of addresses values filled) (known_of addresses filled) filled z (memory_of addresses values z.filled) (known_of addresses z.filled)) e (go o n cells at known q)
     where
-      go : (o : Outcome) → onTaken o false true ≡ true → cells_of read ≡ onPermitted o (readsBy c i x (memoryOf addresses values filled)) [] →
-          a ≡ onPermitted o (addressBy c i x (memoryOf addresses values filled)) 0 → addressed ≡ onPermitted o (addressedBy c i x (known_of addresses filled)) true →
-          o ≡ outcomeBy can c i x waiting (memoryOf addresses values filled) (known_of addresses filled) →
-          Advances can c i x waiting (memoryOf addresses values filled) (known_of addresses filled) filled (notTaken o j filled read a addressed) (memoryOf addresses values filled) (known_of addresses filled)
+      go : (o : Outcome) → on_taken o false true ≡ true → cells_of read ≡ on_permitted o (reads_by c i x (memory_of addresses values filled)) [] →
+          a ≡ on_permitted o (address_by c i x (memory_of addresses values filled)) 0 → addressed ≡ on_permitted o (addressed_by c i x (known_of addresses filled)) true →
+          o ≡ outcome_by can c i x waiting (memory_of addresses values filled) (known_of addresses filled) →
+          Advances can c i x waiting (memory_of addresses values filled) (known_of addresses filled) filled (not_taken o j filled read a addressed) (memory_of addresses values filled) (known_of addresses filled)
       go Taken n cells at known q = clash n refl
       go NotPermitted n cells at known q = record { came = q; stated = s; thread = refl; memory-is = refl; known_is = refl; wrote = refl; read = cells; address_is = at; addressed-is = known; more = omega arith }
       go Lacking n cells at known q = record { came = q; stated = s; thread = refl; memory-is = refl; known_is = refl; wrote = refl; read = cells; address_is = at; addressed-is = known; more = omega arith }

@@ -13,22 +13,22 @@ use lib.Seq.{drop-cons, take-take}
 use Rattle.base.specs.Below.{every}
 use Rattle.base.specs.Bytes.{placed, same}
 use Rattle.base.proofs.Bytes.{take-placed}
-use Rattle.base.proofs.Choice.{chosen, and-true, and_yes, clash}
+use Rattle.base.proofs.Choice.{chosen, and_true, and_yes, clash}
 use Rattle.records.specs.Instructions.{EXIT}
-use Rattle.records.specs.Maps.{cells, addressAt, value_at, holds, content}
+use Rattle.records.specs.Maps.{cells, address_at, value_at, holds, content}
 use Rattle.records.specs.Sets.{Set}
 use Rattle.records.specs.declared.Layout.{Layout}
 use Rattle.records.specs.declared.Statement.{Statement}
 use Rattle.machine.proofs.Four.{stored}
-use Rattle.machine.proofs.Runs.{length-traceStep, takes-actor, taken-takes, lacking-takes}
-use Rattle.step.proofs.Settled.{outcome-by, written-by, effective-by, addressed-by, shown_by, stateBy, stepped, quiet-state, reads-by}
-use Rattle.machine.specs.Held.{state_of, memoryOf, known_of, held_of, cells_of}
-use Rattle.step.specs.Acting.{canStep, waits, statementBy, threadBy, written_by, readsBy, outcomeBy, quiet, marksSettled, threadsSettled, Advances, onPermitted}
-use Rattle.step.specs.Step.{onTaken}
-use Rattle.machine.specs.Machine.{State, fresh, unmarked, actor, start, step, written, noWrite, memoryAfter, reads}
-use Rattle.machine.specs.Maps.{Held, begin, addressKnown, outcome, advanced, knownAfter, onOutcome, follow}
-use Rattle.machine.specs.Runs.{choice_of, choices, somePermitted, end_of}
-use Rattle.machine.specs.Traces.{effective, stepBytes, traceStep, sameFields, trace, stepLength}
+use Rattle.machine.proofs.Runs.{length-trace_step, takes-actor, taken-takes, lacking_takes}
+use Rattle.step.proofs.Settled.{outcome-by, written-by, effective-by, addressed-by, shown_by, state_by, stepped, quiet-state, reads-by}
+use Rattle.machine.specs.Held.{state_of, memory_of, known_of, held_of, cells_of}
+use Rattle.step.specs.Acting.{can_step, waits, statement_by, thread_by, written_by, reads_by, outcome_by, quiet, marks_settled, threads_settled, Advances, on_permitted}
+use Rattle.step.specs.Step.{on_taken}
+use Rattle.machine.specs.Machine.{State, fresh, unmarked, actor, start, step, written, no_write, memory_after, reads}
+use Rattle.machine.specs.Maps.{Held, begin, address_known, outcome, advanced, known_after, on_outcome, follow}
+use Rattle.machine.specs.Runs.{choice_of, choices, some_permitted, end_of}
+use Rattle.machine.specs.Traces.{effective, step_bytes, trace_step, same_fields, trace, step_length}
 use Rattle.machine.specs.declared.RunAnswer.{RunAnswer}
 use Rattle.machine.specs.declared.RunAnswer.TheVariants.{Refused}
 use Rattle.machine.specs.declared.Choice.{Choice}
@@ -40,13 +40,13 @@ use Rattle.step.specs.declared.acting.Stepped.{Stepped}
 use Rattle.machine.specs.declared.Thread.{Thread}
 use Rattle.machine.specs.declared.Written.{Written}
 use Rattle.machine.specs.declared.End.TheVariants.{Code, Stuck, Open}
-use Rattle.step.specs.Ends.{endFor}
+use Rattle.step.specs.Ends.{end_for}
 use Rattle.step.specs.Runs.{Begins, unknown}
-use Rattle.step.specs.Walks.{made, agrees, stepRefusal, onRefusal, walked, walkedLacks}
+use Rattle.step.specs.Walks.{made, agrees, step_refusal, on_refusal, walked, walked_lacks}
 
 -- ---- refusals
 
-pub on-refused : (n i : ℕ) (rest : RunAnswer) → (n ≡ 0 → ⊥) → onRefusal n i rest ≡ Refused n i
+pub on-refused : (n i : ℕ) (rest : RunAnswer) → (n ≡ 0 → ⊥) → on_refusal n i rest ≡ Refused n i
 on-refused zero i rest f = absurd (f refl)
 on-refused (suc n) i rest f = refl
 
@@ -59,34 +59,34 @@ pub refused-begins : (a : RunAnswer) (number place : ℕ) (trace bytes : List �
 refused-begins a number place trace bytes e = subst⁻¹ (λ (z : RunAnswer). Begins z trace bytes) e tt
 
 -- a step refused for a first cell could be taken
-pub lacks : (o : Outcome) (agreed : Bool) → stepRefusal o agreed ≡ 14 → o ≡ Lacking
+pub lacks : (o : Outcome) (agreed : Bool) → step_refusal o agreed ≡ 14 → o ≡ Lacking
 lacks Taken true e = absurd (omega arith)
 lacks Taken false e = absurd (omega arith)
 lacks NotPermitted agreed e = absurd (omega arith)
 lacks Lacking agreed e = refl
 
 -- a step that is not refused is taken
-pub stands : (o : Outcome) (agreed : Bool) → stepRefusal o agreed ≡ 0 → o ≡ Taken
+pub stands : (o : Outcome) (agreed : Bool) → step_refusal o agreed ≡ 0 → o ≡ Taken
 stands Taken agreed e = refl
 stands NotPermitted agreed e = absurd (omega arith)
 stands Lacking true e = absurd (omega arith)
 stands Lacking false e = absurd (omega arith)
 
 -- without its effective address a trace step is compared up to there
-pub fields-first : (given right : List ℕ) → length right ≡ stepLength → same (take 22 given) (take 22 right) ≡ sameFields (take stepLength given) right
+pub fields-first : (given right : List ℕ) → length right ≡ step_length → same (take 22 given) (take 22 right) ≡ same_fields (take step_length given) right
 unfolding same
 fields-first given right n =
-    let short : length (take stepLength given) ≤ stepLength = omega (arith, length-take stepLength given, min-le_left stepLength (length given)) in
-    let all : length right ≤ stepLength = omega (arith, n) in
+    let short : length (take step_length given) ≤ step_length = omega (arith, length-take step_length given, min-le_left step_length (length given)) in
+    let all : length right ≤ step_length = omega (arith, n) in
     sym (and_yes (same (take 22 given) (take 22 right)))
-    ∙ ap₂ (λ (front : List ℕ) (back : Bool). same front (take 22 right) && back) (sym (take-take 22 stepLength given (omega arith)))
-    (sym (ap₂ same (drop_of_length-le (take stepLength given) short) (drop_of_length-le right all)))
+    ∙ ap₂ (λ (front : List ℕ) (back : Bool). same front (take 22 right) && back) (sym (take-take 22 step_length given (omega arith)))
+    (sym (ap₂ same (drop_of_length-le (take step_length given) short) (drop_of_length-le right all)))
 
 -- what a permitted step gives
-pub permitted-so : {A : Type 0} (o : Outcome) (x y : A) → onPermitted o true false ≡ true → onPermitted o x y ≡ x
-permitted-so Taken x y e = refl
-permitted-so NotPermitted x y e = clash e refl
-permitted-so Lacking x y e = refl
+pub permitted_so : {A : Type 0} (o : Outcome) (x y : A) → on_permitted o true false ≡ true → on_permitted o x y ≡ x
+permitted_so Taken x y e = refl
+permitted_so NotPermitted x y e = clash e refl
+permitted_so Lacking x y e = refl
 
 -- ---- the next step
 
@@ -95,21 +95,21 @@ module _ (S : Set) (replaying : Bool) (input : List ℕ) (h : Held) (w : Written
   rest n = walked S replaying input (advanced S h c) (written S h.state c) (i + 1) n
 
   pub walked_next : (n : ℕ) → 0 < n →
-      walked S replaying input h w i n ≡ onRefusal (stepRefusal (outcome S h c) (agrees replaying input i (addressKnown S h c) (traceStep S h.state w c))) i (rest (n - 1))
+      walked S replaying input h w i n ≡ on_refusal (step_refusal (outcome S h c) (agrees replaying input i (address_known S h c) (trace_step S h.state w c))) i (rest (n - 1))
   unfolding walked
   walked_next zero l = absurd (omega arith)
   walked_next (suc n) l =
       let m : suc n - 1 ≡ n = omega arith in
-      ap (λ (k : Choice). onRefusal (stepRefusal (outcome S h k) (agrees replaying input i (addressKnown S h k) (traceStep S h.state w k))) i (walked S replaying input (advanced S h k) (written S h.state k) (suc i) n)) (sym e)
+      ap (λ (k : Choice). on_refusal (step_refusal (outcome S h k) (agrees replaying input i (address_known S h k) (trace_step S h.state w k))) i (walked S replaying input (advanced S h k) (written S h.state k) (suc i) n)) (sym e)
       ∙ rw (← add-one i, m) refl
 
   pub lacks-next : (n : ℕ) → 0 < n →
-      walkedLacks S replaying input h i n ≡ onTaken (outcome S h c) (walkedLacks S replaying input (advanced S h c) (i + 1) (n - 1)) (unknown h.known (reads S h.state c))
-  unfolding walkedLacks
+      walked_lacks S replaying input h i n ≡ on_taken (outcome S h c) (walked_lacks S replaying input (advanced S h c) (i + 1) (n - 1)) (unknown h.known (reads S h.state c))
+  unfolding walked_lacks
   lacks-next zero l = absurd (omega arith)
   lacks-next (suc n) l =
       let m : suc n - 1 ≡ n = omega arith in
-      ap (λ (k : Choice). onTaken (outcome S h k) (walkedLacks S replaying input (advanced S h k) (suc i) n) (unknown h.known (reads S h.state k))) (sym e)
+      ap (λ (k : Choice). on_taken (outcome S h k) (walked_lacks S replaying input (advanced S h k) (suc i) n) (unknown h.known (reads S h.state k))) (sym e)
       ∙ rw (← add-one i, m) refl
 
 -- ---- a step that was made: the acting thread is found by its number modulo 4
@@ -118,8 +118,8 @@ module _ (S : Set) (m : Machine) (memory : ℕ → ℕ) (known : ℕ → Bool) (
   abbrev pub slot : ℕ
   slot = actor c % 4
 
-  abbrev marksOf : ℕ → Mark
-  marksOf u = get_or m.marks u unmarked
+  abbrev marks_of : ℕ → Mark
+  marks_of u = get_or m.marks u unmarked
 
   abbrev pub held : Held
   held = record { state = state_of m memory; known = known }
@@ -127,7 +127,7 @@ module _ (S : Set) (m : Machine) (memory : ℕ → ℕ) (known : ℕ → Bool) (
   -- what the step is told of thread number k
   abbrev pub Told : Bool → ℕ → ℕ → Stepped → (ℕ → ℕ) → (ℕ → Bool) → Type 0
   Told can k filled r later knows =
-      Advances can c (statementBy S c (get_or m.threads k fresh)) (get_or m.threads k fresh) (waits S marksOf (get_or m.marks k unmarked)) memory known filled r later knows
+      Advances can c (statement_by S c (get_or m.threads k fresh)) (get_or m.threads k fresh) (waits S marks_of (get_or m.marks k unmarked)) memory known filled r later knows
 
   there : ltb (actor c) S.threads ≡ true → slot ≡ actor c
   there l = let t = ltb-true (actor c) S.threads l in omega (arith, t, few)
@@ -136,63 +136,63 @@ module _ (S : Set) (m : Machine) (memory : ℕ → ℕ) (known : ℕ → Bool) (
   slot_is l = omega (arith, l, few)
 
   by-slot : (l live : Bool) → (l ≡ true → slot ≡ actor c) →
-      outcomeBy (l && live) c (statementBy S c (get_or m.threads slot fresh)) (get_or m.threads slot fresh) (waits S marksOf (get_or m.marks slot unmarked)) memory known
-      ≡ outcomeBy (l && live) c (statementBy S c (get_or m.threads (actor c) fresh)) (get_or m.threads (actor c) fresh) (waits S marksOf (get_or m.marks (actor c) unmarked)) memory known
-  by-slot true live e = ap (λ (k : ℕ). outcomeBy live c (statementBy S c (get_or m.threads k fresh)) (get_or m.threads k fresh) (waits S marksOf (get_or m.marks k unmarked)) memory known) (e refl)
+      outcome_by (l && live) c (statement_by S c (get_or m.threads slot fresh)) (get_or m.threads slot fresh) (waits S marks_of (get_or m.marks slot unmarked)) memory known
+      ≡ outcome_by (l && live) c (statement_by S c (get_or m.threads (actor c) fresh)) (get_or m.threads (actor c) fresh) (waits S marks_of (get_or m.marks (actor c) unmarked)) memory known
+  by-slot true live e = ap (λ (k : ℕ). outcome_by live c (statement_by S c (get_or m.threads k fresh)) (get_or m.threads k fresh) (waits S marks_of (get_or m.marks k unmarked)) memory known) (e refl)
   by-slot false live e = refl
 
   module _ {can : Bool} {filled : ℕ} {r : Stepped} {later : ℕ → ℕ} {knows : ℕ → Bool} (a : Told can slot filled r later knows) (room : can ≡ (ltb (actor c) S.threads && not m.ended)) where
     pub came-out : r.outcome ≡ outcome S held c
     came-out =
         a.came
-        ∙ ap (λ (b : Bool). outcomeBy b c (statementBy S c (get_or m.threads slot fresh)) (get_or m.threads slot fresh) (waits S marksOf (get_or m.marks slot unmarked)) memory known) room
+        ∙ ap (λ (b : Bool). outcome_by b c (statement_by S c (get_or m.threads slot fresh)) (get_or m.threads slot fresh) (waits S marks_of (get_or m.marks slot unmarked)) memory known) room
         ∙ by-slot (ltb (actor c) S.threads) (not m.ended) there ∙ sym (outcome-by S m memory known c)
 
-    pub lacking-acts : r.outcome ≡ Lacking → actor c < S.threads
-    lacking-acts e = takes-actor S (state_of m memory) c (lacking-takes S held c (sym came-out ∙ e))
+    pub lacking_acts : r.outcome ≡ Lacking → actor c < S.threads
+    lacking_acts e = takes-actor S (state_of m memory) c (lacking_takes S held c (sym came-out ∙ e))
 
     pub acting : r.outcome ≡ Taken → actor c < S.threads
     acting e = takes-actor S (state_of m memory) c (taken-takes S held c (sym came-out ∙ e))
 
-    pub permits : {o : Outcome} → r.outcome ≡ o → onPermitted o true false ≡ true → onPermitted r.outcome true false ≡ true
-    permits e p = ap (λ (o : Outcome). onPermitted o true false) e ∙ p
+    pub permits : {o : Outcome} → r.outcome ≡ o → on_permitted o true false ≡ true → on_permitted r.outcome true false ≡ true
+    permits e p = ap (λ (o : Outcome). on_permitted o true false) e ∙ p
 
     -- the bytes of a step that is permitted are its trace step's, and its address is known where the definition says so
-    module _ (acts : actor c < S.threads) (permitted : onPermitted r.outcome true false ≡ true) where
+    module _ (acts : actor c < S.threads) (permitted : on_permitted r.outcome true false ≡ true) where
       told-there : Told can (actor c) filled r later knows
       told-there = subst (λ (k : ℕ). Told can k filled r later knows) (slot_is acts) a
 
-      effective-so : r.address ≡ effective S (state_of m memory) c
-      effective-so = told-there.address_is ∙ permitted-so r.outcome _ 0 permitted ∙ sym (effective-by S m memory c)
+      effective_so : r.address ≡ effective S (state_of m memory) c
+      effective_so = told-there.address_is ∙ permitted_so r.outcome _ 0 permitted ∙ sym (effective-by S m memory c)
 
-      pub addressed-so : r.addressed ≡ addressKnown S held c
-      addressed-so = told-there.addressed-is ∙ permitted-so r.outcome _ true permitted ∙ sym (addressed-by S m memory known c)
+      pub addressed_so : r.addressed ≡ address_known S held c
+      addressed_so = told-there.addressed-is ∙ permitted_so r.outcome _ true permitted ∙ sym (addressed-by S m memory known c)
 
-      pub shown-bytes : (w : Written) → stepBytes (actor c) r.statement (get_or m.threads slot fresh) w r.address ≡ traceStep S (state_of m memory) w c
-      unfolding traceStep
+      pub shown-bytes : (w : Written) → step_bytes (actor c) r.statement (get_or m.threads slot fresh) w r.address ≡ trace_step S (state_of m memory) w c
+      unfolding trace_step
       shown-bytes w =
-          ap (λ (k : ℕ). stepBytes (actor c) r.statement (get_or m.threads k fresh) w r.address) (slot_is acts)
-          ∙ ap₂ (λ (j : Statement) (a : ℕ). stepBytes (actor c) j (get_or m.threads (actor c) fresh) w a) (told-there.stated ∙ sym (shown_by S m memory c)) effective-so
+          ap (λ (k : ℕ). step_bytes (actor c) r.statement (get_or m.threads k fresh) w r.address) (slot_is acts)
+          ∙ ap₂ (λ (j : Statement) (a : ℕ). step_bytes (actor c) j (get_or m.threads (actor c) fresh) w a) (told-there.stated ∙ sym (shown_by S m memory c)) effective_so
 
     -- so the refusal is the definition's
-    pub refused-so : (agreed : Bool → List ℕ → Bool) (w : Written) →
-        stepRefusal r.outcome (agreed r.addressed (stepBytes (actor c) r.statement (get_or m.threads slot fresh) w r.address))
-        ≡ stepRefusal (outcome S held c) (agreed (addressKnown S held c) (traceStep S (state_of m memory) w c))
-    refused-so agreed w = go r.outcome refl ∙ ap (λ (o : Outcome). stepRefusal o (agreed (addressKnown S held c) (traceStep S (state_of m memory) w c))) came-out
+    pub refused_so : (agreed : Bool → List ℕ → Bool) (w : Written) →
+        step_refusal r.outcome (agreed r.addressed (step_bytes (actor c) r.statement (get_or m.threads slot fresh) w r.address))
+        ≡ step_refusal (outcome S held c) (agreed (address_known S held c) (trace_step S (state_of m memory) w c))
+    refused_so agreed w = go r.outcome refl ∙ ap (λ (o : Outcome). step_refusal o (agreed (address_known S held c) (trace_step S (state_of m memory) w c))) came-out
       where
         go : (o : Outcome) → r.outcome ≡ o →
-            stepRefusal o (agreed r.addressed (stepBytes (actor c) r.statement (get_or m.threads slot fresh) w r.address))
-            ≡ stepRefusal o (agreed (addressKnown S held c) (traceStep S (state_of m memory) w c))
-        go Taken e = let p = permits e refl in ap (stepRefusal Taken) (ap₂ agreed (addressed-so (acting e) p) (shown-bytes (acting e) p w))
-        go Lacking e = let p = permits e refl in ap (stepRefusal Lacking) (ap₂ agreed (addressed-so (lacking-acts e) p) (shown-bytes (lacking-acts e) p w))
+            step_refusal o (agreed r.addressed (step_bytes (actor c) r.statement (get_or m.threads slot fresh) w r.address))
+            ≡ step_refusal o (agreed (address_known S held c) (trace_step S (state_of m memory) w c))
+        go Taken e = let p = permits e refl in ap (step_refusal Taken) (ap₂ agreed (addressed_so (acting e) p) (shown-bytes (acting e) p w))
+        go Lacking e = let p = permits e refl in ap (step_refusal Lacking) (ap₂ agreed (addressed_so (lacking_acts e) p) (shown-bytes (lacking_acts e) p w))
         go NotPermitted e = refl
 
     -- the cell that it lacks
     pub lacks-cell : r.outcome ≡ Lacking → unknown knows (cells_of r.read) ≡ unknown known (reads S (state_of m memory) c)
     lacks-cell e =
-        let told = subst (λ (k : ℕ). Told can k filled r later knows) (slot_is (lacking-acts e)) a in
-        let cells = told.read ∙ ap (λ (o : Outcome). onPermitted o (readsBy c (statementBy S c (get_or m.threads (actor c) fresh)) (get_or m.threads (actor c) fresh) memory) []) e ∙ sym (reads-by S m memory c) in
-        ap₂ {C = ℕ} unknown (told.known_is ∙ ap {B = ℕ → Bool} (λ (o : Outcome). onTaken o (knownAfter (written_by c (statementBy S c (get_or m.threads (actor c) fresh)) (get_or m.threads (actor c) fresh) memory) known) known) e) cells
+        let told = subst (λ (k : ℕ). Told can k filled r later knows) (slot_is (lacking_acts e)) a in
+        let cells = told.read ∙ ap (λ (o : Outcome). on_permitted o (reads_by c (statement_by S c (get_or m.threads (actor c) fresh)) (get_or m.threads (actor c) fresh) memory) []) e ∙ sym (reads-by S m memory c) in
+        ap₂ {C = ℕ} unknown (told.known_is ∙ ap {B = ℕ → Bool} (λ (o : Outcome). on_taken o (known_after (written_by c (statement_by S c (get_or m.threads (actor c) fresh)) (get_or m.threads (actor c) fresh) memory) known) known) e) cells
 
     -- ---- where it was taken
 
@@ -204,41 +204,41 @@ module _ (S : Set) (m : Machine) (memory : ℕ → ℕ) (known : ℕ → Bool) (
       acted = get_or m.threads (actor c) fresh
 
       abbrev stated : Statement
-      stated = statementBy S c acted
+      stated = statement_by S c acted
 
       pub wrote_so : r.wrote ≡ written S (state_of m memory) c
-      wrote_so = told.wrote ∙ ap (λ (o : Outcome). onTaken o (written_by c stated acted memory) noWrite) t ∙ sym (written-by S m memory c)
+      wrote_so = told.wrote ∙ ap (λ (o : Outcome). on_taken o (written_by c stated acted memory) no_write) t ∙ sym (written-by S m memory c)
 
-      later-is : later ≡ memoryAfter (written S (state_of m memory) c) memory
+      later-is : later ≡ memory_after (written S (state_of m memory) c) memory
       later-is =
-          told.memory-is ∙ ap {B = ℕ → ℕ} (λ (o : Outcome). onTaken o (memoryAfter (written_by c stated acted memory) memory) memory) t
-          ∙ ap {B = ℕ → ℕ} (λ (z : Written). memoryAfter z memory) (sym (written-by S m memory c))
+          told.memory-is ∙ ap {B = ℕ → ℕ} (λ (o : Outcome). on_taken o (memory_after (written_by c stated acted memory) memory) memory) t
+          ∙ ap {B = ℕ → ℕ} (λ (z : Written). memory_after z memory) (sym (written-by S m memory c))
 
-      knows-is : knows ≡ knownAfter (written S (state_of m memory) c) known
+      knows-is : knows ≡ known_after (written S (state_of m memory) c) known
       knows-is =
-          told.known_is ∙ ap {B = ℕ → Bool} (λ (o : Outcome). onTaken o (knownAfter (written_by c stated acted memory) known) known) t
-          ∙ ap {B = ℕ → Bool} (λ (z : Written). knownAfter z known) (sym (written-by S m memory c))
+          told.known_is ∙ ap {B = ℕ → Bool} (λ (o : Outcome). on_taken o (known_after (written_by c stated acted memory) known) known) t
+          ∙ ap {B = ℕ → Bool} (λ (z : Written). known_after z known) (sym (written-by S m memory c))
 
-      state-is : stateBy S m memory (actor c) r.thread r.statement (marksSettled S marksOf (actor c) r.statement) later ≡ step S (state_of m memory) c
-      state-is = stepped S m memory c r.thread r.statement later (told.thread ∙ ap (λ (o : Outcome). onTaken o (threadBy c stated acted memory) fresh) t) told.stated later-is
+      state-is : state_by S m memory (actor c) r.thread r.statement (marks_settled S marks_of (actor c) r.statement) later ≡ step S (state_of m memory) c
+      state-is = stepped S m memory c r.thread r.statement later (told.thread ∙ ap (λ (o : Outcome). on_taken o (thread_by c stated acted memory) fresh) t) told.stated later-is
 
       module _ (n : Machine) (threads : n.threads ≡ set m.threads slot r.thread) (four-threads : length m.threads ≡ 4) where
-        threads-are : (λ u. get_or n.threads u fresh) ≡ threadsSettled (λ u. get_or m.threads u fresh) (actor c) r.thread
-        threads-are =
+        threads_are_lem : (λ u. get_or n.threads u fresh) ≡ threads_settled (λ u. get_or m.threads u fresh) (actor c) r.thread
+        threads_are_lem =
             ap {B = ℕ → Thread} (λ (ts : List Thread) (u : ℕ). get_or ts u fresh) (threads ∙ ap (λ (k : ℕ). set m.threads k r.thread) (slot_is (acting t)))
             ∙ stored m.threads (actor c) r.thread fresh (omega (arith, acting t, few, four-threads))
 
-        settled : state_of n later ≡ stateBy S m memory (actor c) r.thread r.statement (marksSettled S marksOf (actor c) r.statement) later →
+        settled : state_of n later ≡ state_by S m memory (actor c) r.thread r.statement (marks_settled S marks_of (actor c) r.statement) later →
             record { state = state_of n later; known = knows } ≡ advanced S held c
         unfolding advanced
         settled e k = record { state = (e ∙ state-is) k; known = knows-is k }
 
         -- marks and end stay
-        pub quiet-held : n.marks ≡ m.marks → n.ended ≡ m.ended → n.code ≡ m.code → length m.marks ≡ 4 → quiet marksOf r.statement r.thread ≡ true →
+        pub quiet-held : n.marks ≡ m.marks → n.ended ≡ m.ended → n.code ≡ m.code → length m.marks ≡ 4 → quiet marks_of r.statement r.thread ≡ true →
             record { state = state_of n later; known = knows } ≡ advanced S held c
         quiet-held marks ended code four-marks q =
             settled ((λ k. record {
-              threads = threads-are k;
+              threads = threads_are_lem k;
               marks = λ u. get_or (marks k) u unmarked;
               memory = later;
               ended = ended k;
@@ -246,28 +246,28 @@ module _ (S : Set) (m : Machine) (memory : ℕ → ℕ) (known : ℕ → Bool) (
             }) ∙ quiet-state S m memory (actor c) r.thread r.statement later four-marks (acting t) q)
 
         -- they are made anew
-        pub loud-held : (λ u. get_or n.marks u unmarked) ≡ cond (ltb (actor c) 4) (marksSettled S marksOf (actor c) r.statement) marksOf →
+        pub loud_held : (λ u. get_or n.marks u unmarked) ≡ cond (ltb (actor c) 4) (marks_settled S marks_of (actor c) r.statement) marks_of →
             n.ended ≡ (m.ended || eqb r.statement.number EXIT || every S.threads (λ u. (get_or n.threads u fresh).halted)) →
             n.code ≡ cond (eqb r.statement.number EXIT) r.statement.argument m.code →
             record { state = state_of n later; known = knows } ≡ advanced S held c
-        loud-held marks ended code =
+        loud_held marks ended code =
             settled (λ k. record {
-              threads = threads-are k;
+              threads = threads_are_lem k;
               marks = (marks ∙ chosen _ _ (lt-ltb (actor c) 4 (omega (arith, acting t, few)))) k;
               memory = later;
-              ended = (ended ∙ ap (λ (f : ℕ → Thread). m.ended || eqb r.statement.number EXIT || every S.threads (λ u. (f u).halted)) threads-are) k;
+              ended = (ended ∙ ap (λ (f : ℕ → Thread). m.ended || eqb r.statement.number EXIT || every S.threads (λ u. (f u).halted)) threads_are_lem) k;
               code = code k;
             })
 
 -- the arrays have room
-pub has_room : (layout : Layout) (ended : Bool) (addresses values filled : ℕ) (c : Choice) → filled < addresses → filled < values →
-    canStep layout ended addresses values filled c ≡ (ltb (actor c) layout.threads && not ended)
-has_room layout ended addresses values filled c p q = ap (λ (b : Bool). b && ltb (actor c) layout.threads && not ended) (and-true (lt-ltb _ _ p) (lt-ltb _ _ q))
+pub has_room_lem : (layout : Layout) (ended : Bool) (addresses values filled : ℕ) (c : Choice) → filled < addresses → filled < values →
+    can_step layout ended addresses values filled c ≡ (ltb (actor c) layout.threads && not ended)
+has_room_lem layout ended addresses values filled c p q = ap (λ (b : Bool). b && ltb (actor c) layout.threads && not ended) (and_true (lt-ltb _ _ p) (lt-ltb _ _ q))
 
 -- the end of a run on a layout of at most four threads
-pub end_is : (layout : Layout) (S : Set) (s : State) → layout.threads ≤ 4 → endFor layout S s ≡ end_of S s
+pub end_is : (layout : Layout) (S : Set) (s : State) → layout.threads ≤ 4 → end_for layout S s ≡ end_of S s
 unfolding end_of
-end_is layout S s p = ap (λ (b : Bool). cond s.ended (Code s.code) (cond (b && somePermitted S s) Open Stuck)) (le-leb _ _ p)
+end_is layout S s p = ap (λ (b : Bool). cond s.ended (Code s.code) (cond (b && some_permitted S s) Open Stuck)) (le-leb _ _ p)
 
 -- ---- a schedule's next step
 
@@ -276,37 +276,37 @@ module _ (S : Set) (schedule : List ℕ) (i : ℕ) (l : i < length schedule) (c 
   unfolding choices
   next-choice = ap choices (drop-cons schedule i 0 l) ∙ rw (add-one, e)
 
-  pub follow-next : (h : Held) → follow S h i (choices (drop i schedule)) ≡ onOutcome (outcome S h c) i (follow S (advanced S h c) (i + 1) (choices (drop (i + 1) schedule)))
+  pub follow-next : (h : Held) → follow S h i (choices (drop i schedule)) ≡ on_outcome (outcome S h c) i (follow S (advanced S h c) (i + 1) (choices (drop (i + 1) schedule)))
   unfolding follow
   follow-next h = ap (follow S h i) next-choice ∙ rw add-one
 
-  pub trace-next : (s : State) (w : Written) → trace S s w (choices (drop i schedule)) ≡ traceStep S s w c ++ trace S (step S s c) (written S s c) (choices (drop (i + 1) schedule))
+  pub trace-next : (s : State) (w : Written) → trace S s w (choices (drop i schedule)) ≡ trace_step S s w c ++ trace S (step S s c) (written S s c) (choices (drop (i + 1) schedule))
   unfolding trace
   trace-next s w = ap (trace S s w) next-choice
 
   -- the trace so far, with one step more
-  pub trace-more : (s : State) (w : Written) (bytes : List ℕ) → stepLength * i + stepLength ≤ length bytes →
-      take (stepLength * i) bytes ++ trace S s w (choices (drop i schedule))
-      ≡ take (stepLength * (i + 1)) (placed bytes (stepLength * i) (traceStep S s w c)) ++ trace S (step S s c) (written S s c) (choices (drop (i + 1) schedule))
+  pub trace-more : (s : State) (w : Written) (bytes : List ℕ) → step_length * i + step_length ≤ length bytes →
+      take (step_length * i) bytes ++ trace S s w (choices (drop i schedule))
+      ≡ take (step_length * (i + 1)) (placed bytes (step_length * i) (trace_step S s w c)) ++ trace S (step S s c) (written S s c) (choices (drop (i + 1) schedule))
   trace-more s w bytes h =
-      let n = length-traceStep S s w c in
-      let m : stepLength * i + length (traceStep S s w c) ≡ stepLength * (i + 1) = omega arith in
-      ap (λ (t : List ℕ). take (stepLength * i) bytes ++ t) (trace-next s w)
-      ∙ sym (append_assoc (take (stepLength * i) bytes) (traceStep S s w c) _)
+      let n = length-trace_step S s w c in
+      let m : step_length * i + length (trace_step S s w c) ≡ step_length * (i + 1) = omega arith in
+      ap (λ (t : List ℕ). take (step_length * i) bytes ++ t) (trace-next s w)
+      ∙ sym (append_assoc (take (step_length * i) bytes) (trace_step S s w c) _)
       ∙ ap (λ (t : List ℕ). t ++ trace S (step S s c) (written S s c) (choices (drop (i + 1) schedule)))
-      (sym (take-placed bytes (stepLength * i) (traceStep S s w c) (omega arith)) ∙ ap (λ (k : ℕ). take k (placed bytes (stepLength * i) (traceStep S s w c))) m)
+      (sym (take-placed bytes (step_length * i) (trace_step S s w c) (omega arith)) ∙ ap (λ (k : ℕ). take k (placed bytes (step_length * i) (trace_step S s w c))) m)
 
 -- ---- the start over a map
 
 pub begun : (map : List ℕ) (m : Machine) (addresses values : List ℕ) (r : ℕ) → ((memory : ℕ → ℕ) → state_of m memory ≡ start memory) →
-    memoryOf addresses values r ≡ content (addressAt map) (value_at map) r → known_of addresses r ≡ holds (addressAt map) r → r ≡ cells map →
+    memory_of addresses values r ≡ content (address_at map) (value_at map) r → known_of addresses r ≡ holds (address_at map) r → r ≡ cells map →
     held_of m addresses values r ≡ begin map
 unfolding begin
 begun map m addresses values r f p q e k = record {
-  state = (f (memoryOf addresses values r) ∙ ap start (p ∙ ap (content (addressAt map) (value_at map)) e)) k;
-  known = (q ∙ ap (holds (addressAt map)) e) k;
+  state = (f (memory_of addresses values r) ∙ ap start (p ∙ ap (content (address_at map) (value_at map)) e)) k;
+  known = (q ∙ ap (holds (address_at map)) e) k;
 }
 
 -- all of the map's cells are there
 pub all-cells : (n a v r : ℕ) → r ≡ cond (leb n a && leb n v) n 0 → n ≤ a → n ≤ v → r ≡ n
-all-cells n a v r e p q = e ∙ chosen _ _ (and-true (le-leb n a p) (le-leb n v q))
+all-cells n a v r e p q = e ∙ chosen _ _ (and_true (le-leb n a p) (le-leb n v q))

@@ -5,24 +5,24 @@ use mathlib.Core.Bool.{Bool, true, false, ◌&&◌, ◌||◌}
 use native.Mathlib.Numerals.{add-one}
 use Rattle.base.specs.Below.{some}
 use Rattle.base.proofs.Below.{some_at}
-use Rattle.base.proofs.Choice.{and-true, and_left, and_right, or-false}
+use Rattle.base.proofs.Choice.{and_true, and_left, and_right, or_false}
 
-pub and-or : (l a b : Bool) → (l && (a || b)) ≡ ((l && a) || (l && b))
-and-or true a b = refl
-and-or false a b = refl
+pub and_or : (l a b : Bool) → (l && (a || b)) ≡ ((l && a) || (l && b))
+and_or true a b = refl
+and_or false a b = refl
 
 module _ (l : Bool) (test : ℕ → Bool) where
-  pub guarded-none : (l && some 0 test) ≡ false
+  pub guarded_none : (l && some 0 test) ≡ false
   unfolding some
-  guarded-none = no l
+  guarded_none = no l
     where
       no : (b : Bool) → (b && false) ≡ false
       no true = refl
       no false = refl
 
-  pub guarded-more : (i : ℕ) → (l && some i test) ≡ false → (l && test i) ≡ false → (l && some (i + 1) test) ≡ false
+  pub guarded_more : (i : ℕ) → (l && some i test) ≡ false → (l && test i) ≡ false → (l && some (i + 1) test) ≡ false
   unfolding some
-  guarded-more i p q = rw add-one (and-or l (some i test) (test i) ∙ or-false p q)
+  guarded_more i p q = rw add-one (and_or l (some i test) (test i) ∙ or_false p q)
 
-  pub guarded-at : (n i : ℕ) → i < n → (l && test i) ≡ true → (l && some n test) ≡ true
-  guarded-at n i h e = and-true (and_left l (test i) e) (some_at test n i h (and_right l (test i) e))
+  pub guarded_at : (n i : ℕ) → i < n → (l && test i) ≡ true → (l && some n test) ≡ true
+  guarded_at n i h e = and_true (and_left l (test i) e) (some_at test n i h (and_right l (test i) e))

@@ -4,9 +4,9 @@ use Rattle.records.specs.Instructions.{EXIT, CHECK, instructions}
 use Rattle.records.specs.Sets.{Set, nothing}
 use Rattle.records.specs.declared.Layout.{Layout}
 use Rattle.records.specs.declared.Statement.{Statement}
-use Rattle.machine.specs.Held.{permittedBy, cells_of}
-use Rattle.machine.specs.Machine.{State, fresh, flushed, withPc, row, nextPc, current, address, wordTaken, readsArgument, cellsRead, executed, casMatches, actor, opened, cleared, memoryAfter, wrote, noWrite}
-use Rattle.machine.specs.Maps.{knowsAll, knownAfter}
+use Rattle.machine.specs.Held.{permitted_by, cells_of}
+use Rattle.machine.specs.Machine.{State, fresh, flushed, with_pc, row, next_pc, current, address, word_taken, reads_argument, cells_read, executed, cas_matches, actor, opened, cleared, memory_after, wrote, no_write}
+use Rattle.machine.specs.Maps.{knows_all, known_after}
 use Rattle.machine.specs.declared.Choice.{Choice}
 use Rattle.machine.specs.declared.Choice.TheVariants.{Execute, Flush}
 use Rattle.machine.specs.declared.Mark.{Mark}
@@ -15,18 +15,18 @@ use Rattle.machine.specs.declared.Outcome.TheVariants.{Taken, NotPermitted, Lack
 use Rattle.machine.specs.declared.Read.{Read}
 use Rattle.machine.specs.declared.Thread.{Thread}
 use Rattle.machine.specs.declared.Written.{Written}
-use Rattle.step.specs.Step.{onTaken}
+use Rattle.step.specs.Step.{on_taken}
 use Rattle.step.specs.declared.acting.Stepped.{Stepped}
 
 -- ---- the state afterwards
 
 -- the threads once thread t has registers y
-abbrev pub threadsSettled : (ℕ → Thread) → ℕ → Thread → ℕ → Thread
-threadsSettled threads t y u = cond (eqb u t) y (threads u)
+abbrev pub threads_settled : (ℕ → Thread) → ℕ → Thread → ℕ → Thread
+threads_settled threads t y u = cond (eqb u t) y (threads u)
 
 -- the marks after thread t's statement i
-abbrev pub marksSettled : Set → (ℕ → Mark) → ℕ → Statement → ℕ → Mark
-marksSettled S marks t i u =
+abbrev pub marks_settled : Set → (ℕ → Mark) → ℕ → Statement → ℕ → Mark
+marks_settled S marks t i u =
     cond (eqb i.number CHECK && eqb u t)
     (record { on = true; checkpoint = i.argument })
     (cleared S marks u)
@@ -41,47 +41,47 @@ quiet marks i y =
 
 -- its thread is there, the machine has not ended, and the arrays have room for one cell more: every run of at most 64 steps
 -- over at most 256 cells has it in arrays of 320
-abbrev pub canStep : Layout → Bool → (addresses values filled : ℕ) → Choice → Bool
-canStep layout ended addresses values filled c = ltb filled addresses && ltb filled values && ltb (actor c) layout.threads && not ended
+abbrev pub can_step : Layout → Bool → (addresses values filled : ℕ) → Choice → Bool
+can_step layout ended addresses values filled c = ltb filled addresses && ltb filled values && ltb (actor c) layout.threads && not ended
 
 -- a thread with this mark waits
 abbrev pub waits : Set → (ℕ → Mark) → Mark → Bool
 waits S marks mark = mark.on && not (opened S marks mark.checkpoint)
 
 -- the statement executed, none in a flush
-abbrev pub statementBy : Set → Choice → Thread → Statement
-statementBy S (Execute t) x = S.statement t x.pc
-statementBy S (Flush t) x = nothing
+abbrev pub statement_by : Set → Choice → Thread → Statement
+statement_by S (Execute t) x = S.statement t x.pc
+statement_by S (Flush t) x = nothing
 
 -- the registers afterwards
-abbrev pub threadBy : Choice → Statement → Thread → (ℕ → ℕ) → Thread
-threadBy (Execute t) i x memory = executed i memory x
-threadBy (Flush t) i x memory = flushed x
+abbrev pub thread_by : Choice → Statement → Thread → (ℕ → ℕ) → Thread
+thread_by (Execute t) i x memory = executed i memory x
+thread_by (Flush t) i x memory = flushed x
 
 -- the cell written
 abbrev pub written_by : Choice → Statement → Thread → (ℕ → ℕ) → Written
-written_by (Execute t) i x memory = cond (casMatches i x memory) (wrote (address i x memory) x.accu) noWrite
+written_by (Execute t) i x memory = cond (cas_matches i x memory) (wrote (address i x memory) x.accu) no_write
 written_by (Flush t) i x memory = wrote x.adr x.val
 
 -- the cells read
-abbrev pub readsBy : Choice → Statement → Thread → (ℕ → ℕ) → List ℕ
-readsBy (Execute t) i x memory = cellsRead i x memory
-readsBy (Flush t) i x memory = []
+abbrev pub reads_by : Choice → Statement → Thread → (ℕ → ℕ) → List ℕ
+reads_by (Execute t) i x memory = cells_read i x memory
+reads_by (Flush t) i x memory = []
 
 -- the effective address
-abbrev pub addressBy : Choice → Statement → Thread → (ℕ → ℕ) → ℕ
-addressBy (Execute t) i x memory = address i x memory
-addressBy (Flush t) i x memory = 0
+abbrev pub address_by : Choice → Statement → Thread → (ℕ → ℕ) → ℕ
+address_by (Execute t) i x memory = address i x memory
+address_by (Flush t) i x memory = 0
 
 -- the cell of the address word is known, where it is read
-abbrev pub addressedBy : Choice → Statement → Thread → (ℕ → Bool) → Bool
-addressedBy (Execute t) i x known = not (readsArgument i x) || known i.argument
-addressedBy (Flush t) i x known = true
+abbrev pub addressed_by : Choice → Statement → Thread → (ℕ → Bool) → Bool
+addressed_by (Execute t) i x known = not (reads_argument i x) || known i.argument
+addressed_by (Flush t) i x known = true
 
 -- the outcome, where the thread can step at all
-abbrev pub outcomeBy : Bool → Choice → Statement → Thread → Bool → (ℕ → ℕ) → (ℕ → Bool) → Outcome
-outcomeBy can c i x waiting memory known =
-    cond (can && permittedBy c i x waiting) (cond (knowsAll known (readsBy c i x memory)) Taken Lacking) NotPermitted
+abbrev pub outcome_by : Bool → Choice → Statement → Thread → Bool → (ℕ → ℕ) → (ℕ → Bool) → Outcome
+outcome_by can c i x waiting memory known =
+    cond (can && permitted_by c i x waiting) (cond (knows_all known (reads_by c i x memory)) Taken Lacking) NotPermitted
 
 -- ---- its registers, from the address and the word that its statement takes
 
@@ -90,39 +90,39 @@ abbrev pub PcFits : Statement → Thread → Type 0
 PcFits i x = i.number < instructions → x.pc < 65535
 
 -- the registers afterwards
-abbrev pub threadFrom : Choice → Statement → (address word : ℕ) → Thread → Thread
-threadFrom (Execute t) i address word x = withPc (nextPc i x) (row i.number i.argument address word x)
-threadFrom (Flush t) i address word x = flushed x
+abbrev pub thread_from : Choice → Statement → (address word : ℕ) → Thread → Thread
+thread_from (Execute t) i address word x = with_pc (next_pc i x) (row i.number i.argument address word x)
+thread_from (Flush t) i address word x = flushed x
 
 -- in state s the choice executes statement i, which takes this address and this word; a flush takes none
 abbrev pub Operands : Set → State → Choice → Statement → (addressed taken : ℕ) → Type 0
 Operands S s (Execute t) i addressed taken =
-    (i ≡ current S s t) × (addressed ≡ address i (s.threads t) s.memory) × (taken ≡ wordTaken i (s.threads t) s.memory)
+    (i ≡ current S s t) × (addressed ≡ address i (s.threads t) s.memory) × (taken ≡ word_taken i (s.threads t) s.memory)
 Operands S s (Flush t) i addressed taken = Unit {0}
 
 -- ---- what a call that takes a step gives
 
 -- a step that is not taken gives no registers
-abbrev pub notTaken : Outcome → Statement → ℕ → Read → ℕ → Bool → Stepped
-notTaken o i filled read address addressed =
-    record { outcome = o; statement = i; thread = fresh; filled = filled; wrote = noWrite; read = read; address = address; addressed = addressed }
+abbrev pub not_taken : Outcome → Statement → ℕ → Read → ℕ → Bool → Stepped
+not_taken o i filled read address addressed =
+    record { outcome = o; statement = i; thread = fresh; filled = filled; wrote = no_write; read = read; address = address; addressed = addressed }
 
 -- x where the step was permitted, else y
-abbrev pub onPermitted : {A : Type 0} → Outcome → A → A → A
-onPermitted Taken x y = x
-onPermitted NotPermitted x y = y
-onPermitted Lacking x y = x
+abbrev pub on_permitted : {A : Type 0} → Outcome → A → A → A
+on_permitted Taken x y = x
+on_permitted NotPermitted x y = y
+on_permitted Lacking x y = x
 
 -- what a call that takes a step promises of its answer r and of the memory and the cells known afterwards
 pub record Advances (can : Bool) (c : Choice) (i : Statement) (x : Thread) (waiting : Bool) (memory : ℕ → ℕ) (known : ℕ → Bool) (filled : ℕ)
     (r : Stepped) (later : ℕ → ℕ) (knows : ℕ → Bool) : Type 0 where
-  pub came : r.outcome ≡ outcomeBy can c i x waiting memory known
+  pub came : r.outcome ≡ outcome_by can c i x waiting memory known
   pub stated : r.statement ≡ i
-  pub thread : r.thread ≡ onTaken r.outcome (threadBy c i x memory) fresh
-  pub memory-is : later ≡ onTaken r.outcome (memoryAfter (written_by c i x memory) memory) memory
-  pub known_is : knows ≡ onTaken r.outcome (knownAfter (written_by c i x memory) known) known
-  pub wrote : r.wrote ≡ onTaken r.outcome (written_by c i x memory) noWrite
-  pub read : cells_of r.read ≡ onPermitted r.outcome (readsBy c i x memory) []
-  pub address_is : r.address ≡ onPermitted r.outcome (addressBy c i x memory) 0
-  pub addressed-is : r.addressed ≡ onPermitted r.outcome (addressedBy c i x known) true
+  pub thread : r.thread ≡ on_taken r.outcome (thread_by c i x memory) fresh
+  pub memory-is : later ≡ on_taken r.outcome (memory_after (written_by c i x memory) memory) memory
+  pub known_is : knows ≡ on_taken r.outcome (known_after (written_by c i x memory) known) known
+  pub wrote : r.wrote ≡ on_taken r.outcome (written_by c i x memory) no_write
+  pub read : cells_of r.read ≡ on_permitted r.outcome (reads_by c i x memory) []
+  pub address_is_lem : r.address ≡ on_permitted r.outcome (address_by c i x memory) 0
+  pub addressed-is : r.addressed ≡ on_permitted r.outcome (addressed_by c i x known) true
   pub more : r.filled ≤ filled + 1

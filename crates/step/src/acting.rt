@@ -2,11 +2,11 @@
 ghost use Rattle.std.specs.Prelude.{◌≡◌, true, false, cond, not, ◌&&◌, ◌||◌, [], ◌∷◌, ◌+◌, ◌≤◌, ◌<◌, eqb, ltb, length, get_or};
 ghost use Rattle.base.specs.Below.{every};
 ghost use Rattle.records.specs.Instructions.{CAS as cas, EXIT as exit};
-ghost use Rattle.records.specs.Sets.{Set, setBy, mostThreads};
-ghost use Rattle.machine.specs.Held.{noRead, memoryOf, memoryIn, known_of, known_in, cells_of};
-ghost use Rattle.step.specs.Acting.{marksSettled, quiet as quietOf, canStep, waits, threadBy, threadFrom, PcFits, Operands, statementBy, written_by, readsBy, addressBy, addressedBy, notTaken, Advances};
-ghost use Rattle.machine.specs.Machine.{State, actor, acted as actedOf, fresh, unmarked, row as row_of, nextPc, withPc, memoryAfter, wrote as wroteOf, address, readsArgument, cellsRead, executed as executedOf, casMatches, noWrite, flushed};
-ghost use Rattle.machine.specs.Maps.{knowsAll, knownAfter};
+ghost use Rattle.records.specs.Sets.{Set, set_by, most_threads};
+ghost use Rattle.machine.specs.Held.{no_read, memory_of, memory_in, known_of, known_in, cells_of};
+ghost use Rattle.step.specs.Acting.{marks_settled, quiet as quiet_of, can_step, waits, thread_by, thread_from, PcFits, Operands, statement_by, written_by, reads_by, address_by, addressed_by, not_taken, Advances};
+ghost use Rattle.machine.specs.Machine.{State, actor, acted as acted_of, fresh, unmarked, row as row_of, next_pc, with_pc, memory_after, wrote as wrote_of, address, reads_argument, cells_read, executed as executed_of, cas_matches, no_write, flushed};
+ghost use Rattle.machine.specs.Maps.{knows_all, known_after};
 
 use machine::operands::Operand;
 use machine::{
@@ -33,7 +33,7 @@ pub struct Stepped {
 // The pc after a statement.
 fn next_pc(i: Statement, x: Thread) -> u16
     requires { PcFits i x }
-    ensures { result ≡ nextPc i x }
+    ensures { result ≡ next_pc i x }
 {
     if Statement::INSTRUCTIONS <= i.number {
         return x.pc;
@@ -53,7 +53,7 @@ fn next_pc(i: Statement, x: Thread) -> u16
 // The registers after a statement.
 fn executed(i: Statement, o: Operand, x: Thread) -> Thread
     requires { PcFits i x }
-    ensures { result ≡ withPc (nextPc i x) (row_of i.number i.argument o.address o.word x) }
+    ensures { result ≡ with_pc (next_pc i x) (row_of i.number i.argument o.address o.word x) }
 {
     let pc = next_pc(i, x);
     let y = registers::row(i.number, i.argument, o.address, o.word, x);
@@ -91,7 +91,7 @@ pub fn ended_after(n: u8, threads: [Thread; Layout::THREADS], i: Statement, ende
 // Whether a taken step changes neither marks nor end: no thread is marked, and its statement i with the registers y afterwards
 // neither checks, exits nor halts.
 pub fn quiet(marks: [Mark; Layout::THREADS], i: Statement, y: Thread) -> bool
-    ensures { result ≡ quietOf (λ t. get_or marks t unmarked) i y }
+    ensures { result ≡ quiet_of (λ t. get_or marks t unmarked) i y }
 {
     let marked = marks[0].on | marks[1].on | marks[2].on | marks[3].on;
     !marked & !y.halted & (i.number != CHECK) & (i.number != EXIT)
@@ -115,8 +115,8 @@ fn marks_settled(
     t: u8,
     i: Statement,
 ) -> [Mark; Layout::THREADS]
-    requires { t < mostThreads }
-    ensures { (λ u. get_or result u unmarked) ≡ marksSettled (setBy set.now layout) (λ v. get_or marks v unmarked) t i }
+    requires { t < most_threads }
+    ensures { (λ u. get_or result u unmarked) ≡ marks_settled (set_by set.now layout) (λ v. get_or marks v unmarked) t i }
 {
     let mut after = checkpoints::clear(set, layout, marks);
     if i.number == CHECK {
@@ -137,7 +137,7 @@ pub fn marks_after(
     t: u8,
     i: Statement,
 ) -> [Mark; Layout::THREADS]
-    ensures { (λ u. get_or result u unmarked) ≡ cond (ltb t mostThreads) (marksSettled (setBy set.now layout) (λ v. get_or marks v unmarked) t i) (λ v. get_or marks v unmarked) }
+    ensures { (λ u. get_or result u unmarked) ≡ cond (ltb t most_threads) (marks_settled (set_by set.now layout) (λ v. get_or marks v unmarked) t i) (λ v. get_or marks v unmarked) }
 {
     if t < Machine::THREADS {
         return marks_settled(set, layout, marks, t, i);
@@ -148,8 +148,8 @@ pub fn marks_after(
 // Writes v at address a, and gives the filled count.
 fn put(addresses: &mut [u16], values: &mut [u16], filled: usize, a: u16, v: u16) -> usize
     requires { (filled < length addresses.old) × (filled < length values.old) }
-    ensures { (memoryOf addresses.new values.new result ≡ memoryAfter (wroteOf a v) (memoryOf addresses.old values.old filled))
-        × (known_of addresses.new result ≡ knownAfter (wroteOf a v) (known_of addresses.old filled))
+    ensures { (memory_of addresses.new values.new result ≡ memory_after (wrote_of a v) (memory_of addresses.old values.old filled))
+        × (known_of addresses.new result ≡ known_after (wrote_of a v) (known_of addresses.old filled))
         × (result ≤ filled + 1) }
 {
     let i = memory::cell_at(&addresses[..filled], a);
@@ -164,8 +164,8 @@ fn put(addresses: &mut [u16], values: &mut [u16], filled: usize, a: u16, v: u16)
 // Writes what a step writes, if it writes, and gives the filled count.
 fn write(addresses: &mut [u16], values: &mut [u16], filled: usize, w: Written) -> usize
     requires { (filled < length addresses.old) × (filled < length values.old) }
-    ensures { (memoryOf addresses.new values.new result ≡ memoryAfter w (memoryOf addresses.old values.old filled))
-        × (known_of addresses.new result ≡ knownAfter w (known_of addresses.old filled))
+    ensures { (memory_of addresses.new values.new result ≡ memory_after w (memory_of addresses.old values.old filled))
+        × (known_of addresses.new result ≡ known_after w (known_of addresses.old filled))
         × (result ≤ filled + 1) }
 {
     if w.done {
@@ -199,7 +199,7 @@ pub struct Effect {
 // The registers after a choice.
 fn acted(x: Thread, choice: Choice, i: Statement, o: Operand) -> Thread
     requires { PcFits i x }
-    ensures { result ≡ threadFrom choice i o.address o.word x }
+    ensures { result ≡ thread_from choice i o.address o.word x }
 {
     match choice {
         Choice::Execute(_) => executed(i, o, x),
@@ -210,7 +210,7 @@ fn acted(x: Thread, choice: Choice, i: Statement, o: Operand) -> Thread
 // Updates the acting thread's registers: to those after the machine's step, in every state where it has these registers and takes this operand.
 fn update(x: &mut Thread, choice: Choice, i: Statement, o: Operand)
     requires { PcFits i x.old }
-    ensures { (S : Set) (s : State) → x.old ≡ s.threads (actor choice) → Operands S s choice i o.address o.word → x.new ≡ actedOf S s choice }
+    ensures { (S : Set) (s : State) → x.old ≡ s.threads (actor choice) → Operands S s choice i o.address o.word → x.new ≡ acted_of S s choice }
 {
     *x = acted(*x, choice, i, o);
 }
@@ -218,7 +218,7 @@ fn update(x: &mut Thread, choice: Choice, i: Statement, o: Operand)
 // A copy of the acting thread's registers, lent to `update`: a thread is not lent out of the array of a machine.
 fn updated(x: Thread, choice: Choice, i: Statement, o: Operand) -> Thread
     requires { PcFits i x }
-    ensures { (S : Set) (s : State) → x ≡ s.threads (actor choice) → Operands S s choice i o.address o.word → result ≡ actedOf S s choice }
+    ensures { (S : Set) (s : State) → x ≡ s.threads (actor choice) → Operands S s choice i o.address o.word → result ≡ acted_of S s choice }
 {
     let mut y = x;
     update(&mut y, choice, i, o);
@@ -228,12 +228,12 @@ fn updated(x: Thread, choice: Choice, i: Statement, o: Operand) -> Thread
 // What thread t's executing of statement i does.
 fn executing(t: u8, i: Statement, x: Thread, addresses: &[u16], values: &[u16]) -> Effect
     requires { PcFits i x }
-    ensures { (result.known ≡ knowsAll (known_in addresses.now) (cellsRead i x (memoryIn addresses.now values.now)))
-        × (result.thread ≡ executedOf i (memoryIn addresses.now values.now) x)
-        × (result.wrote ≡ cond (casMatches i x (memoryIn addresses.now values.now)) (wroteOf (address i x (memoryIn addresses.now values.now)) x.accu) noWrite)
-        × (cells_of result.read ≡ cellsRead i x (memoryIn addresses.now values.now))
-        × (result.address ≡ address i x (memoryIn addresses.now values.now))
-        × (result.addressed ≡ (not (readsArgument i x) || known_in addresses.now i.argument)) }
+    ensures { (result.known ≡ knows_all (known_in addresses.now) (cells_read i x (memory_in addresses.now values.now)))
+        × (result.thread ≡ executed_of i (memory_in addresses.now values.now) x)
+        × (result.wrote ≡ cond (cas_matches i x (memory_in addresses.now values.now)) (wrote_of (address i x (memory_in addresses.now values.now)) x.accu) no_write)
+        × (cells_of result.read ≡ cells_read i x (memory_in addresses.now values.now))
+        × (result.address ≡ address i x (memory_in addresses.now values.now))
+        × (result.addressed ≡ (not (reads_argument i x) || known_in addresses.now i.argument)) }
 {
     let o = operands::operands(i, x, addresses, values);
     let thread = updated(x, Choice::Execute(t), i, o);
@@ -263,7 +263,7 @@ fn executing(t: u8, i: Statement, x: Thread, addresses: &[u16], values: &[u16]) 
 // What thread t's flushing does; it takes nothing.
 fn flushing(t: u8, i: Statement, x: Thread) -> Effect
     requires { PcFits i x }
-    ensures { (result.known ≡ true) × (result.thread ≡ flushed x) × (result.wrote ≡ wroteOf x.adr x.val) × (result.read ≡ noRead)
+    ensures { (result.known ≡ true) × (result.thread ≡ flushed x) × (result.wrote ≡ wrote_of x.adr x.val) × (result.read ≡ no_read)
         × (result.address ≡ 0) × (result.addressed ≡ true) }
 {
     let o = operands::none();
@@ -287,12 +287,12 @@ fn flushing(t: u8, i: Statement, x: Thread) -> Effect
 // What a choice does.
 fn effect_of(choice: Choice, i: Statement, x: Thread, addresses: &[u16], values: &[u16]) -> Effect
     requires { PcFits i x }
-    ensures { (result.known ≡ knowsAll (known_in addresses.now) (readsBy choice i x (memoryIn addresses.now values.now)))
-        × (result.thread ≡ threadBy choice i x (memoryIn addresses.now values.now))
-        × (result.wrote ≡ written_by choice i x (memoryIn addresses.now values.now))
-        × (cells_of result.read ≡ readsBy choice i x (memoryIn addresses.now values.now))
-        × (result.address ≡ addressBy choice i x (memoryIn addresses.now values.now))
-        × (result.addressed ≡ addressedBy choice i x (known_in addresses.now)) }
+    ensures { (result.known ≡ knows_all (known_in addresses.now) (reads_by choice i x (memory_in addresses.now values.now)))
+        × (result.thread ≡ thread_by choice i x (memory_in addresses.now values.now))
+        × (result.wrote ≡ written_by choice i x (memory_in addresses.now values.now))
+        × (cells_of result.read ≡ reads_by choice i x (memory_in addresses.now values.now))
+        × (result.address ≡ address_by choice i x (memory_in addresses.now values.now))
+        × (result.addressed ≡ addressed_by choice i x (known_in addresses.now)) }
 {
     match choice {
         Choice::Execute(t) => executing(t, i, x, addresses, values),
@@ -302,7 +302,7 @@ fn effect_of(choice: Choice, i: Statement, x: Thread, addresses: &[u16], values:
 
 // The statement that a choice executes, none for a flush; x are the acting thread's registers.
 fn statement_of(set: &[u8], layout: Layout, x: Thread, choice: Choice) -> Statement
-    ensures { result ≡ statementBy (setBy set.now layout) choice x }
+    ensures { result ≡ statement_by (set_by set.now layout) choice x }
 {
     match choice {
         Choice::Execute(t) => records::fetch(set, layout, t, x.pc),
@@ -323,7 +323,7 @@ fn not_taken(
     address: u16,
     addressed: bool,
 ) -> Stepped
-    ensures { result ≡ notTaken outcome statement filled read address addressed }
+    ensures { result ≡ not_taken outcome statement filled read address addressed }
 {
     let thread = Thread::fresh();
     let wrote = Written {
@@ -345,7 +345,7 @@ fn not_taken(
 
 // A step that is not permitted: it reads nothing and has no address.
 fn not_permitted(statement: Statement, filled: usize) -> Stepped
-    ensures { result ≡ notTaken Outcome.NotPermitted statement filled noRead 0 true }
+    ensures { result ≡ not_taken Outcome.NotPermitted statement filled no_read 0 true }
 {
     let read = Read {
         argument: false,
@@ -370,10 +370,10 @@ pub fn advance(
     filled: usize,
     choice: Choice,
 ) -> Stepped
-    ensures { Advances (canStep layout ended (length addresses.old) (length values.old) filled choice)
-        choice (statementBy (setBy set.now layout) choice x) x (waits (setBy set.now layout) (λ u. get_or marks u unmarked) mark)
-        (memoryOf addresses.old values.old filled) (known_of addresses.old filled) filled
-        result (memoryOf addresses.new values.new result.filled) (known_of addresses.new result.filled) }
+    ensures { Advances (can_step layout ended (length addresses.old) (length values.old) filled choice)
+        choice (statement_by (set_by set.now layout) choice x) x (waits (set_by set.now layout) (λ u. get_or marks u unmarked) mark)
+        (memory_of addresses.old values.old filled) (known_of addresses.old filled) filled
+        result (memory_of addresses.new values.new result.filled) (known_of addresses.new result.filled) }
 {
     let t = choices::actor(choice);
     let i = statement_of(set, layout, x, choice);

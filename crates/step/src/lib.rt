@@ -3,15 +3,15 @@ mod acting;
 mod walks;
 
 ghost use Rattle.std.specs.Prelude.{◌≡◌, true, false, ℕ, length};
-ghost use Rattle.records.specs.Maps.{mapValue};
-ghost use Rattle.records.specs.Sets.{setBy};
+ghost use Rattle.records.specs.Maps.{map_value};
+ghost use Rattle.records.specs.Sets.{set_by};
 ghost use Rattle.machine.specs.Held.{held_of};
-ghost use Rattle.machine.specs.Machine.{start, noWrite};
+ghost use Rattle.machine.specs.Machine.{start, no_write};
 ghost use Rattle.machine.specs.Maps.{begin};
 ghost use Rattle.machine.specs.Runs.{choices};
-ghost use Rattle.machine.specs.Traces.{trace as traceOf};
+ghost use Rattle.machine.specs.Traces.{trace as trace_of};
 ghost use Rattle.step.specs.Runs.{followed, retraced, lacked, Begins};
-ghost use Rattle.step.specs.Step.{hasRoom, onTaken, TakesStep};
+ghost use Rattle.step.specs.Step.{has_room, on_taken, TakesStep};
 
 use machine::{Choice, Machine, Outcome, RunAnswer};
 use records::Layout;
@@ -26,7 +26,7 @@ pub struct Step {
 
 // Whether a step was taken.
 fn is_taken(outcome: Outcome) -> bool
-    ensures { result ≡ onTaken outcome true false }
+    ensures { result ≡ on_taken outcome true false }
 {
     match outcome {
         Outcome::Taken => true,
@@ -45,7 +45,7 @@ pub fn take(
     filled: usize,
     choice: Choice,
 ) -> Step
-    ensures { TakesStep (setBy set.now layout) (hasRoom layout.threads (length addresses.old) (length values.old) filled)
+    ensures { TakesStep (set_by set.now layout) (has_room layout.threads (length addresses.old) (length values.old) filled)
         (held_of m addresses.old values.old filled) choice filled result
         (held_of result.machine addresses.new values.new result.filled) }
 {
@@ -100,16 +100,16 @@ pub struct Walk {
 
 // Runs a schedule over a map, and puts its trace into the lent bytes; 17 past the limits of a run or of those bytes.
 pub fn follow(set: &[u8], layout: Layout, map: &[u8], schedule: &[u8], trace: &mut [u8]) -> Walk
-    ensures { (result.answer ≡ followed (setBy set.now layout) map.now schedule.now (length trace.old))
-        × ((place : ℕ) → result.answer ≡ RunAnswer.Refused 14 place → result.lacking ≡ lacked (setBy set.now layout) (begin map.now) (choices schedule.now))
-        × Begins result.answer (traceOf (setBy set.now layout) (start (mapValue map.now)) noWrite (choices schedule.now)) trace.new }
+    ensures { (result.answer ≡ followed (set_by set.now layout) map.now schedule.now (length trace.old))
+        × ((place : ℕ) → result.answer ≡ RunAnswer.Refused 14 place → result.lacking ≡ lacked (set_by set.now layout) (begin map.now) (choices schedule.now))
+        × Begins result.answer (trace_of (set_by set.now layout) (start (map_value map.now)) no_write (choices schedule.now)) trace.new }
 {
     walks::walk(set, layout, map, false, schedule, trace)
 }
 
 // Runs along a trace over a map and compares each of its whole records; 17 past the limits of a run.
 pub fn retrace(set: &[u8], layout: Layout, map: &[u8], trace: &[u8]) -> RunAnswer
-    ensures { result ≡ retraced (setBy set.now layout) map.now trace.now }
+    ensures { result ≡ retraced (set_by set.now layout) map.now trace.now }
 {
     // The records of its steps are compared and written nowhere.
     let mut nowhere = [0u8; 1];

@@ -1,15 +1,15 @@
 // The loop that `follow` and `retrace` share: over the steps of a schedule or of a trace.
 ghost use Rattle.std.specs.Prelude.{◌≡◌, true, false, cond, ◌&&◌, ℕ, ◌+◌, ◌*◌, ◌≤◌, leb, length};
-ghost use Rattle.records.specs.Maps.{cells, addressAt, value_at, holds, content, mapValue};
-ghost use Rattle.records.specs.Sets.{setBy, mostThreads};
-ghost use Rattle.machine.specs.Held.{state_of, held_of, memoryOf, known_of, known_in, cells_of};
-ghost use Rattle.machine.specs.Machine.{start, noWrite};
-ghost use Rattle.machine.specs.Maps.{begin as beginOf};
-ghost use Rattle.machine.specs.Runs.{choice_of, canAct, mostSteps};
-ghost use Rattle.machine.specs.Traces.{bit, stepBytes, stepLength};
-ghost use Rattle.step.specs.Ends.{endFor};
-ghost use Rattle.step.specs.Runs.{Begins, unknown as unknownOf};
-ghost use Rattle.step.specs.Walks.{steps_of, made as made_of, agrees as agreesOf, stepRefusal, walked, walkedLacks, walkedOver, traced};
+ghost use Rattle.records.specs.Maps.{cells, address_at, value_at, holds, content, map_value};
+ghost use Rattle.records.specs.Sets.{set_by, most_threads};
+ghost use Rattle.machine.specs.Held.{state_of, held_of, memory_of, known_of, known_in, cells_of};
+ghost use Rattle.machine.specs.Machine.{start, no_write};
+ghost use Rattle.machine.specs.Maps.{begin as begin_of};
+ghost use Rattle.machine.specs.Runs.{choice_of, can_act, most_steps};
+ghost use Rattle.machine.specs.Traces.{bit, step_bytes, step_length};
+ghost use Rattle.step.specs.Ends.{end_for};
+ghost use Rattle.step.specs.Runs.{Begins, unknown as unknown_of};
+ghost use Rattle.step.specs.Walks.{steps_of, made as made_of, agrees as agrees_of, step_refusal, walked, walked_lacks, walked_over, traced};
 
 use crate::{Walk, acting};
 use machine::offsets::{EFFECTIVE, NUMBER};
@@ -46,8 +46,8 @@ fn choice_of(k: u8) -> Choice
 // Puts a map's cells into the sparse memory, if there is room, and gives the filled count.
 fn begin(map: &[u8], addresses: &mut [u16], values: &mut [u16]) -> usize
     ensures { (result ≡ cond (leb (cells map.now) (length addresses.old) && leb (cells map.now) (length values.old)) (cells map.now) 0)
-        × (memoryOf addresses.new values.new result ≡ content (addressAt map.now) (value_at map.now) result)
-        × (known_of addresses.new result ≡ holds (addressAt map.now) result) }
+        × (memory_of addresses.new values.new result ≡ content (address_at map.now) (value_at map.now) result)
+        × (known_of addresses.new result ≡ holds (address_at map.now) result) }
 {
     let n = map.len() / Layout::CELL;
     if addresses.len() < n {
@@ -67,7 +67,7 @@ fn begin(map: &[u8], addresses: &mut [u16], values: &mut [u16]) -> usize
 
 // Whether thread t may execute or flush.
 fn acts(set: &[u8], layout: Layout, m: Machine, t: u8) -> bool
-    ensures { (memory : ℕ → ℕ) → result ≡ (leb layout.threads mostThreads && canAct (setBy set.now layout) (state_of m memory) t) }
+    ensures { (memory : ℕ → ℕ) → result ≡ (leb layout.threads most_threads && can_act (set_by set.now layout) (state_of m memory) t) }
 {
     if machine::choices::permits(set, layout, m, Choice::Execute(t)) {
         return true;
@@ -77,7 +77,7 @@ fn acts(set: &[u8], layout: Layout, m: Machine, t: u8) -> bool
 
 // How a run stands.
 fn end_of(set: &[u8], layout: Layout, m: Machine) -> End
-    ensures { (memory : ℕ → ℕ) → result ≡ endFor layout (setBy set.now layout) (state_of m memory) }
+    ensures { (memory : ℕ → ℕ) → result ≡ end_for layout (set_by set.now layout) (state_of m memory) }
 {
     if m.ended {
         return End::Code(m.code);
@@ -101,7 +101,7 @@ fn bit_of(b: bool) -> u8
 
 // A trace step's bytes: thread t with registers x at statement i with effective address a, after a step that wrote w.
 fn step_bytes(t: u8, i: Statement, x: Thread, w: Written, a: u16) -> [u8; Machine::STEP]
-    ensures { result ≡ stepBytes t i x w a }
+    ensures { result ≡ step_bytes t i x w a }
 {
     let full = bit_of(x.full);
     let done = bit_of(w.done);
@@ -145,7 +145,7 @@ fn count_of(replaying: bool, length: usize) -> usize
 
 // The choice of step i.
 fn made(replaying: bool, input: &[u8], i: usize) -> Choice
-    requires { i ≤ mostSteps }
+    requires { i ≤ most_steps }
     ensures { result ≡ made_of replaying input.now i }
 {
     if replaying {
@@ -167,8 +167,8 @@ fn agrees(
     addressed: bool,
     bytes: [u8; Machine::STEP],
 ) -> bool
-    requires { (i ≤ mostSteps) × (replaying ≡ true → stepLength * i + stepLength ≤ length input.now) }
-    ensures { result ≡ agreesOf replaying input.now i addressed bytes }
+    requires { (i ≤ most_steps) × (replaying ≡ true → step_length * i + step_length ≤ length input.now) }
+    ensures { result ≡ agrees_of replaying input.now i addressed bytes }
 {
     if replaying {
         let at = Machine::STEP * i;
@@ -184,7 +184,7 @@ fn agrees(
 
 // The refusal of a step, 0 where it stands: 12 before 13 before 14.
 fn refusal_of(outcome: Outcome, agreed: bool) -> u8
-    ensures { result ≡ stepRefusal outcome agreed }
+    ensures { result ≡ step_refusal outcome agreed }
 {
     match outcome {
         Outcome::NotPermitted => refusals::NOT_PERMITTED,
@@ -212,7 +212,7 @@ fn knows(addresses: &[u16], a: u16) -> bool
 
 // The first of the cells read that is not known; 0 where all are.
 fn unknown(addresses: &[u16], read: Read) -> u16
-    ensures { result ≡ unknownOf (known_in addresses.now) (cells_of read) }
+    ensures { result ≡ unknown_of (known_in addresses.now) (cells_of read) }
 {
     if read.argument & !knows(addresses, read.first) {
         return read.first;
@@ -225,7 +225,7 @@ fn unknown(addresses: &[u16], read: Read) -> u16
 
 // A refusal at a step.
 fn refused(number: u8, step: usize) -> RunAnswer
-    requires { step ≤ mostSteps }
+    requires { step ≤ most_steps }
     ensures { result ≡ RunAnswer.Refused number step }
 {
     RunAnswer::Refused {
@@ -248,12 +248,12 @@ fn run(
     cells: usize,
     trace: &mut [u8],
 ) -> Walk
-    requires { (layout.threads ≤ mostThreads) × (count ≤ mostSteps) × (count ≡ steps_of replaying (length input.now))
-        × ((cells + count ≤ length addresses.old) × (cells + count ≤ length values.old)) × (replaying ≡ false → stepLength * count ≤ length trace.old) }
-    ensures { (result.answer ≡ walked (setBy set.now layout) replaying input.now (held_of first addresses.old values.old cells) noWrite 0 count)
+    requires { (layout.threads ≤ most_threads) × (count ≤ most_steps) × (count ≡ steps_of replaying (length input.now))
+        × ((cells + count ≤ length addresses.old) × (cells + count ≤ length values.old)) × (replaying ≡ false → step_length * count ≤ length trace.old) }
+    ensures { (result.answer ≡ walked (set_by set.now layout) replaying input.now (held_of first addresses.old values.old cells) no_write 0 count)
         × ((place : ℕ) → result.answer ≡ RunAnswer.Refused 14 place
-        → result.lacking ≡ walkedLacks (setBy set.now layout) replaying input.now (held_of first addresses.old values.old cells) 0 count)
-        × Begins result.answer (traced (setBy set.now layout) replaying (state_of first (memoryOf addresses.old values.old cells)) input.now) trace.new }
+        → result.lacking ≡ walked_lacks (set_by set.now layout) replaying input.now (held_of first addresses.old values.old cells) 0 count)
+        × Begins result.answer (traced (set_by set.now layout) replaying (state_of first (memory_of addresses.old values.old cells)) input.now) trace.new }
 {
     let mut m = first;
     let mut filled = cells;
@@ -316,10 +316,10 @@ pub fn walk(
     input: &[u8],
     trace: &mut [u8],
 ) -> Walk
-    ensures { (result.answer ≡ walkedOver (setBy set.now layout) map.now replaying input.now (length trace.old))
+    ensures { (result.answer ≡ walked_over (set_by set.now layout) map.now replaying input.now (length trace.old))
         × ((place : ℕ) → result.answer ≡ RunAnswer.Refused 14 place
-        → result.lacking ≡ walkedLacks (setBy set.now layout) replaying input.now (beginOf map.now) 0 (steps_of replaying (length input.now)))
-        × Begins result.answer (traced (setBy set.now layout) replaying (start (mapValue map.now)) input.now) trace.new }
+        → result.lacking ≡ walked_lacks (set_by set.now layout) replaying input.now (begin_of map.now) 0 (steps_of replaying (length input.now)))
+        × Begins result.answer (traced (set_by set.now layout) replaying (start (map_value map.now)) input.now) trace.new }
 {
     let count = count_of(replaying, input.len());
     let room = replaying | (count <= trace.len() / Machine::STEP);

@@ -8,9 +8,9 @@ use borrow.Author.Tests.{ne_eqb}
 use lib.Dec.{eqb}
 use Rattle.base.proofs.Choice.{passed}
 use Rattle.table.specs.declared.Formula.{Formula}
-use Rattle.table.specs.Formulas.{bitSort, CHOICE, FIRST, CONSTANT, CONSTRAINT, GOAL}
+use Rattle.table.specs.Formulas.{bit_sort, CHOICE, FIRST, CONSTANT, CONSTRAINT, GOAL}
 use Rattle.table.specs.Tables.{occurrences}
-use Rattle.table.specs.Programs.{Leaf, choiceBit, firstMemory, constantBit, constantWord, Unary, not1, top1, Binary, and2, or2, equal2, plus2, minus2, times2, read2, Ternary, if3, write3, leafFormula, unaryNumber, unaryFormula, binaryNumber, binaryFormula, ternaryNumber, ternaryFormula, Tree, ref, leaf, unary, binary, ternary, next, root, records, upto, Command, sets, needs, aims, put, compiled}
+use Rattle.table.specs.Programs.{Leaf, choice_bit, first_memory, constant_bit, constant_word, Unary, not1, top1, Binary, and2, or2, equal2, plus2, minus2, times2, read2, Ternary, if3, write3, leaf_formula, unary_number, unary_formula, binary_number, binary_formula, ternary_number, ternary_formula, Tree, ref, leaf, unary, binary, ternary, next, root, records, upto, Command, sets, needs, aims, put, compiled}
 use Rattle.table.proofs.Sorted.{LeafFits, Fits, ProgramFits}
 
 -- ---- counts
@@ -22,18 +22,18 @@ count-++ operation (f ∷ table) more = let p = count-++ operation table more in
 
 -- no record of a tree has this operation; `bits` says whether trees may have choice bits
 pub record Apart (bits : Bool) (operation : ℕ) : Type 0 where
-  pub noChoiceBit : bits ≡ true → eqb CHOICE operation ≡ false
-  pub noConstant : eqb CONSTANT operation ≡ false
-  pub noUnary : (o : Unary) → eqb (unaryNumber o) operation ≡ false
-  pub noBinary : (o : Binary) → eqb (binaryNumber o) operation ≡ false
-  pub noTernary : (o : Ternary) → eqb (ternaryNumber o) operation ≡ false
+  pub no_choice_bit : bits ≡ true → eqb CHOICE operation ≡ false
+  pub no_constant : eqb CONSTANT operation ≡ false
+  pub no_unary : (o : Unary) → eqb (unary_number o) operation ≡ false
+  pub no_binary : (o : Binary) → eqb (binary_number o) operation ≡ false
+  pub no_ternary : (o : Ternary) → eqb (ternary_number o) operation ≡ false
 
 -- operations 3 to 14 are those of trees
-unary-range : (o : Unary) → (3 ≤ unaryNumber o) × (unaryNumber o ≤ 14)
+unary-range : (o : Unary) → (3 ≤ unary_number o) × (unary_number o ≤ 14)
 unary-range not1 = (omega arith, omega arith)
 unary-range top1 = (omega arith, omega arith)
 
-binary-range : (o : Binary) → (3 ≤ binaryNumber o) × (binaryNumber o ≤ 14)
+binary-range : (o : Binary) → (3 ≤ binary_number o) × (binary_number o ≤ 14)
 binary-range and2 = (omega arith, omega arith)
 binary-range or2 = (omega arith, omega arith)
 binary-range equal2 = (omega arith, omega arith)
@@ -42,18 +42,18 @@ binary-range minus2 = (omega arith, omega arith)
 binary-range times2 = (omega arith, omega arith)
 binary-range read2 = (omega arith, omega arith)
 
-ternary-range : (o : Ternary) → (3 ≤ ternaryNumber o) × (ternaryNumber o ≤ 14)
+ternary-range : (o : Ternary) → (3 ≤ ternary_number o) × (ternary_number o ≤ 14)
 ternary-range (if3 sort) = (omega arith, omega arith)
 ternary-range write3 = (omega arith, omega arith)
 
 outside : (bits : Bool) (operation : ℕ) → (bits ≡ true → eqb CHOICE operation ≡ false) → ((n : ℕ) → (3 ≤ n) × (n ≤ 14) → n ≡ operation → ⊥) →
     Apart bits operation
-outside bits operation noBit f = record {
-  noChoiceBit = noBit;
-  noConstant = ne_eqb CONSTANT operation (f CONSTANT (omega arith, omega arith));
-  noUnary = λ o. ne_eqb (unaryNumber o) operation (f (unaryNumber o) (unary-range o));
-  noBinary = λ o. ne_eqb (binaryNumber o) operation (f (binaryNumber o) (binary-range o));
-  noTernary = λ o. ne_eqb (ternaryNumber o) operation (f (ternaryNumber o) (ternary-range o));
+outside bits operation no_bit f = record {
+  no_choice_bit = no_bit;
+  no_constant = ne_eqb CONSTANT operation (f CONSTANT (omega arith, omega arith));
+  no_unary = λ o. ne_eqb (unary_number o) operation (f (unary_number o) (unary-range o));
+  no_binary = λ o. ne_eqb (binary_number o) operation (f (binary_number o) (binary-range o));
+  no_ternary = λ o. ne_eqb (ternary_number o) operation (f (ternary_number o) (ternary-range o));
 }
 
 pub choice-apart : Apart false CHOICE
@@ -104,39 +104,39 @@ module _ {Slot : Type 0} where
       let r = h n in
       omega arith
 
-  module _ (sortOf : Slot → ℕ) (bits : Bool) (operation : ℕ) (apart : Apart bits operation) where
+  module _ (sort_of : Slot → ℕ) (bits : Bool) (operation : ℕ) (apart : Apart bits operation) where
     zero-count : (f : Formula) (table : List Formula) → eqb f.operation operation ≡ false → occurrences operation (f ∷ table) ≡ occurrences operation table
     unfolding occurrences
     zero-count f table e = let p = passed {A = ℕ} 1 0 e in omega arith
 
     -- a tree's records are of other operations
-    tree-count : (places : Slot → ℕ) (t : Tree Slot) (n sort : ℕ) (rest : List Formula) → Fits sortOf bits t sort →
+    tree-count : (places : Slot → ℕ) (t : Tree Slot) (n sort : ℕ) (rest : List Formula) → Fits sort_of bits t sort →
         occurrences operation (records places n t rest) ≡ occurrences operation rest
     unfolding records
     tree-count places (ref s) n sort rest f = refl
-    tree-count places (leaf x) n sort rest f = zero-count (leafFormula x) rest (leaf-test x f)
+    tree-count places (leaf x) n sort rest f = zero-count (leaf_formula x) rest (leaf-test x f)
       where
-        leaf-test : (x : Leaf) → LeafFits bits x sort → eqb (leafFormula x).operation operation ≡ false
-        leaf-test (choiceBit step kind thread) f = apart.noChoiceBit f.0
-        leaf-test firstMemory f = absurd f
-        leaf-test (constantBit v) f = apart.noConstant
-        leaf-test (constantWord w) f = apart.noConstant
+        leaf-test : (x : Leaf) → LeafFits bits x sort → eqb (leaf_formula x).operation operation ≡ false
+        leaf-test (choice_bit step kind thread) f = apart.no_choice_bit f.0
+        leaf-test first_memory f = absurd f
+        leaf-test (constant_bit v) f = apart.no_constant
+        leaf-test (constant_word w) f = apart.no_constant
     tree-count places (unary o a) n sort rest f =
-        tree-count places a n _ _ f.1 ∙ zero-count (unaryFormula o (root places n a)) rest (apart.noUnary o)
+        tree-count places a n _ _ f.1 ∙ zero-count (unary_formula o (root places n a)) rest (apart.no_unary o)
     tree-count places (binary o a b) n sort rest f =
         tree-count places a n _ _ f.1.0 ∙ (tree-count places b (next n a) _ _ f.1.1
-        ∙ zero-count (binaryFormula o (root places n a) (root places (next n a) b)) rest (apart.noBinary o))
+        ∙ zero-count (binary_formula o (root places n a) (root places (next n a) b)) rest (apart.no_binary o))
     tree-count places (ternary o a b c) n sort rest f =
         tree-count places a n _ _ f.1.1.0 ∙ (tree-count places b (next n a) _ _ f.1.1.1.0 ∙ (tree-count places c (next (next n a) b) _ _ f.1.1.1.1
-        ∙ zero-count (ternaryFormula o (root places n a) (root places (next n a) b) (root places (next (next n a) b) c)) rest (apart.noTernary o)))
+        ∙ zero-count (ternary_formula o (root places n a) (root places (next n a) b) (root places (next (next n a) b) c)) rest (apart.no_ternary o)))
 
-    pub program-count : (same : Slot → Slot → Bool) (P : List (Command Slot)) (places : Slot → ℕ) (n : ℕ) → ProgramFits sortOf bits P →
+    pub program-count : (same : Slot → Slot → Bool) (P : List (Command Slot)) (places : Slot → ℕ) (n : ℕ) → ProgramFits sort_of bits P →
         occurrences operation (compiled same places n P) ≡ demands operation P
     unfolding compiled occurrences demands
     program-count same [] places n f = refl
     program-count same (sets s t ∷ P) places n f =
-        tree-count places t n (sortOf s) _ f.0 ∙ program-count same P (put same places s (root places n t)) (next n t) f.1
+        tree-count places t n (sort_of s) _ f.0 ∙ program-count same P (put same places s (root places n t)) (next n t) f.1
     program-count same (needs t ∷ P) places n f =
-        tree-count places t n bitSort _ f.0 ∙ ap (λ x. cond (eqb CONSTRAINT operation) 1 0 + x) (program-count same P places (suc (next n t)) f.1)
+        tree-count places t n bit_sort _ f.0 ∙ ap (λ x. cond (eqb CONSTRAINT operation) 1 0 + x) (program-count same P places (suc (next n t)) f.1)
     program-count same (aims t ∷ P) places n f =
-        tree-count places t n bitSort _ f.0 ∙ ap (λ x. cond (eqb GOAL operation) 1 0 + x) (program-count same P places (suc (next n t)) f.1)
+        tree-count places t n bit_sort _ f.0 ∙ ap (λ x. cond (eqb GOAL operation) 1 0 + x) (program-count same P places (suc (next n t)) f.1)

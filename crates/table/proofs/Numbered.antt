@@ -7,7 +7,7 @@ use native.Mathlib.Omega.{arith}
 use lib.ListN.{length, length-append}
 use Rattle.base.specs.Bytes.{placed}
 use Rattle.table.specs.declared.Formula.{Formula}
-use Rattle.table.specs.Formulas.{formulaBytes, writtenAt}
+use Rattle.table.specs.Formulas.{formula_bytes, written_at}
 use Rattle.table.specs.Programs.{upto}
 use Rattle.table.proofs.Written.{written-++}
 
@@ -20,16 +20,16 @@ module _ (f : ℕ → Formula) where
       let q = upto-length j in
       omega arith
 
-  pub numbered-none : (out : List ℕ) (at : ℕ) → out ≡ writtenAt out at (upto (λ i. f i ∷ []) 0)
-  unfolding upto writtenAt
+  pub numbered-none : (out : List ℕ) (at : ℕ) → out ≡ written_at out at (upto (λ i. f i ∷ []) 0)
+  unfolding upto written_at
   numbered-none out at = refl
 
   -- one more
-  pub numbered_more : (out now : List ℕ) (at j : ℕ) → now ≡ writtenAt out at (upto (λ i. f i ∷ []) j) →
-      placed now (16 * (at + j)) (formulaBytes (f j)) ≡ writtenAt out at (upto (λ i. f i ∷ []) (j + 1))
-  unfolding upto writtenAt
+  pub numbered_more : (out now : List ℕ) (at j : ℕ) → now ≡ written_at out at (upto (λ i. f i ∷ []) j) →
+      placed now (16 * (at + j)) (formula_bytes (f j)) ≡ written_at out at (upto (λ i. f i ∷ []) (j + 1))
+  unfolding upto written_at
   numbered_more out now at j e =
       let l = sym (upto-length j) in
-      (λ z. placed (e z) (16 * (at + l z)) (formulaBytes (f j)))
+      (λ z. placed (e z) (16 * (at + l z)) (formula_bytes (f j)))
       ∙ (sym (written-++ out at (upto (λ i. f i ∷ []) j) (f j ∷ []))
-      ∙ ap (λ (n : ℕ). writtenAt out at (upto (λ i. f i ∷ []) n)) (sym (add-one j)))
+      ∙ ap (λ (n : ℕ). written_at out at (upto (λ i. f i ∷ []) n)) (sym (add-one j)))

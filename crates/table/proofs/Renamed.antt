@@ -9,26 +9,26 @@ use lib.Dec.{ltb}
 use borrow.Author.Tests.{lt-ltb, le-ltb}
 use Rattle.base.proofs.Choice.{chosen, passed}
 use Rattle.table.specs.declared.Formula.{Formula}
-use Rattle.table.specs.Programs.{Leaf, choiceBit, firstMemory, constantBit, constantWord, Unary, not1, top1, Binary, and2, or2, equal2, plus2, minus2, times2, read2, Ternary, if3, write3, leafFormula, unaryFormula, binaryFormula, ternaryFormula, constraint, goal, binaryNumber, ternaryNumber, Tree, ref, leaf, unary, binary, ternary, next, root, records, Command, sets, needs, aims, put, nextAfter, placesAfter, compiled}
-use Rattle.table.proofs.Sequences.{grows, next-shift, program-grows}
+use Rattle.table.specs.Programs.{Leaf, choice_bit, first_memory, constant_bit, constant_word, Unary, not1, top1, Binary, and2, or2, equal2, plus2, minus2, times2, read2, Ternary, if3, write3, leaf_formula, unary_formula, binary_formula, ternary_formula, constraint, goal, binary_number, ternary_number, Tree, ref, leaf, unary, binary, ternary, next, root, records, Command, sets, needs, aims, put, next_after, places_after, compiled}
+use Rattle.table.proofs.Sequences.{grows, next_shift, program-grows}
 
 -- ---- operations with operands are those above 3
 
-leaf-number : (x : Leaf) → (leafFormula x).operation ≤ 3
-leaf-number (choiceBit step kind thread) = omega arith
-leaf-number firstMemory = omega arith
-leaf-number (constantBit v) = omega arith
-leaf-number (constantWord w) = omega arith
+leaf-number : (x : Leaf) → (leaf_formula x).operation ≤ 3
+leaf-number (choice_bit step kind thread) = omega arith
+leaf-number first_memory = omega arith
+leaf-number (constant_bit v) = omega arith
+leaf-number (constant_word w) = omega arith
 
 -- ---- related records
 
 module _ (Related : ℕ → ℕ → Type 0) where
   -- alike but for the operands; these are related, and what is no operand is the same
   pub record Alike (f g : Formula) : Type 0 where
-    pub sameOperation : g.operation ≡ f.operation
-    pub sameSort : g.sort ≡ f.sort
-    pub sameConstant : g.constant ≡ f.constant
-    pub noConstant : 3 < f.operation → f.constant ≡ 0
+    pub same_operation : g.operation ≡ f.operation
+    pub same_sort : g.sort ≡ f.sort
+    pub same_constant : g.constant ≡ f.constant
+    pub no_constant : 3 < f.operation → f.constant ≡ 0
     pub operands : 3 < f.operation → Related f.a g.a × Related f.b g.b × Related f.c g.c
     pub fields : f.operation ≤ 3 → (g.a ≡ f.a) × (g.b ≡ f.b) × (g.c ≡ f.c)
 
@@ -55,28 +55,28 @@ module _ (Related : ℕ → ℕ → Type 0) where
         let q : m + (d + i) ≡ d + m + i = omega arith in
         subst (λ (x : ℕ). Related (d + n + i) x) q (subst (λ (x : ℕ). Related x (m + (d + i))) p (h (d + i) (omega arith)))
 
-    suc-related : (n m : ℕ) → FromHere n m → FromHere (suc n) (suc m)
-    suc-related n m h =
+    suc_related : (n m : ℕ) → FromHere n m → FromHere (suc n) (suc m)
+    suc_related n m h =
         let p : 1 + n ≡ suc n = omega arith in
         let q : 1 + m ≡ suc m = omega arith in
         subst (λ (x : ℕ). FromHere (suc n) x) q (subst (λ (x : ℕ). FromHere x (1 + m)) p (from-later n m 1 h))
 
   module _ (zero-related : Related 0 0) where
-    leaf-alike : (x : Leaf) → Alike (leafFormula x) (leafFormula x)
+    leaf-alike : (x : Leaf) → Alike (leaf_formula x) (leaf_formula x)
     leaf-alike x = record {
-      sameOperation = refl;
-      sameSort = refl;
-      sameConstant = refl;
-      noConstant = λ h. let k = leaf-number x in absurd (omega arith);
+      same_operation = refl;
+      same_sort = refl;
+      same_constant = refl;
+      no_constant = λ h. let k = leaf-number x in absurd (omega arith);
       operands = λ h. let k = leaf-number x in absurd (omega arith);
       fields = λ h. (refl, refl, refl);
     }
 
-    unary-alike : (o : Unary) (x y : ℕ) → Related x y → Alike (unaryFormula o x) (unaryFormula o y)
-    unary-alike not1 x y r = record { sameOperation = refl; sameSort = refl; sameConstant = refl; noConstant = λ h. refl; operands = λ h. (r, zero-related, zero-related); fields = λ h. absurd (omega arith) }
-    unary-alike top1 x y r = record { sameOperation = refl; sameSort = refl; sameConstant = refl; noConstant = λ h. refl; operands = λ h. (r, zero-related, zero-related); fields = λ h. absurd (omega arith) }
+    unary-alike : (o : Unary) (x y : ℕ) → Related x y → Alike (unary_formula o x) (unary_formula o y)
+    unary-alike not1 x y r = record { same_operation = refl; same_sort = refl; same_constant = refl; no_constant = λ h. refl; operands = λ h. (r, zero-related, zero-related); fields = λ h. absurd (omega arith) }
+    unary-alike top1 x y r = record { same_operation = refl; same_sort = refl; same_constant = refl; no_constant = λ h. refl; operands = λ h. (r, zero-related, zero-related); fields = λ h. absurd (omega arith) }
 
-    binary-above : (o : Binary) → 3 < binaryNumber o
+    binary-above : (o : Binary) → 3 < binary_number o
     binary-above and2 = omega arith
     binary-above or2 = omega arith
     binary-above equal2 = omega arith
@@ -85,58 +85,58 @@ module _ (Related : ℕ → ℕ → Type 0) where
     binary-above times2 = omega arith
     binary-above read2 = omega arith
 
-    binary-alike : (o : Binary) (x y x1 y1 : ℕ) → Related x x1 → Related y y1 → Alike (binaryFormula o x y) (binaryFormula o x1 y1)
+    binary-alike : (o : Binary) (x y x1 y1 : ℕ) → Related x x1 → Related y y1 → Alike (binary_formula o x y) (binary_formula o x1 y1)
     binary-alike o x y x1 y1 r s = record {
-      sameOperation = refl;
-      sameSort = refl;
-      sameConstant = refl;
-      noConstant = λ h. refl;
+      same_operation = refl;
+      same_sort = refl;
+      same_constant = refl;
+      no_constant = λ h. refl;
       operands = λ h. (r, s, zero-related);
       fields = λ h. let k = binary-above o in absurd (omega arith);
     }
 
-    ternary-above : (o : Ternary) → 3 < ternaryNumber o
+    ternary-above : (o : Ternary) → 3 < ternary_number o
     ternary-above (if3 sort) = omega arith
     ternary-above write3 = omega arith
 
-    ternary-alike : (o : Ternary) (x y z x1 y1 z1 : ℕ) → Related x x1 → Related y y1 → Related z z1 → Alike (ternaryFormula o x y z) (ternaryFormula o x1 y1 z1)
+    ternary-alike : (o : Ternary) (x y z x1 y1 z1 : ℕ) → Related x x1 → Related y y1 → Related z z1 → Alike (ternary_formula o x y z) (ternary_formula o x1 y1 z1)
     ternary-alike o x y z x1 y1 z1 r s t = record {
-      sameOperation = refl;
-      sameSort = refl;
-      sameConstant = refl;
-      noConstant = λ h. refl;
+      same_operation = refl;
+      same_sort = refl;
+      same_constant = refl;
+      no_constant = λ h. refl;
       operands = λ h. (r, s, t);
       fields = λ h. let k = ternary-above o in absurd (omega arith);
     }
 
     constraint-alike : (x y : ℕ) → Related x y → Alike (constraint x) (constraint y)
-    constraint-alike x y r = record { sameOperation = refl; sameSort = refl; sameConstant = refl; noConstant = λ h. refl; operands = λ h. (r, zero-related, zero-related); fields = λ h. absurd (omega arith) }
+    constraint-alike x y r = record { same_operation = refl; same_sort = refl; same_constant = refl; no_constant = λ h. refl; operands = λ h. (r, zero-related, zero-related); fields = λ h. absurd (omega arith) }
 
     goal-alike : (x y : ℕ) → Related x y → Alike (goal x) (goal y)
-    goal-alike x y r = record { sameOperation = refl; sameSort = refl; sameConstant = refl; noConstant = λ h. refl; operands = λ h. (r, zero-related, zero-related); fields = λ h. absurd (omega arith) }
+    goal-alike x y r = record { same_operation = refl; same_sort = refl; same_constant = refl; no_constant = λ h. refl; operands = λ h. (r, zero-related, zero-related); fields = λ h. absurd (omega arith) }
 
     module _ {Slot : Type 0} (limit : ℕ) where
       -- ---- trees
 
-      next-related : (t : Tree Slot) (n m : ℕ) → FromHere limit n m → FromHere limit (next n t) (next m t)
-      next-related t n m h =
+      next_related : (t : Tree Slot) (n m : ℕ) → FromHere limit n m → FromHere limit (next n t) (next m t)
+      next_related t n m h =
           let u : n ≡ 0 + n = omega arith in
           let v : m ≡ 0 + m = omega arith in
-          let p : next n t ≡ next 0 t + n = ap (λ (x : ℕ). next x t) u ∙ next-shift n t 0 in
-          let q : next m t ≡ next 0 t + m = ap (λ (x : ℕ). next x t) v ∙ next-shift m t 0 in
+          let p : next n t ≡ next 0 t + n = ap (λ (x : ℕ). next x t) u ∙ next_shift n t 0 in
+          let q : next m t ≡ next 0 t + m = ap (λ (x : ℕ). next x t) v ∙ next_shift m t 0 in
           subst (λ (x : ℕ). FromHere limit (next n t) x) (sym q) (subst (λ (x : ℕ). FromHere limit x (next 0 t + m)) (sym p) (from-later limit n m (next 0 t) h))
 
       module _ (p q : Slot → ℕ) (related : (s : Slot) → Related (p s) (q s)) where
-        root-related : (t : Tree Slot) (n m : ℕ) → next n t ≤ limit → FromHere limit n m → Related (root p n t) (root q m t)
+        root_related : (t : Tree Slot) (n m : ℕ) → next n t ≤ limit → FromHere limit n m → Related (root p n t) (root q m t)
         unfolding root next
-        root-related (ref s) n m l h = related s
-        root-related (leaf x) n m l h = here limit n m (omega arith) h
-        root-related (unary o a) n m l h = here limit (next n a) (next m a) (omega arith) (next-related a n m h)
-        root-related (binary o a b) n m l h =
-            here limit (next (next n a) b) (next (next m a) b) (omega arith) (next-related b (next n a) (next m a) (next-related a n m h))
-        root-related (ternary o a b c) n m l h =
+        root_related (ref s) n m l h = related s
+        root_related (leaf x) n m l h = here limit n m (omega arith) h
+        root_related (unary o a) n m l h = here limit (next n a) (next m a) (omega arith) (next_related a n m h)
+        root_related (binary o a b) n m l h =
+            here limit (next (next n a) b) (next (next m a) b) (omega arith) (next_related b (next n a) (next m a) (next_related a n m h))
+        root_related (ternary o a b c) n m l h =
             here limit (next (next (next n a) b) c) (next (next (next m a) b) c) (omega arith)
-            (next-related c (next (next n a) b) (next (next m a) b) (next-related b (next n a) (next m a) (next-related a n m h)))
+            (next_related c (next (next n a) b) (next (next m a) b) (next_related b (next n a) (next m a) (next_related a n m h)))
 
         records-alike : (t : Tree Slot) (n m : ℕ) (fs gs : List Formula) → next n t ≤ limit → FromHere limit n m → AllAlike fs gs →
             AllAlike (records p n t fs) (records q m t gs)
@@ -145,71 +145,71 @@ module _ (Related : ℕ → ℕ → Type 0) where
         records-alike (leaf x) n m fs gs l h r = (leaf-alike x, r)
         records-alike (unary o a) n m fs gs l h r =
             let la : next n a ≤ limit = omega arith in
-            records-alike a n m _ _ la h (unary-alike o _ _ (root-related a n m la h), r)
+            records-alike a n m _ _ la h (unary-alike o _ _ (root_related a n m la h), r)
         records-alike (binary o a b) n m fs gs l h r =
-            let k = next-related a n m h in
+            let k = next_related a n m h in
             let gb = grows b (next n a) in
             let la : next n a ≤ limit = omega arith in
             let lb : next (next n a) b ≤ limit = omega arith in
-            records-alike a n m _ _ la h (records-alike b _ _ _ _ lb k (binary-alike o _ _ _ _ (root-related a n m la h) (root-related b _ _ lb k), r))
+            records-alike a n m _ _ la h (records-alike b _ _ _ _ lb k (binary-alike o _ _ _ _ (root_related a n m la h) (root_related b _ _ lb k), r))
         records-alike (ternary o a b c) n m fs gs l h r =
-            let k = next-related a n m h in
-            let j = next-related b (next n a) (next m a) k in
+            let k = next_related a n m h in
+            let j = next_related b (next n a) (next m a) k in
             let gb = grows b (next n a) in
             let gc = grows c (next (next n a) b) in
             let la : next n a ≤ limit = omega arith in
             let lb : next (next n a) b ≤ limit = omega arith in
             let lc : next (next (next n a) b) c ≤ limit = omega arith in
             records-alike a n m _ _ la h (records-alike b _ _ _ _ lb k (records-alike c _ _ _ _ lc j
-            (ternary-alike o _ _ _ _ _ _ (root-related a n m la h) (root-related b _ _ lb k) (root-related c _ _ lc j), r)))
+            (ternary-alike o _ _ _ _ _ _ (root_related a n m la h) (root_related b _ _ lb k) (root_related c _ _ lc j), r)))
 
       -- ---- programs
 
       module _ (same : Slot → Slot → Bool) where
-        put-related : (p q : Slot → ℕ) (s : Slot) (v w : ℕ) → ((x : Slot) → Related (p x) (q x)) → Related v w → (x : Slot) → Related (put same p s v x) (put same q s w x)
-        put-related p q s v w h r x = go (same x s)
+        put_related : (p q : Slot → ℕ) (s : Slot) (v w : ℕ) → ((x : Slot) → Related (p x) (q x)) → Related v w → (x : Slot) → Related (put same p s v x) (put same q s w x)
+        put_related p q s v w h r x = go (same x s)
           where
             go : (b : Bool) → Related (cond b v (p x)) (cond b w (q x))
             go true = r
             go false = h x
 
-        pub places-related : (P : List (Command Slot)) (p q : Slot → ℕ) (n m : ℕ) → nextAfter same n P ≤ limit → ((s : Slot) → Related (p s) (q s)) → FromHere limit n m →
-            (s : Slot) → Related (placesAfter same p n P s) (placesAfter same q m P s)
-        unfolding placesAfter nextAfter
-        places-related [] p q n m l h k s = h s
-        places-related (sets x t ∷ P) p q n m l h k s =
+        pub places_related : (P : List (Command Slot)) (p q : Slot → ℕ) (n m : ℕ) → next_after same n P ≤ limit → ((s : Slot) → Related (p s) (q s)) → FromHere limit n m →
+            (s : Slot) → Related (places_after same p n P s) (places_after same q m P s)
+        unfolding places_after next_after
+        places_related [] p q n m l h k s = h s
+        places_related (sets x t ∷ P) p q n m l h k s =
             let g = program-grows same P (next n t) in
             let lt : next n t ≤ limit = omega arith in
-            places-related P (put same p x (root p n t)) (put same q x (root q m t)) (next n t) (next m t) l
-            (put-related p q x (root p n t) (root q m t) h (root-related p q h t n m lt k)) (next-related t n m k) s
-        places-related (needs t ∷ P) p q n m l h k s =
-            places-related P p q (suc (next n t)) (suc (next m t)) l h (suc-related limit (next n t) (next m t) (next-related t n m k)) s
-        places-related (aims t ∷ P) p q n m l h k s =
-            places-related P p q (suc (next n t)) (suc (next m t)) l h (suc-related limit (next n t) (next m t) (next-related t n m k)) s
+            places_related P (put same p x (root p n t)) (put same q x (root q m t)) (next n t) (next m t) l
+            (put_related p q x (root p n t) (root q m t) h (root_related p q h t n m lt k)) (next_related t n m k) s
+        places_related (needs t ∷ P) p q n m l h k s =
+            places_related P p q (suc (next n t)) (suc (next m t)) l h (suc_related limit (next n t) (next m t) (next_related t n m k)) s
+        places_related (aims t ∷ P) p q n m l h k s =
+            places_related P p q (suc (next n t)) (suc (next m t)) l h (suc_related limit (next n t) (next m t) (next_related t n m k)) s
 
-        pub compiled-alike : (P : List (Command Slot)) (p q : Slot → ℕ) (n m : ℕ) → nextAfter same n P ≤ limit → ((s : Slot) → Related (p s) (q s)) → FromHere limit n m →
+        pub compiled-alike : (P : List (Command Slot)) (p q : Slot → ℕ) (n m : ℕ) → next_after same n P ≤ limit → ((s : Slot) → Related (p s) (q s)) → FromHere limit n m →
             AllAlike (compiled same p n P) (compiled same q m P)
-        unfolding compiled nextAfter
+        unfolding compiled next_after
         compiled-alike [] p q n m l h k = tt
         compiled-alike (sets x t ∷ P) p q n m l h k =
             let g = program-grows same P (next n t) in
             let lt : next n t ≤ limit = omega arith in
             records-alike p q h t n m _ _ lt k
             (compiled-alike P (put same p x (root p n t)) (put same q x (root q m t)) (next n t) (next m t) l
-            (put-related p q x (root p n t) (root q m t) h (root-related p q h t n m lt k)) (next-related t n m k))
+            (put_related p q x (root p n t) (root q m t) h (root_related p q h t n m lt k)) (next_related t n m k))
         compiled-alike (needs t ∷ P) p q n m l h k =
             let g = program-grows same P (suc (next n t)) in
             let lt : next n t ≤ limit = omega arith in
             records-alike p q h t n m _ _ lt k (
-              constraint-alike _ _ (root-related p q h t n m lt k),
-              compiled-alike P p q (suc (next n t)) (suc (next m t)) l h (suc-related limit (next n t) (next m t) (next-related t n m k)),
+              constraint-alike _ _ (root_related p q h t n m lt k),
+              compiled-alike P p q (suc (next n t)) (suc (next m t)) l h (suc_related limit (next n t) (next m t) (next_related t n m k)),
             )
         compiled-alike (aims t ∷ P) p q n m l h k =
             let g = program-grows same P (suc (next n t)) in
             let lt : next n t ≤ limit = omega arith in
             records-alike p q h t n m _ _ lt k (
-              goal-alike _ _ (root-related p q h t n m lt k),
-              compiled-alike P p q (suc (next n t)) (suc (next m t)) l h (suc-related limit (next n t) (next m t) (next-related t n m k)),
+              goal-alike _ _ (root_related p q h t n m lt k),
+              compiled-alike P p q (suc (next n t)) (suc (next m t)) l h (suc_related limit (next n t) (next m t) (next_related t n m k)),
             )
 
 -- ---- renaming
@@ -220,9 +220,9 @@ renamed f x = cond (ltb 3 x.operation) (record { operation = x.operation; sort =
 
 -- no operand is the place that no record names
 pub record Clean (unused : ℕ) (x : Formula) : Type 0 where
-  pub cleanA : x.a ≡ unused → ⊥
-  pub cleanB : x.b ≡ unused → ⊥
-  pub cleanC : x.c ≡ unused → ⊥
+  pub clean_a : x.a ≡ unused → ⊥
+  pub clean_b : x.b ≡ unused → ⊥
+  pub clean_c : x.c ≡ unused → ⊥
 
 abbrev pub AllClean : ℕ → List Formula → Type 0
 AllClean unused [] = Unit
@@ -230,9 +230,9 @@ AllClean unused (x ∷ xs) = (3 < x.operation → Clean unused x) × AllClean un
 
 -- what holds of a record with operands: they are below the limit, and it has no constant
 pub record Bounded (limit : ℕ) (x : Formula) : Type 0 where
-  pub boundedA : x.a < limit
-  pub boundedB : x.b < limit
-  pub boundedC : x.c < limit
+  pub bounded_a : x.a < limit
+  pub bounded_b : x.b < limit
+  pub bounded_c : x.c < limit
   pub constantless : x.constant ≡ 0
 
 abbrev pub AllBounded : ℕ → List Formula → Type 0
@@ -245,7 +245,7 @@ module _ (f : ℕ → ℕ) (limit unused : ℕ) where
   Renamed x y = (x < limit) × ((x ≡ unused → ⊥) → y ≡ f x)
 
   bounded : (x y : Formula) → Alike Renamed x y → 3 < x.operation → Bounded limit x
-  bounded x y e h = let r = e.operands h in record { boundedA = r.0.0; boundedB = r.1.0; boundedC = r.2.0; constantless = e.noConstant h }
+  bounded x y e h = let r = e.operands h in record { bounded_a = r.0.0; bounded_b = r.1.0; bounded_c = r.2.0; constantless = e.no_constant h }
 
   pub all-bounded : (xs ys : List Formula) → AllAlike Renamed xs ys → AllBounded limit xs
   all-bounded [] ys e = tt
@@ -258,14 +258,14 @@ module _ (f : ℕ → ℕ) (limit unused : ℕ) where
     | yes h ↦
         let k = clean h in
         let r = e.operands h in
-        let p : y.a ≡ f x.a = r.0.1 k.cleanA in
-        let q : y.b ≡ f x.b = r.1.1 k.cleanB in
-        let s : y.c ≡ f x.c = r.2.1 k.cleanC in
-        (λ i. record { operation = e.sameOperation i; sort = e.sameSort i; constant = e.sameConstant i; a = p i; b = q i; c = s i })
+        let p : y.a ≡ f x.a = r.0.1 k.clean_a in
+        let q : y.b ≡ f x.b = r.1.1 k.clean_b in
+        let s : y.c ≡ f x.c = r.2.1 k.clean_c in
+        (λ i. record { operation = e.same_operation i; sort = e.same_sort i; constant = e.same_constant i; a = p i; b = q i; c = s i })
         ∙ sym (chosen _ _ (lt-ltb 3 x.operation h))
     | no h ↦
         let r = e.fields (omega arith) in
-        (λ i. record { operation = e.sameOperation i; sort = e.sameSort i; constant = e.sameConstant i; a = r.0 i; b = r.1 i; c = r.2 i })
+        (λ i. record { operation = e.same_operation i; sort = e.same_sort i; constant = e.same_constant i; a = r.0 i; b = r.1 i; c = r.2 i })
         ∙ sym (passed _ _ (le-ltb 3 x.operation (omega arith)))
   ]
 

@@ -9,12 +9,12 @@ use lib.Dec.{leb, ltb}
 use lib.ListN.{length, get_or}
 use borrow.Author.Tests.{leb-true, le-leb}
 use Rattle.base.proofs.Bytes.{word_bytes}
-use Rattle.base.proofs.Choice.{chosen, passed, and-true, and_left, and_right}
-use Rattle.table.specs.Repeats.{movedBy, repeated, repeatable, repeatedAt, lastIndex}
+use Rattle.base.proofs.Choice.{chosen, passed, and_true, and_left, and_right}
+use Rattle.table.specs.Repeats.{moved_by, repeated, repeatable, repeated_at, last_index}
 use Rattle.table.specs.declared.Formula.{Formula}
-use Rattle.table.specs.Formulas.{long, formulaBytes, writtenAt, longAt, formulaAt}
+use Rattle.table.specs.Formulas.{long, formula_bytes, written_at, long_at, formula_at}
 use Rattle.table.specs.Programs.{upto}
-use Rattle.table.proofs.Read.{written-before, read-record, read-long}
+use Rattle.table.proofs.Read.{written-before, read_record, read-long}
 use Rattle.table.proofs.Renamed.{renamed, Bounded, AllBounded}
 use Rattle.table.proofs.Sequences.{upto-first}
 use Rattle.table.proofs.Written.{written-++, written-length}
@@ -22,17 +22,17 @@ use Rattle.table.proofs.Written.{written-++, written-length}
 -- ---- one record
 
 module _ (first stride : ℕ) where
-  pub repeated-renamed : (x : Formula) → repeated first stride x ≡ renamed (movedBy first stride) x
+  pub repeated-renamed : (x : Formula) → repeated first stride x ≡ renamed (moved_by first stride) x
   unfolding repeated renamed
   repeated-renamed x = refl
 
-  pub all-repeated-renamed : (xs : List Formula) → map (repeated first stride) xs ≡ map (renamed (movedBy first stride)) xs
+  pub all-repeated-renamed : (xs : List Formula) → map (repeated first stride) xs ≡ map (renamed (moved_by first stride)) xs
   all-repeated-renamed [] = refl
   all-repeated-renamed (x ∷ xs) = λ i. repeated-renamed x i ∷ all-repeated-renamed xs i
 
 -- nothing moves by 0
-moved_nowhere : (first x : ℕ) → movedBy first 0 x ≡ x
-unfolding movedBy
+moved_nowhere : (first x : ℕ) → moved_by first 0 x ≡ x
+unfolding moved_by
 moved_nowhere first x = go (ltb x first)
   where
     go : (b : Bool) → cond b x (x + 0) ≡ x
@@ -40,22 +40,22 @@ moved_nowhere first x = go (ltb x first)
     go false = omega arith
 
 -- a record with every operand moved
-abbrev pub operandsMoved : (first stride : ℕ) → Formula → Formula
-operandsMoved first stride x = record {
+abbrev pub operands_moved : (first stride : ℕ) → Formula → Formula
+operands_moved first stride x = record {
   operation = x.operation;
   sort = x.sort;
   constant = x.constant;
-  a = movedBy first stride x.a;
-  b = movedBy first stride x.b;
-  c = movedBy first stride x.c;
+  a = moved_by first stride x.a;
+  b = moved_by first stride x.b;
+  c = moved_by first stride x.c;
 }
 
 -- a record without operands moves by 0
-pub moved-repeated : (first stride : ℕ) (x : Formula) → operandsMoved first (cond (ltb 3 x.operation) stride 0) x ≡ repeated first stride x
+pub moved-repeated : (first stride : ℕ) (x : Formula) → operands_moved first (cond (ltb 3 x.operation) stride 0) x ≡ repeated first stride x
 unfolding repeated
 moved-repeated first stride x = go (ltb 3 x.operation)
   where
-    go : (b : Bool) → operandsMoved first (cond b stride 0) x ≡ cond b (operandsMoved first stride x) x
+    go : (b : Bool) → operands_moved first (cond b stride 0) x ≡ cond b (operands_moved first stride x) x
     go true = refl
     go false = λ i. record {
       operation = x.operation;
@@ -70,44 +70,44 @@ moved-repeated first stride x = go (ltb 3 x.operation)
 word_low : (p q : ℕ) → p < 256 → p ≡ (p + 256 * q) % 256
 word_low p q h = omega arith
 
-word-high : (p q : ℕ) → p < 256 → q < 256 → q ≡ (p + 256 * q) / 256 % 256
-word-high p q h l =
+word_high : (p q : ℕ) → p < 256 → q < 256 → q ≡ (p + 256 * q) / 256 % 256
+word_high p q h l =
     let high : (p + 256 * q) / 256 ≡ q = omega arith in
     sym (ap (λ (x : ℕ). x % 256) high ∙ omega arith)
 
 -- the bytes of a record that repeats record n, from the four numbers of that record
 pub repeated-bytes : (first stride : ℕ) (bytes : List ℕ) (n head by a b c : ℕ) →
     ((rest : List ℕ) → long head rest ≡ get_or bytes (16 * n) 0 ∷ get_or bytes (16 * n + 1) 0 ∷ get_or bytes (16 * n + 2) 0 ∷ get_or bytes (16 * n + 3) 0 ∷ rest) →
-    by ≡ cond (ltb 3 (head % 256)) stride 0 → a ≡ movedBy first by (longAt bytes (16 * n + 4)) → b ≡ movedBy first by (longAt bytes (16 * n + 8)) →
-    c ≡ movedBy first by (longAt bytes (16 * n + 12)) → long head (long a (long b (long c []))) ≡ formulaBytes (repeated first stride (formulaAt bytes n))
-unfolding formulaBytes formulaAt
-repeated-bytes first stride bytes n head by a b c parts byIs aIs bIs cIs =
-    let x = formulaAt bytes n in
+    by ≡ cond (ltb 3 (head % 256)) stride 0 → a ≡ moved_by first by (long_at bytes (16 * n + 4)) → b ≡ moved_by first by (long_at bytes (16 * n + 8)) →
+    c ≡ moved_by first by (long_at bytes (16 * n + 12)) → long head (long a (long b (long c []))) ≡ formula_bytes (repeated first stride (formula_at bytes n))
+unfolding formula_bytes formula_at
+repeated-bytes first stride bytes n head by a b c parts by_is a_is b_is c_is =
+    let x = formula_at bytes n in
     let part : (k : ℕ) → get_or (long head []) k 0 ≡ get_or (get_or bytes (16 * n) 0 ∷ get_or bytes (16 * n + 1) 0 ∷ get_or bytes (16 * n + 2) 0 ∷ get_or bytes (16 * n + 3) 0 ∷ []) k 0 = λ k. ap (λ (l : List ℕ). get_or l k 0) (parts []) in
-    let distance : by ≡ cond (ltb 3 x.operation) stride 0 = byIs ∙ ap (λ (o : ℕ). cond (ltb 3 o) stride 0) (part 0) in
+    let distance : by ≡ cond (ltb 3 x.operation) stride 0 = by_is ∙ ap (λ (o : ℕ). cond (ltb 3 o) stride 0) (part 0) in
     let third : head / 65536 % 256 ≡ get_or bytes (16 * n + 2) 0 = part 2 in
     let fourth : head / 16777216 % 256 ≡ get_or bytes (16 * n + 3) 0 = part 3 in
     let next : get_or bytes (16 * n + 2 + 1) 0 ≡ get_or bytes (16 * n + 3) 0 = ap (λ (k : ℕ). get_or bytes k 0) (omega arith) in
     let p = get_or bytes (16 * n + 2) 0 in
     let q = get_or bytes (16 * n + 3) 0 in
     let low : p ≡ x.constant % 256 = word_low p q (omega arith) ∙ ap (λ (y : ℕ). (p + 256 * y) % 256) (sym next) in
-    let high : q ≡ x.constant / 256 % 256 = word-high p q (omega arith) (omega arith) ∙ ap (λ (y : ℕ). (p + 256 * y) / 256 % 256) (sym next) in
+    let high : q ≡ x.constant / 256 % 256 = word_high p q (omega arith) (omega arith) ∙ ap (λ (y : ℕ). (p + 256 * y) / 256 % 256) (sym next) in
     parts (long a (long b (long c [])))
     ∙ ((λ i. x.operation ∷ x.sort ∷ low i ∷ high i
-    ∷ long ((aIs ∙ ap (λ (d : ℕ). movedBy first d x.a) distance) i)
-    (long ((bIs ∙ ap (λ (d : ℕ). movedBy first d x.b) distance) i) (long ((cIs ∙ ap (λ (d : ℕ). movedBy first d x.c) distance) i) [])))
-    ∙ ap formulaBytes (moved-repeated first stride x))
+    ∷ long ((a_is ∙ ap (λ (d : ℕ). moved_by first d x.a) distance) i)
+    (long ((b_is ∙ ap (λ (d : ℕ). moved_by first d x.b) distance) i) (long ((c_is ∙ ap (λ (d : ℕ). moved_by first d x.c) distance) i) [])))
+    ∙ ap formula_bytes (moved-repeated first stride x))
 
 -- ---- records that are read
 
 module _ (xs ys : List ℕ) (limit : ℕ) (same : (k : ℕ) → k < limit → get_or xs k 0 ≡ get_or ys k 0) where
-  same-long : (i : ℕ) → i + 3 < limit → longAt xs i ≡ longAt ys i
+  same-long : (i : ℕ) → i + 3 < limit → long_at xs i ≡ long_at ys i
   same-long i h = λ z.
       same i (omega arith) z + 256 * same (i + 1) (omega arith) z + 65536 * same (i + 2) (omega arith) z + 16777216 * same (i + 3) (omega arith) z
 
-  same-record : (i : ℕ) → 16 * i + 15 < limit → formulaAt xs i ≡ formulaAt ys i
-  unfolding formulaAt
-  same-record i h = λ z. record {
+  same_record : (i : ℕ) → 16 * i + 15 < limit → formula_at xs i ≡ formula_at ys i
+  unfolding formula_at
+  same_record i h = λ z. record {
     operation = same (16 * i) (omega arith) z;
     sort = same (16 * i + 1) (omega arith) z;
     constant = same (16 * i + 2) (omega arith) z + 256 * same (16 * i + 2 + 1) (omega arith) z;
@@ -117,39 +117,39 @@ module _ (xs ys : List ℕ) (limit : ℕ) (same : (k : ℕ) → k < limit → ge
   }
 
 -- a record before those that are written
-pub record-before : (out : List ℕ) (n : ℕ) (table : List Formula) (i : ℕ) → i < n → formulaAt (writtenAt out n table) i ≡ formulaAt out i
-record-before out n table i h = same-record (writtenAt out n table) out (16 * n) (written-before out n table) i (omega arith)
+pub record_before : (out : List ℕ) (n : ℕ) (table : List Formula) (i : ℕ) → i < n → formula_at (written_at out n table) i ≡ formula_at out i
+record_before out n table i h = same_record (written_at out n table) out (16 * n) (written-before out n table) i (omega arith)
 
 -- the fields of a record fit into its bytes
 pub record InRange (x : Formula) : Type 0 where
-  pub constantFits : x.constant < 65536
-  pub fitsA : x.a < 4294967296
-  pub fitsB : x.b < 4294967296
-  pub fitsC : x.c < 4294967296
+  pub constant_fits : x.constant < 65536
+  pub fits_a : x.a < 4294967296
+  pub fits_b : x.b < 4294967296
+  pub fits_c : x.c < 4294967296
 
 abbrev pub AllInRange : List Formula → Type 0
 AllInRange [] = Unit
 AllInRange (x ∷ xs) = InRange x × AllInRange xs
 
-pub in-range-++ : (xs ys : List Formula) → AllInRange xs → AllInRange ys → AllInRange (xs ++ ys)
-in-range-++ [] ys r s = s
-in-range-++ (x ∷ xs) ys r s = (r.0, in-range-++ xs ys r.1 s)
+pub in_range-++ : (xs ys : List Formula) → AllInRange xs → AllInRange ys → AllInRange (xs ++ ys)
+in_range-++ [] ys r s = s
+in_range-++ (x ∷ xs) ys r s = (r.0, in_range-++ xs ys r.1 s)
 
 -- the records without operands are in range
 abbrev pub LeavesInRange : List Formula → Type 0
 LeavesInRange [] = Unit
 LeavesInRange (x ∷ xs) = (x.operation ≤ 3 → InRange x) × LeavesInRange xs
 
-bounded-in-range : (x : Formula) → Bounded 4294967296 x → InRange x
-bounded-in-range x b = let e = b.constantless in record { constantFits = omega arith; fitsA = b.boundedA; fitsB = b.boundedB; fitsC = b.boundedC }
+bounded_in_range : (x : Formula) → Bounded 4294967296 x → InRange x
+bounded_in_range x b = let e = b.constantless in record { constant_fits = omega arith; fits_a = b.bounded_a; fits_b = b.bounded_b; fits_c = b.bounded_c }
 
-pub all-in-range : (xs : List Formula) → AllBounded 4294967296 xs → LeavesInRange xs → AllInRange xs
-all-in-range [] b l = tt
-all-in-range (x ∷ xs) b l = (elim (dec_lt 3 x.operation) [ yes h ↦ bounded-in-range x (b.0 h) | no h ↦ l.0 (omega arith) ], all-in-range xs b.1 l.1)
+pub all_in_range : (xs : List Formula) → AllBounded 4294967296 xs → LeavesInRange xs → AllInRange xs
+all_in_range [] b l = tt
+all_in_range (x ∷ xs) b l = (elim (dec_lt 3 x.operation) [ yes h ↦ bounded_in_range x (b.0 h) | no h ↦ l.0 (omega arith) ], all_in_range xs b.1 l.1)
 
 module _ (none : Formula) (out : List ℕ) (n : ℕ) (table : List Formula) (fits : 16 * (n + length table) ≤ length out) (j : ℕ) (inside : j < length table) where
   abbrev bytes : List ℕ
-  bytes = writtenAt out n table
+  bytes = written_at out n table
 
   abbrev at : ℕ
   at = 16 * (n + j)
@@ -158,32 +158,32 @@ module _ (none : Formula) (out : List ℕ) (n : ℕ) (table : List Formula) (fit
   x = get_or table j none
 
   -- byte k of record j
-  byte : (m k : ℕ) → m ≡ at + k → k < 16 → get_or bytes m 0 ≡ get_or (formulaBytes x) k 0
-  byte m k e l = ap (λ (i : ℕ). get_or bytes i 0) e ∙ read-record none out n table j k fits inside l
+  byte : (m k : ℕ) → m ≡ at + k → k < 16 → get_or bytes m 0 ≡ get_or (formula_bytes x) k 0
+  byte m k e l = ap (λ (i : ℕ). get_or bytes i 0) e ∙ read_record none out n table j k fits inside l
 
   -- the operand whose four bytes are these
   operand : (i y : ℕ) (p : get_or bytes i 0 ≡ y % 256) (q : get_or bytes (i + 1) 0 ≡ y / 256 % 256) (r : get_or bytes (i + 2) 0 ≡ y / 65536 % 256)
-      (s : get_or bytes (i + 3) 0 ≡ y / 16777216 % 256) → y < 4294967296 → longAt bytes i ≡ y
+      (s : get_or bytes (i + 3) 0 ≡ y / 16777216 % 256) → y < 4294967296 → long_at bytes i ≡ y
   operand i y p q r s h = (λ z. p z + 256 * q z + 65536 * r z + 16777216 * s z) ∙ read-long y h
 
   -- a record that was written is read back
-  pub record-read : InRange x → formulaAt bytes (n + j) ≡ x
-  unfolding formulaAt formulaBytes
-  record-read r =
+  pub record_read : InRange x → formula_at bytes (n + j) ≡ x
+  unfolding formula_at formula_bytes
+  record_read r =
       let operation : get_or bytes at 0 ≡ x.operation = byte at 0 (omega arith) (omega arith) in
       let sort : get_or bytes (at + 1) 0 ≡ x.sort = byte (at + 1) 1 refl (omega arith) in
       let low : get_or bytes (at + 2) 0 ≡ x.constant % 256 = byte (at + 2) 2 refl (omega arith) in
       let high : get_or bytes (at + 2 + 1) 0 ≡ x.constant / 256 % 256 = byte (at + 2 + 1) 3 (omega arith) (omega arith) in
-      let constant = (λ z. low z + 256 * high z) ∙ word_bytes x.constant r.constantFits in
-      let a : longAt bytes (at + 4) ≡ x.a = operand (at + 4) x.a (byte (at + 4) 4 refl (omega arith)) (byte (at + 4 + 1) 5 (omega arith) (omega arith)) (byte (at + 4 + 2) 6 (omega arith) (omega arith)) (byte (at + 4 + 3) 7 (omega arith) (omega arith)) r.fitsA in
-      let b : longAt bytes (at + 8) ≡ x.b = operand (at + 8) x.b (byte (at + 8) 8 refl (omega arith)) (byte (at + 8 + 1) 9 (omega arith) (omega arith)) (byte (at + 8 + 2) 10 (omega arith) (omega arith)) (byte (at + 8 + 3) 11 (omega arith) (omega arith)) r.fitsB in
-      let c : longAt bytes (at + 12) ≡ x.c = operand (at + 12) x.c (byte (at + 12) 12 refl (omega arith)) (byte (at + 12 + 1) 13 (omega arith) (omega arith)) (byte (at + 12 + 2) 14 (omega arith) (omega arith)) (byte (at + 12 + 3) 15 (omega arith) (omega arith)) r.fitsC in
+      let constant = (λ z. low z + 256 * high z) ∙ word_bytes x.constant r.constant_fits in
+      let a : long_at bytes (at + 4) ≡ x.a = operand (at + 4) x.a (byte (at + 4) 4 refl (omega arith)) (byte (at + 4 + 1) 5 (omega arith) (omega arith)) (byte (at + 4 + 2) 6 (omega arith) (omega arith)) (byte (at + 4 + 3) 7 (omega arith) (omega arith)) r.fits_a in
+      let b : long_at bytes (at + 8) ≡ x.b = operand (at + 8) x.b (byte (at + 8) 8 refl (omega arith)) (byte (at + 8 + 1) 9 (omega arith) (omega arith)) (byte (at + 8 + 2) 10 (omega arith) (omega arith)) (byte (at + 8 + 3) 11 (omega arith) (omega arith)) r.fits_b in
+      let c : long_at bytes (at + 12) ≡ x.c = operand (at + 12) x.c (byte (at + 12) 12 refl (omega arith)) (byte (at + 12 + 1) 13 (omega arith) (omega arith)) (byte (at + 12 + 2) 14 (omega arith) (omega arith)) (byte (at + 12 + 3) 15 (omega arith) (omega arith)) r.fits_c in
       λ z. record { operation = operation z; sort = sort z; constant = constant z; a = a z; b = b z; c = c z }
 
 -- ---- what the code writes
 
 module _ (size at count stride : ℕ) where
-  pub repeatable-room : repeatable size at count stride ≡ true → (count ≤ stride) × (stride ≤ at) × (at + count ≤ lastIndex) × (16 * (at + count) ≤ size)
+  pub repeatable-room : repeatable size at count stride ≡ true → (count ≤ stride) × (stride ≤ at) × (at + count ≤ last_index) × (16 * (at + count) ≤ size)
   repeatable-room e =
       let three = and_left (leb count stride && leb stride at && leb (at + count) 2000000000) (leb (16 * (at + count)) size) e in
       let two = and_left (leb count stride && leb stride at) (leb (at + count) 2000000000) three in (
@@ -193,19 +193,19 @@ module _ (size at count stride : ℕ) where
         leb-true (16 * (at + count)) size (and_right (leb count stride && leb stride at && leb (at + count) 2000000000) (leb (16 * (at + count)) size) e),
       )
 
-  pub room-repeatable : count ≤ stride → stride ≤ at → at + count ≤ lastIndex → 16 * (at + count) ≤ size → repeatable size at count stride ≡ true
-  room-repeatable p q r s = and-true (and-true (and-true (le-leb _ _ p) (le-leb _ _ q)) (le-leb _ _ r)) (le-leb _ _ s)
+  pub room-repeatable : count ≤ stride → stride ≤ at → at + count ≤ last_index → 16 * (at + count) ≤ size → repeatable size at count stride ≡ true
+  room-repeatable p q r s = and_true (and_true (and_true (le-leb _ _ p) (le-leb _ _ q)) (le-leb _ _ r)) (le-leb _ _ s)
 
 module _ (out : List ℕ) (at count first stride : ℕ) where
   -- where there is room the records are repeated
-  pub repeats : count ≤ stride → stride ≤ at → at + count ≤ lastIndex → 16 * (at + count) ≤ length out →
-      repeatedAt out at count first stride ≡ writtenAt out at (upto (λ j. repeated first stride (formulaAt out (at - stride + j)) ∷ []) count)
-  unfolding repeatedAt
+  pub repeats : count ≤ stride → stride ≤ at → at + count ≤ last_index → 16 * (at + count) ≤ length out →
+      repeated_at out at count first stride ≡ written_at out at (upto (λ j. repeated first stride (formula_at out (at - stride + j)) ∷ []) count)
+  unfolding repeated_at
   repeats p q r s = chosen _ _ (room-repeatable (length out) at count stride p q r s)
 
   -- elsewhere nothing is written
-  pub repeats-nothing : repeatable (length out) at count stride ≡ false → repeatedAt out at count first stride ≡ out
-  unfolding repeatedAt
+  pub repeats-nothing : repeatable (length out) at count stride ≡ false → repeated_at out at count first stride ≡ out
+  unfolding repeated_at
   repeats-nothing e = passed _ _ e
 
 -- ---- a part of a table
@@ -214,10 +214,10 @@ module _ (out : List ℕ) (at count first stride : ℕ) where
 blank : Formula
 blank = record { operation = 0; sort = 0; constant = 0; a = 0; b = 0; c = 0 }
 
-in-range-at : (none : Formula) (xs : List Formula) (j : ℕ) → AllInRange xs → j < length xs → InRange (get_or xs j none)
-in-range-at none [] j r h = absurd (omega arith)
-in-range-at none (x ∷ xs) zero r h = r.0
-in-range-at none (x ∷ xs) (suc j) r h = in-range-at none xs j r.1 (omega arith)
+in_range-at : (none : Formula) (xs : List Formula) (j : ℕ) → AllInRange xs → j < length xs → InRange (get_or xs j none)
+in_range-at none [] j r h = absurd (omega arith)
+in_range-at none (x ∷ xs) zero r h = r.0
+in_range-at none (x ∷ xs) (suc j) r h = in_range-at none xs j r.1 (omega arith)
 
 -- what is given by the number of a record, for each record
 upto-map : (none : Formula) (g : ℕ → Formula) (h : Formula → Formula) (xs : List Formula) → ((j : ℕ) → j < length xs → g j ≡ h (get_or xs j none)) →
@@ -230,32 +230,32 @@ upto-map none g h (x ∷ xs) e =
 
 -- the bytes of a table from record n on, whose records from number e on are `part`; other records may stand after these
 module _ (start out : List ℕ) (n e : ℕ) (before part after : List Formula)
-    (written : out ≡ writtenAt start n (before ++ (part ++ after))) (from : e ≡ n + length before)
+    (written : out ≡ written_at start n (before ++ (part ++ after))) (from : e ≡ n + length before)
     (fits : 16 * (e + length part) ≤ length start) (range : AllInRange part) where
-  cut : out ≡ writtenAt (writtenAt (writtenAt start n before) e part) (e + length part) after
+  cut : out ≡ written_at (written_at (written_at start n before) e part) (e + length part) after
   cut =
       written
       ∙ (written-++ start n before (part ++ after)
-      ∙ (ap (λ (m : ℕ). writtenAt (writtenAt start n before) m (part ++ after)) (sym from)
-      ∙ written-++ (writtenAt start n before) e part after))
+      ∙ (ap (λ (m : ℕ). written_at (written_at start n before) m (part ++ after)) (sym from)
+      ∙ written-++ (written_at start n before) e part after))
 
-  pub part-read : (none : Formula) (j : ℕ) → j < length part → formulaAt out (e + j) ≡ get_or part j none
+  pub part-read : (none : Formula) (j : ℕ) → j < length part → formula_at out (e + j) ≡ get_or part j none
   part-read none j h =
       let kept = written-length start n before in
-      ap (λ (l : List ℕ). formulaAt l (e + j)) cut
-      ∙ (record-before (writtenAt (writtenAt start n before) e part) (e + length part) after (e + j) (omega arith)
-      ∙ record-read none (writtenAt start n before) e part (omega arith) j h (in-range-at none part j range h))
+      ap (λ (l : List ℕ). formula_at l (e + j)) cut
+      ∙ (record_before (written_at (written_at start n before) e part) (e + length part) after (e + j) (omega arith)
+      ∙ record_read none (written_at start n before) e part (omega arith) j h (in_range-at none part j range h))
 
-  pub part-repeated : (first stride : ℕ) → upto (λ j. repeated first stride (formulaAt out (e + j)) ∷ []) (length part) ≡ map (repeated first stride) part
+  pub part-repeated : (first stride : ℕ) → upto (λ j. repeated first stride (formula_at out (e + j)) ∷ []) (length part) ≡ map (repeated first stride) part
   part-repeated first stride =
-      upto-map blank (λ j. repeated first stride (formulaAt out (e + j))) (repeated first stride) part (λ j h. ap (repeated first stride) (part-read blank j h))
+      upto-map blank (λ j. repeated first stride (formula_at out (e + j))) (repeated first stride) part (λ j h. ap (repeated first stride) (part-read blank j h))
 
   -- what the code writes where the part lies `stride` before record `at`
-  pub part-written : (at first stride : ℕ) → at ≡ e + stride → length part ≤ stride → at + length part ≤ lastIndex → 16 * (at + length part) ≤ length start →
-      repeatedAt out at (length part) first stride ≡ writtenAt out at (map (repeated first stride) part)
+  pub part-written : (at first stride : ℕ) → at ≡ e + stride → length part ≤ stride → at + length part ≤ last_index → 16 * (at + length part) ≤ length start →
+      repeated_at out at (length part) first stride ≡ written_at out at (map (repeated first stride) part)
   part-written at first stride place p q room =
       let kept = ap length written ∙ written-length start n (before ++ (part ++ after)) in
       let here : at - stride ≡ e = omega arith in
       repeats out at (length part) first stride p (omega arith) q (omega arith)
-      ∙ ap (writtenAt out at)
-      (ap (λ (m : ℕ). upto (λ j. repeated first stride (formulaAt out (m + j)) ∷ []) (length part)) here ∙ part-repeated first stride)
+      ∙ ap (written_at out at)
+      (ap (λ (m : ℕ). upto (λ j. repeated first stride (formula_at out (m + j)) ∷ []) (length part)) here ∙ part-repeated first stride)

@@ -3,16 +3,16 @@
 use Rattle.std.specs.Prelude.{ℕ, zero, suc, Bool, true, not, cond, ◌&&◌, ◌||◌, List, [], ◌∷◌, ◌++◌, eqb}
 use Rattle.base.specs.Words.{plus, minus, times, top_bit}
 use Rattle.table.specs.declared.Formula.{Formula}
-use Rattle.table.specs.Formulas.{noSort, bitSort, wordSort, memorySort, CHOICE, FIRST, CONSTANT, NOT, AND, OR, EQUAL, IF, PLUS, MINUS, TIMES, READ, WRITE, TOP, CONSTRAINT, GOAL}
-use Rattle.table.specs.Values.{Assignment, Value, bit, word, memory, as_bit, asWord, asMemory, memoryWith}
+use Rattle.table.specs.Formulas.{no_sort, bit_sort, word_sort, memory_sort, CHOICE, FIRST, CONSTANT, NOT, AND, OR, EQUAL, IF, PLUS, MINUS, TIMES, READ, WRITE, TOP, CONSTRAINT, GOAL}
+use Rattle.table.specs.Values.{Assignment, Value, bit, word, memory, as_bit, as_word, as_memory, memory_with}
 
 -- ---- operations by their number of operands
 
 pub data Leaf : Type 0 where
-  choiceBit : (step kind thread : ℕ) → Leaf
-  firstMemory : Leaf
-  constantBit : Bool → Leaf
-  constantWord : ℕ → Leaf
+  choice_bit : (step kind thread : ℕ) → Leaf
+  first_memory : Leaf
+  constant_bit : Bool → Leaf
+  constant_word : ℕ → Leaf
 
 pub data Unary : Type 0 where
   not1 top1 : Unary
@@ -27,81 +27,81 @@ pub data Ternary : Type 0 where
 
 -- ---- their values
 
-abbrev pub leafValue : Assignment → Leaf → Value
-leafValue g (choiceBit step kind thread) = bit (g.choice step kind thread)
-leafValue g firstMemory = memory g.first
-leafValue g (constantBit b) = bit b
-leafValue g (constantWord w) = word w
+abbrev pub leaf_value : Assignment → Leaf → Value
+leaf_value g (choice_bit step kind thread) = bit (g.choice step kind thread)
+leaf_value g first_memory = memory g.first
+leaf_value g (constant_bit b) = bit b
+leaf_value g (constant_word w) = word w
 
-abbrev pub unaryValue : Unary → Value → Value
-unaryValue not1 a = bit (not (as_bit a))
-unaryValue top1 a = bit (top_bit (asWord a))
+abbrev pub unary_value : Unary → Value → Value
+unary_value not1 a = bit (not (as_bit a))
+unary_value top1 a = bit (top_bit (as_word a))
 
-abbrev pub binaryValue : Binary → Value → Value → Value
-binaryValue and2 a b = bit (as_bit a && as_bit b)
-binaryValue or2 a b = bit (as_bit a || as_bit b)
-binaryValue equal2 a b = bit (eqb (asWord a) (asWord b))
-binaryValue plus2 a b = word (plus (asWord a) (asWord b))
-binaryValue minus2 a b = word (minus (asWord a) (asWord b))
-binaryValue times2 a b = word (times (asWord a) (asWord b))
-binaryValue read2 a b = word (asMemory a (asWord b))
+abbrev pub binary_value : Binary → Value → Value → Value
+binary_value and2 a b = bit (as_bit a && as_bit b)
+binary_value or2 a b = bit (as_bit a || as_bit b)
+binary_value equal2 a b = bit (eqb (as_word a) (as_word b))
+binary_value plus2 a b = word (plus (as_word a) (as_word b))
+binary_value minus2 a b = word (minus (as_word a) (as_word b))
+binary_value times2 a b = word (times (as_word a) (as_word b))
+binary_value read2 a b = word (as_memory a (as_word b))
 
-abbrev pub ternaryValue : Ternary → Value → Value → Value → Value
-ternaryValue (if3 sort) a b c = cond (as_bit a) b c
-ternaryValue write3 a b c = memory (memoryWith (asMemory a) (asWord b) (asWord c))
+abbrev pub ternary_value : Ternary → Value → Value → Value → Value
+ternary_value (if3 sort) a b c = cond (as_bit a) b c
+ternary_value write3 a b c = memory (memory_with (as_memory a) (as_word b) (as_word c))
 
 -- ---- their records
 
-abbrev pub leafFormula : Leaf → Formula
-leafFormula (choiceBit step kind thread) = record { operation = CHOICE; sort = bitSort; constant = 0; a = step; b = kind; c = thread }
-leafFormula firstMemory = record { operation = FIRST; sort = memorySort; constant = 0; a = 0; b = 0; c = 0 }
-leafFormula (constantBit v) = record { operation = CONSTANT; sort = bitSort; constant = cond v 1 0; a = 0; b = 0; c = 0 }
-leafFormula (constantWord w) = record { operation = CONSTANT; sort = wordSort; constant = w; a = 0; b = 0; c = 0 }
+abbrev pub leaf_formula : Leaf → Formula
+leaf_formula (choice_bit step kind thread) = record { operation = CHOICE; sort = bit_sort; constant = 0; a = step; b = kind; c = thread }
+leaf_formula first_memory = record { operation = FIRST; sort = memory_sort; constant = 0; a = 0; b = 0; c = 0 }
+leaf_formula (constant_bit v) = record { operation = CONSTANT; sort = bit_sort; constant = cond v 1 0; a = 0; b = 0; c = 0 }
+leaf_formula (constant_word w) = record { operation = CONSTANT; sort = word_sort; constant = w; a = 0; b = 0; c = 0 }
 
-abbrev pub unaryNumber : Unary → ℕ
-unaryNumber not1 = NOT
-unaryNumber top1 = TOP
+abbrev pub unary_number : Unary → ℕ
+unary_number not1 = NOT
+unary_number top1 = TOP
 
-abbrev pub binaryNumber : Binary → ℕ
-binaryNumber and2 = AND
-binaryNumber or2 = OR
-binaryNumber equal2 = EQUAL
-binaryNumber plus2 = PLUS
-binaryNumber minus2 = MINUS
-binaryNumber times2 = TIMES
-binaryNumber read2 = READ
+abbrev pub binary_number : Binary → ℕ
+binary_number and2 = AND
+binary_number or2 = OR
+binary_number equal2 = EQUAL
+binary_number plus2 = PLUS
+binary_number minus2 = MINUS
+binary_number times2 = TIMES
+binary_number read2 = READ
 
-abbrev pub binarySort : Binary → ℕ
-binarySort and2 = bitSort
-binarySort or2 = bitSort
-binarySort equal2 = bitSort
-binarySort plus2 = wordSort
-binarySort minus2 = wordSort
-binarySort times2 = wordSort
-binarySort read2 = wordSort
+abbrev pub binary_sort : Binary → ℕ
+binary_sort and2 = bit_sort
+binary_sort or2 = bit_sort
+binary_sort equal2 = bit_sort
+binary_sort plus2 = word_sort
+binary_sort minus2 = word_sort
+binary_sort times2 = word_sort
+binary_sort read2 = word_sort
 
-abbrev pub ternaryNumber : Ternary → ℕ
-ternaryNumber (if3 sort) = IF
-ternaryNumber write3 = WRITE
+abbrev pub ternary_number : Ternary → ℕ
+ternary_number (if3 sort) = IF
+ternary_number write3 = WRITE
 
-abbrev pub ternarySort : Ternary → ℕ
-ternarySort (if3 sort) = sort
-ternarySort write3 = memorySort
+abbrev pub ternary_sort : Ternary → ℕ
+ternary_sort (if3 sort) = sort
+ternary_sort write3 = memory_sort
 
-abbrev pub unaryFormula : Unary → ℕ → Formula
-unaryFormula o x = record { operation = unaryNumber o; sort = bitSort; constant = 0; a = x; b = 0; c = 0 }
+abbrev pub unary_formula : Unary → ℕ → Formula
+unary_formula o x = record { operation = unary_number o; sort = bit_sort; constant = 0; a = x; b = 0; c = 0 }
 
-abbrev pub binaryFormula : Binary → ℕ → ℕ → Formula
-binaryFormula o x y = record { operation = binaryNumber o; sort = binarySort o; constant = 0; a = x; b = y; c = 0 }
+abbrev pub binary_formula : Binary → ℕ → ℕ → Formula
+binary_formula o x y = record { operation = binary_number o; sort = binary_sort o; constant = 0; a = x; b = y; c = 0 }
 
-abbrev pub ternaryFormula : Ternary → ℕ → ℕ → ℕ → Formula
-ternaryFormula o x y z = record { operation = ternaryNumber o; sort = ternarySort o; constant = 0; a = x; b = y; c = z }
+abbrev pub ternary_formula : Ternary → ℕ → ℕ → ℕ → Formula
+ternary_formula o x y z = record { operation = ternary_number o; sort = ternary_sort o; constant = 0; a = x; b = y; c = z }
 
 abbrev pub constraint : ℕ → Formula
-constraint x = record { operation = CONSTRAINT; sort = noSort; constant = 0; a = x; b = 0; c = 0 }
+constraint x = record { operation = CONSTRAINT; sort = no_sort; constant = 0; a = x; b = 0; c = 0 }
 
 abbrev pub goal : ℕ → Formula
-goal x = record { operation = GOAL; sort = noSort; constant = 0; a = x; b = 0; c = 0 }
+goal x = record { operation = GOAL; sort = no_sort; constant = 0; a = x; b = 0; c = 0 }
 
 -- ---- trees
 
@@ -115,12 +115,12 @@ pub data Tree (Slot : Type 0) : Type 0 where
 
 module _ {Slot : Type 0} where
   -- a tree's value where the slots have these
-  abbrev pub treeValue : Assignment → (Slot → Value) → Tree Slot → Value
-  treeValue g slots (ref s) = slots s
-  treeValue g slots (leaf x) = leafValue g x
-  treeValue g slots (unary o a) = unaryValue o (treeValue g slots a)
-  treeValue g slots (binary o a b) = binaryValue o (treeValue g slots a) (treeValue g slots b)
-  treeValue g slots (ternary o a b c) = ternaryValue o (treeValue g slots a) (treeValue g slots b) (treeValue g slots c)
+  abbrev pub tree_value : Assignment → (Slot → Value) → Tree Slot → Value
+  tree_value g slots (ref s) = slots s
+  tree_value g slots (leaf x) = leaf_value g x
+  tree_value g slots (unary o a) = unary_value o (tree_value g slots a)
+  tree_value g slots (binary o a b) = binary_value o (tree_value g slots a) (tree_value g slots b)
+  tree_value g slots (ternary o a b c) = ternary_value o (tree_value g slots a) (tree_value g slots b) (tree_value g slots c)
 
   -- the next free index after a tree whose first record is number n
   unfoldable pub next : ℕ → Tree Slot → ℕ
@@ -143,14 +143,14 @@ module _ {Slot : Type 0} where
   unfoldable pub records : (Slot → ℕ) → ℕ → Tree Slot → List Formula → List Formula
   unfolding next root
   records places n (ref s) rest = rest
-  records places n (leaf x) rest = leafFormula x ∷ rest
-  records places n (unary o a) rest = records places n a (unaryFormula o (root places n a) ∷ rest)
+  records places n (leaf x) rest = leaf_formula x ∷ rest
+  records places n (unary o a) rest = records places n a (unary_formula o (root places n a) ∷ rest)
   records places n (binary o a b) rest =
       records places n a (records places (next n a) b
-      (binaryFormula o (root places n a) (root places (next n a) b) ∷ rest))
+      (binary_formula o (root places n a) (root places (next n a) b) ∷ rest))
   records places n (ternary o a b c) rest =
       records places n a (records places (next n a) b (records places (next (next n a) b) c
-      (ternaryFormula o (root places n a) (root places (next n a) b) (root places (next (next n a) b) c) ∷ rest)))
+      (ternary_formula o (root places n a) (root places (next n a) b) (root places (next (next n a) b) c) ∷ rest)))
 
 -- ---- programs
 
@@ -171,18 +171,18 @@ put same f s v x = cond (same x s) v (f x)
 
 module _ {Slot : Type 0} (same : Slot → Slot → Bool) where
   -- the next free index after a program
-  unfoldable pub nextAfter : ℕ → List (Command Slot) → ℕ
-  nextAfter n [] = n
-  nextAfter n (sets s t ∷ program) = nextAfter (next n t) program
-  nextAfter n (needs t ∷ program) = nextAfter (suc (next n t)) program
-  nextAfter n (aims t ∷ program) = nextAfter (suc (next n t)) program
+  unfoldable pub next_after : ℕ → List (Command Slot) → ℕ
+  next_after n [] = n
+  next_after n (sets s t ∷ program) = next_after (next n t) program
+  next_after n (needs t ∷ program) = next_after (suc (next n t)) program
+  next_after n (aims t ∷ program) = next_after (suc (next n t)) program
 
   -- where the slots lie after it
-  unfoldable pub placesAfter : (Slot → ℕ) → ℕ → List (Command Slot) → Slot → ℕ
-  placesAfter places n [] = places
-  placesAfter places n (sets s t ∷ program) = placesAfter (put same places s (root places n t)) (next n t) program
-  placesAfter places n (needs t ∷ program) = placesAfter places (suc (next n t)) program
-  placesAfter places n (aims t ∷ program) = placesAfter places (suc (next n t)) program
+  unfoldable pub places_after : (Slot → ℕ) → ℕ → List (Command Slot) → Slot → ℕ
+  places_after places n [] = places
+  places_after places n (sets s t ∷ program) = places_after (put same places s (root places n t)) (next n t) program
+  places_after places n (needs t ∷ program) = places_after places (suc (next n t)) program
+  places_after places n (aims t ∷ program) = places_after places (suc (next n t)) program
 
   -- its records, from a layout and the next free index on
   unfoldable pub compiled : (Slot → ℕ) → ℕ → List (Command Slot) → List Formula
@@ -192,14 +192,14 @@ module _ {Slot : Type 0} (same : Slot → Slot → Bool) where
   compiled places n (aims t ∷ program) = records places n t (goal (root places n t) ∷ compiled places (suc (next n t)) program)
 
   -- what it means: the slots' values after it, and whether every tree that must be 1 is 1
-  unfoldable pub valuesAfter : Assignment → (Slot → Value) → List (Command Slot) → Slot → Value
-  valuesAfter g slots [] = slots
-  valuesAfter g slots (sets s t ∷ program) = valuesAfter g (put same slots s (treeValue g slots t)) program
-  valuesAfter g slots (needs t ∷ program) = valuesAfter g slots program
-  valuesAfter g slots (aims t ∷ program) = valuesAfter g slots program
+  unfoldable pub values_after : Assignment → (Slot → Value) → List (Command Slot) → Slot → Value
+  values_after g slots [] = slots
+  values_after g slots (sets s t ∷ program) = values_after g (put same slots s (tree_value g slots t)) program
+  values_after g slots (needs t ∷ program) = values_after g slots program
+  values_after g slots (aims t ∷ program) = values_after g slots program
 
-  unfoldable pub programHolds : Assignment → (Slot → Value) → List (Command Slot) → Bool
-  programHolds g slots [] = true
-  programHolds g slots (sets s t ∷ program) = programHolds g (put same slots s (treeValue g slots t)) program
-  programHolds g slots (needs t ∷ program) = as_bit (treeValue g slots t) && programHolds g slots program
-  programHolds g slots (aims t ∷ program) = as_bit (treeValue g slots t) && programHolds g slots program
+  unfoldable pub program_holds : Assignment → (Slot → Value) → List (Command Slot) → Bool
+  program_holds g slots [] = true
+  program_holds g slots (sets s t ∷ program) = program_holds g (put same slots s (tree_value g slots t)) program
+  program_holds g slots (needs t ∷ program) = as_bit (tree_value g slots t) && program_holds g slots program
+  program_holds g slots (aims t ∷ program) = as_bit (tree_value g slots t) && program_holds g slots program

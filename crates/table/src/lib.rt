@@ -1,7 +1,7 @@
 // Formula records: one record's 16 bytes, written at its place in a table.
 ghost use Rattle.std.specs.Prelude.{◌≡◌, [], ◌*◌};
 ghost use Rattle.base.specs.Bytes.{placed};
-ghost use Rattle.table.specs.Formulas.{long as longBytes, formulaBytes, formulaLength};
+ghost use Rattle.table.specs.Formulas.{long as long_bytes, formula_bytes, formula_length};
 
 pub mod operations;
 pub mod repeats;
@@ -27,7 +27,7 @@ impl Formula {
 
 // Writes record n as four numbers, if it fits there: operation, sort and constant as one, and the operands.
 fn put_longs(out: &mut [u8], n: u32, head: u32, a: u64, b: u64, c: u64)
-    ensures { out.new ≡ placed out.old (formulaLength * n) (longBytes head (longBytes a (longBytes b (longBytes c [])))) }
+    ensures { out.new ≡ placed out.old (formula_length * n) (long_bytes head (long_bytes a (long_bytes b (long_bytes c [])))) }
 {
     let bytes: [u8; Formula::BYTES] = [
         (head % 256) as u8,
@@ -55,7 +55,7 @@ fn put_longs(out: &mut [u8], n: u32, head: u32, a: u64, b: u64, c: u64)
 
 // Writes record n of a table, if it fits there.
 pub fn put(out: &mut [u8], n: u32, formula: Formula)
-    ensures { out.new ≡ placed out.old (formulaLength * n) (formulaBytes formula) }
+    ensures { out.new ≡ placed out.old (formula_length * n) (formula_bytes formula) }
 {
     let head = (formula.operation as u32)
         + 256 * (formula.sort as u32)

@@ -1,8 +1,8 @@
 // Records that repeat earlier ones of the same table, with their operands moved on.
 ghost use Rattle.std.specs.Prelude.{◌≡◌, cond, List, ◌∷◌, ℕ, ◌+◌, ◌*◌, ◌≤◌, ◌<◌, ltb, length, get_or};
 ghost use Rattle.base.specs.Bytes.{placed};
-ghost use Rattle.table.specs.Formulas.{long as longBytes, longAt, formulaAt, formulaBytes, formulaLength};
-ghost use Rattle.table.specs.Repeats.{movedBy, repeated, repeatable, repeatedAt};
+ghost use Rattle.table.specs.Formulas.{long as long_bytes, long_at, formula_at, formula_bytes, formula_length};
+ghost use Rattle.table.specs.Repeats.{moved_by, repeated, repeatable, repeated_at};
 
 use crate::operations::CONSTANT;
 use crate::{Formula, put_longs};
@@ -13,7 +13,7 @@ const BYTES: u64 = Formula::BYTES as u64;
 
 // The number of four bytes, low byte first.
 fn long(a: u8, b: u8, c: u8, d: u8) -> u32
-    ensures { (result ≡ a + 256 * b + 65536 * c + 16777216 * d) × ((rest : List ℕ) → longBytes result rest ≡ a ∷ b ∷ c ∷ d ∷ rest) }
+    ensures { (result ≡ a + 256 * b + 65536 * c + 16777216 * d) × ((rest : List ℕ) → long_bytes result rest ≡ a ∷ b ∷ c ∷ d ∷ rest) }
 {
     (a as u32) + 256 * (b as u32) + 65536 * (c as u32) + 16777216 * (d as u32)
 }
@@ -21,15 +21,15 @@ fn long(a: u8, b: u8, c: u8, d: u8) -> u32
 // The index whose four bytes stand from index i on.
 fn long_at(bytes: &[u8], i: usize) -> u32
     requires { i + 3 < length bytes.now }
-    ensures { (result ≡ longAt bytes.now i)
-        × ((rest : List ℕ) → longBytes result rest ≡ get_or bytes.now i 0 ∷ get_or bytes.now (i + 1) 0 ∷ get_or bytes.now (i + 2) 0 ∷ get_or bytes.now (i + 3) 0 ∷ rest) }
+    ensures { (result ≡ long_at bytes.now i)
+        × ((rest : List ℕ) → long_bytes result rest ≡ get_or bytes.now i 0 ∷ get_or bytes.now (i + 1) 0 ∷ get_or bytes.now (i + 2) 0 ∷ get_or bytes.now (i + 3) 0 ∷ rest) }
 {
     long(bytes[i], bytes[i + 1], bytes[i + 2], bytes[i + 3])
 }
 
 // Where operand x lies in the repeating record.
 fn moved(first: u32, stride: u32, x: u32) -> u64
-    ensures { result ≡ movedBy first stride x }
+    ensures { result ≡ moved_by first stride x }
 {
     if x < first {
         return x as u64;
@@ -49,8 +49,8 @@ fn distance(operation: u8, stride: u32) -> u32
 
 // Writes record n, which repeats record `from` with its operands moved: by 0 where it has none, so that no branch has to be guessed.
 fn repeat_record(out: &mut [u8], from: u32, n: u32, first: u32, stride: u32)
-    requires { formulaLength * from + 16 ≤ length out.old }
-    ensures { out.new ≡ placed out.old (formulaLength * n) (formulaBytes (repeated first stride (formulaAt out.old from))) }
+    requires { formula_length * from + 16 ≤ length out.old }
+    ensures { out.new ≡ placed out.old (formula_length * n) (formula_bytes (repeated first stride (formula_at out.old from))) }
 {
     let i = Formula::BYTES * (from as usize);
     let head = long_at(out, i);
@@ -71,7 +71,7 @@ fn can_repeat(size: usize, at: u32, count: u32, stride: u32) -> bool
 
 // Writes `count` records from record `at` on, each repeating the one `stride` before it; nothing where that cannot be.
 pub fn repeat(out: &mut [u8], at: u32, count: u32, first: u32, stride: u32)
-    ensures { out.new ≡ repeatedAt out.old at count first stride }
+    ensures { out.new ≡ repeated_at out.old at count first stride }
 {
     if !can_repeat(out.len(), at, count, stride) {
         return;

@@ -11,19 +11,19 @@ use lib.Dec.{ltb, leb}
 use borrow.Author.Tests.{ltb-true, ltb-false, leb-true, lt-ltb, le-leb}
 use Rattle.base.specs.Below.{every, some, number, least}
 use Rattle.base.proofs.Below.{number_more, number_same, number-below, number-none}
-use Rattle.base.proofs.Choice.{chosen, and-true, and_left, and_right, refuted, clash}
+use Rattle.base.proofs.Choice.{chosen, and_true, and_left, and_right, refuted, clash}
 
 -- what holds on either side of a test
-pub cond-where : {A : Type 0} (P : A → Type 0) (b : Bool) {x y : A} → (b ≡ true → P x) → (b ≡ false → P y) → P (cond b x y)
-cond-where P true f g = f refl
-cond-where P false f g = g refl
+pub cond_where : {A : Type 0} (P : A → Type 0) (b : Bool) {x y : A} → (b ≡ true → P x) → (b ≡ false → P y) → P (cond b x y)
+cond_where P true f g = f refl
+cond_where P false f g = g refl
 
 -- two bounds as one test
 pub between : (low n high : ℕ) → (ltb low n && leb n high) ≡ true ↔ ((low < n) × (n ≤ high))
 between low n high =
     let above = ltb low n in
     let below = leb n high in
-    (λ e. (ltb-true low n (and_left above below e), leb-true n high (and_right above below e)), λ h. and-true (lt-ltb low n h.0) (le-leb n high h.1))
+    (λ e. (ltb-true low n (and_left above below e), leb-true n high (and_right above below e)), λ h. and_true (lt-ltb low n h.0) (le-leb n high h.1))
 
 module _ (test : ℕ → Bool) where
   -- some test fails where not every one passes

@@ -9,11 +9,11 @@ use lib.Dec.{eqb}
 use lib.ListN.{length}
 use borrow.Author.Tests.{eq-eqb, ne_eqb}
 use Rattle.base.proofs.Choice.{chosen, passed, cond_both}
-use Rattle.text_lines.specs.Lines.{isDot, statementLine, mapLine}
+use Rattle.text_lines.specs.Lines.{is_dot, statement_line, map_line}
 use Rattle.text_lines.specs.declared.Stated.{Stated}
 use Rattle.text_lines.specs.declared.Cell.{Cell}
 use Rattle.text.proofs.Inserted.{length_inserted}
-use Rattle.text.specs.Sections.{Threads, dots, isGood, halt, added, is_complete, gained, closed, lineAdded, threadsFrom, inserted, cellAdded, cellsFrom}
+use Rattle.text.specs.Sections.{Threads, dots, is_good, halt, added, is_complete, gained, closed, line_added, threads_from, inserted, cell_added, cells_from}
 
 -- ---- threads
 
@@ -46,13 +46,13 @@ grows-closed T = go (is_complete T) refl
     go true e = rw (chosen T (added halt T) e) (ends T (stays T))
     go false e = rw (passed T (added halt T) e) (ends (added halt T) (grows-added halt T))
 
-grows-line : (l : List ℕ) (T : Threads) → Grows 0 T (lineAdded l T)
-unfolding lineAdded
-grows-line l T = go (isGood (statementLine l).form) refl
+grows-line : (l : List ℕ) (T : Threads) → Grows 0 T (line_added l T)
+unfolding line_added
+grows-line l T = go (is_good (statement_line l).form) refl
   where
-    go : (b : Bool) → isGood (statementLine l).form ≡ b → Grows 0 T (cond (isGood (statementLine l).form) (added (statementLine l) T) T)
-    go true e = rw (chosen (added (statementLine l) T) T e) (grows-added (statementLine l) T)
-    go false e = rw (passed (added (statementLine l) T) T e) (stays T)
+    go : (b : Bool) → is_good (statement_line l).form ≡ b → Grows 0 T (cond (is_good (statement_line l).form) (added (statement_line l) T) T)
+    go true e = rw (chosen (added (statement_line l) T) T e) (grows-added (statement_line l) T)
+    go false e = rw (passed (added (statement_line l) T) T e) (stays T)
 
 grows_then : (m n : ℕ) (T U W : Threads) → Grows m T U → Grows n U W → Grows (m + n) T W
 grows_then m n T U W g h = record {
@@ -69,36 +69,36 @@ grows_then m n T U W g h = record {
 
 -- one line
 abbrev pub turned : List ℕ → List (List ℕ) → Threads → Threads
-turned l ls T = cond (isDot l) (closed T) (cond (eqb (dots ls) 0) T (lineAdded l T))
+turned l ls T = cond (is_dot l) (closed T) (cond (eqb (dots ls) 0) T (line_added l T))
 
-pub grows-turned : (l : List ℕ) (ls : List (List ℕ)) (T : Threads) → Grows (cond (isDot l) 1 0) T (turned l ls T)
-grows-turned l ls T = go (isDot l) refl (eqb (dots ls) 0) refl
+pub grows-turned : (l : List ℕ) (ls : List (List ℕ)) (T : Threads) → Grows (cond (is_dot l) 1 0) T (turned l ls T)
+grows-turned l ls T = go (is_dot l) refl (eqb (dots ls) 0) refl
   where
-    go : (b : Bool) → isDot l ≡ b → (z : Bool) → eqb (dots ls) 0 ≡ z → Grows (cond (isDot l) 1 0) T (cond (isDot l) (closed T) (cond (eqb (dots ls) 0) T (lineAdded l T)))
+    go : (b : Bool) → is_dot l ≡ b → (z : Bool) → eqb (dots ls) 0 ≡ z → Grows (cond (is_dot l) 1 0) T (cond (is_dot l) (closed T) (cond (eqb (dots ls) 0) T (line_added l T)))
     go true e z f = rw e (grows-closed T)
     go false e true f = rw (e, f) (stays T)
     go false e false f = rw (e, f) (grows-line l T)
 
 -- the lines still to come
-pub grows_from : (T : Threads) (ls : List (List ℕ)) → Grows (dots ls) T (threadsFrom T ls)
-unfolding dots threadsFrom
+pub grows_from : (T : Threads) (ls : List (List ℕ)) → Grows (dots ls) T (threads_from T ls)
+unfolding dots threads_from
 grows_from T [] = stays T
-grows_from T (l ∷ ls) = grows_then (cond (isDot l) 1 0) (dots ls) T (turned l ls T) (threadsFrom (turned l ls T) ls) (grows-turned l ls T) (grows_from (turned l ls T) ls)
+grows_from T (l ∷ ls) = grows_then (cond (is_dot l) 1 0) (dots ls) T (turned l ls T) (threads_from (turned l ls T) ls) (grows-turned l ls T) (grows_from (turned l ls T) ls)
 
 -- ---- cells
 
-length-added : (l : List ℕ) (ds : List Cell) → length ds ≤ length (cellAdded l ds)
-unfolding cellAdded
-length-added l ds = go (isGood (mapLine l).form) refl
+length-added : (l : List ℕ) (ds : List Cell) → length ds ≤ length (cell_added l ds)
+unfolding cell_added
+length-added l ds = go (is_good (map_line l).form) refl
   where
-    go : (b : Bool) → isGood (mapLine l).form ≡ b → length ds ≤ length (cond (isGood (mapLine l).form) (inserted (mapLine l) ds) ds)
-    go true e = let k = ap length (chosen (inserted (mapLine l) ds) ds e) ∙ length_inserted (mapLine l) ds in omega (arith, k)
-    go false e = let k = ap length (passed (inserted (mapLine l) ds) ds e) in omega (arith, k)
+    go : (b : Bool) → is_good (map_line l).form ≡ b → length ds ≤ length (cond (is_good (map_line l).form) (inserted (map_line l) ds) ds)
+    go true e = let k = ap length (chosen (inserted (map_line l) ds) ds e) ∙ length_inserted (map_line l) ds in omega (arith, k)
+    go false e = let k = ap length (passed (inserted (map_line l) ds) ds e) in omega (arith, k)
 
-pub length_from : (ds : List Cell) (ls : List (List ℕ)) → length ds ≤ length (cellsFrom ds ls)
-unfolding cellsFrom
+pub length_from : (ds : List Cell) (ls : List (List ℕ)) → length ds ≤ length (cells_from ds ls)
+unfolding cells_from
 length_from ds [] = omega arith
 length_from ds (l ∷ ls) =
-    let e = cond (eqb (dots (l ∷ ls)) 0) (cellAdded l ds) ds in
+    let e = cond (eqb (dots (l ∷ ls)) 0) (cell_added l ds) ds in
     let h : length ds ≤ length e = cond_both (λ (es : List Cell). length ds ≤ length es) (eqb (dots (l ∷ ls)) 0) (length-added l ds) (omega arith) in
     omega (arith, h, length_from e ls)

@@ -9,11 +9,11 @@ use lib.Dec.{eqb, ltb}
 use lib.ListN.{length, get_or, set}
 use lib.Seq.{get_or-set_same, get_or-set_other}
 use borrow.Author.Tests.{eq-eqb, ne_eqb, lt-ltb, le-ltb}
-use Rattle.base.proofs.Choice.{chosen, passed, and-false}
+use Rattle.base.proofs.Choice.{chosen, passed, and_false}
 use Rattle.text_lines.specs.declared.Stated.{Stated}
 use Rattle.text_drafts.specs.Blocks.{block_at}
-use Rattle.text.specs.Drafts.{drafted, threadsIn}
-use Rattle.records.specs.Instructions.{isLast}
+use Rattle.text.specs.Drafts.{drafted, threads_in}
+use Rattle.records.specs.Instructions.{is_last}
 use Rattle.text.specs.Sections.{Threads, halt, added, is_complete, gained, closed}
 use Rattle.text.proofs.Labels.{drafted-at}
 
@@ -66,10 +66,10 @@ module _ (d d' counts : List ℕ) (ended n : ℕ) (x : Stated)
     | no f ↦
         ap (λ (m : ℕ). drafted d' t m p) (get_or-set_other counts ended t (n + 1) 0 f)
         ∙ other-is t p f
-        ∙ sym (passed _ _ (and-false _ (ne_eqb t ended f)))
+        ∙ sym (passed _ _ (and_false _ (ne_eqb t ended f)))
   ]
 
-  pub added-kept : threadsIn d' ended (set counts ended (n + 1)) ≡ added x (threadsIn d ended counts)
+  pub added-kept : threads_in d' ended (set counts ended (n + 1)) ≡ added x (threads_in d ended counts)
   unfolding added
   added-kept = λ i. record { ended = ended; count = λ t. count-is t i; statement = λ t p. statement-is t p i }
 
@@ -82,18 +82,18 @@ module _ (d d' counts : List ℕ) (ended n : ℕ) (x : Stated)
 -- ---- a section's end
 
 module _ (d counts : List ℕ) (ended : ℕ) (some : 0 < get_or counts ended 0) where
-  pub complete : is_complete (threadsIn d ended counts) ≡ isLast (block_at d (32 * ended + (get_or counts ended 0 - 1))).number
+  pub complete : is_complete (threads_in d ended counts) ≡ is_last (block_at d (32 * ended + (get_or counts ended 0 - 1))).number
   complete =
-      ap (λ (b : Bool). b || isLast (drafted d ended (get_or counts ended 0) (get_or counts ended 0 - 1)).number) (ne_eqb (get_or counts ended 0) 0 (omega (arith, some)))
-      ∙ ap (λ x. isLast x.number) (drafted-at d ended (get_or counts ended 0) (get_or counts ended 0 - 1) (omega (arith, some)))
+      ap (λ (b : Bool). b || is_last (drafted d ended (get_or counts ended 0) (get_or counts ended 0 - 1)).number) (ne_eqb (get_or counts ended 0) 0 (omega (arith, some)))
+      ∙ ap (λ x. is_last x.number) (drafted-at d ended (get_or counts ended 0) (get_or counts ended 0 - 1) (omega (arith, some)))
 
-  pub closed-complete : isLast (block_at d (32 * ended + (get_or counts ended 0 - 1))).number ≡ true → threadsIn d (ended + 1) counts ≡ closed (threadsIn d ended counts)
+  pub closed-complete : is_last (block_at d (32 * ended + (get_or counts ended 0 - 1))).number ≡ true → threads_in d (ended + 1) counts ≡ closed (threads_in d ended counts)
   unfolding closed gained
-  closed-complete last = ap (λ (T : Threads). record { ended = T.ended + 1; count = T.count; statement = T.statement }) (sym (chosen (threadsIn d ended counts) (added halt (threadsIn d ended counts)) (complete ∙ last)))
+  closed-complete last = ap (λ (T : Threads). record { ended = T.ended + 1; count = T.count; statement = T.statement }) (sym (chosen (threads_in d ended counts) (added halt (threads_in d ended counts)) (complete ∙ last)))
 
-  pub closed-gains : (d' counts' : List ℕ) → isLast (block_at d (32 * ended + (get_or counts ended 0 - 1))).number ≡ false →
-      threadsIn d' ended counts' ≡ added halt (threadsIn d ended counts) → threadsIn d' (ended + 1) counts' ≡ closed (threadsIn d ended counts)
+  pub closed_gains : (d' counts' : List ℕ) → is_last (block_at d (32 * ended + (get_or counts ended 0 - 1))).number ≡ false →
+      threads_in d' ended counts' ≡ added halt (threads_in d ended counts) → threads_in d' (ended + 1) counts' ≡ closed (threads_in d ended counts)
   unfolding closed gained
-  closed-gains d' counts' last e =
+  closed_gains d' counts' last e =
       ap (λ (T : Threads). record { ended = T.ended + 1; count = T.count; statement = T.statement })
-      (e ∙ sym (passed (threadsIn d ended counts) (added halt (threadsIn d ended counts)) (complete ∙ last)))
+      (e ∙ sym (passed (threads_in d ended counts) (added halt (threads_in d ended counts)) (complete ∙ last)))

@@ -8,22 +8,22 @@ use lib.Dec.{ltb}
 use borrow.Author.Tests.{lt-ltb, le-ltb, ltb-true}
 use Rattle.base.specs.Below.{some, least}
 use Rattle.base.specs.Bytes.{same}
-use Rattle.base.proofs.Below.{least-ext}
-use Rattle.base.proofs.Choice.{chosen, passed, and-false}
+use Rattle.base.proofs.Below.{least_ext}
+use Rattle.base.proofs.Choice.{chosen, passed, and_false}
 use Rattle.text_drafts.specs.Blocks.{block_at}
 use Rattle.text.specs.Drafts.{drafted}
-use Rattle.text.specs.Records.{isNamed, pcOf, argumentOf}
-use Rattle.text.specs.Answers.{doubledAt, targetFits}
-use Rattle.records.specs.Instructions.{isJump}
+use Rattle.text.specs.Records.{is_named, pc_of, argument_of}
+use Rattle.text.specs.Answers.{doubled_at, target_fits}
+use Rattle.records.specs.Instructions.{is_jump}
 
 pub drafted-at : (d : List ℕ) (t n p : ℕ) → p < n → drafted d t n p ≡ block_at d (32 * t + p)
 unfolding drafted
 drafted-at d t n p h = chosen _ _ (lt-ltb p n h)
 
 -- a label's pc, by the blocks
-pub pc-found : (d : List ℕ) (t n : ℕ) (label : List ℕ) → least n (λ p. same (block_at d (32 * t + p)).label label) ≡ pcOf n (drafted d t n) label
-unfolding pcOf
-pc-found d t n label = least-ext _ _ n (λ p h. ap (λ x. same x.label label) (sym (drafted-at d t n p h)))
+pub pc-found : (d : List ℕ) (t n : ℕ) (label : List ℕ) → least n (λ p. same (block_at d (32 * t + p)).label label) ≡ pc_of n (drafted d t n) label
+unfolding pc_of
+pc-found d t n label = least_ext _ _ n (λ p h. ap (λ x. same x.label label) (sym (drafted-at d t n p h)))
 
 -- some passes where the first that passes is below the bound
 pub some-least : (test : ℕ → Bool) (n : ℕ) → ltb (least n test) n ≡ some n test
@@ -47,7 +47,7 @@ some-least test (suc n) = go (some-least test n) (ltb (least n test) n) refl (te
 pub label-before : (d : List ℕ) (t n p : ℕ) (label : List ℕ) → p ≤ n →
     ltb (least p (λ q. same (block_at d (32 * t + q)).label label)) p ≡ some p (λ q. same (drafted d t n q).label label)
 label-before d t n p label h =
-    ap (λ (k : ℕ). ltb k p) (least-ext _ _ p (λ q l. ap (λ x. same x.label label) (sym (drafted-at d t n q (omega arith)))))
+    ap (λ (k : ℕ). ltb k p) (least_ext _ _ p (λ q l. ap (λ x. same x.label label) (sym (drafted-at d t n q (omega arith)))))
     ∙ some-least (λ q. same (drafted d t n q).label label) p
 
 -- ---- statement p of thread t, its parts read from its block
@@ -57,39 +57,39 @@ module _ (d : List ℕ) (t n p : ℕ) (h : p < n) where
   at_p = drafted-at d t n p h
 
   module _ (s : List ℕ) (e : s ≡ (block_at d (32 * t + p)).target) where
-    unfold-argument : argumentOf n (drafted d t n) p ≡ cond (isNamed s) (pcOf n (drafted d t n) s) (block_at d (32 * t + p)).argument
-    unfolding argumentOf
-    unfold-argument =
-        ap (λ x. cond (isNamed x.target) (pcOf n (drafted d t n) x.target) x.argument) at_p
-        ∙ ap (λ (z : List ℕ). cond (isNamed z) (pcOf n (drafted d t n) z) (block_at d (32 * t + p)).argument) (sym e)
+    unfold_argument : argument_of n (drafted d t n) p ≡ cond (is_named s) (pc_of n (drafted d t n) s) (block_at d (32 * t + p)).argument
+    unfolding argument_of
+    unfold_argument =
+        ap (λ x. cond (is_named x.target) (pc_of n (drafted d t n) x.target) x.argument) at_p
+        ∙ ap (λ (z : List ℕ). cond (is_named z) (pc_of n (drafted d t n) z) (block_at d (32 * t + p)).argument) (sym e)
 
-    pub argument-named : isNamed s ≡ true → least n (λ q. same (block_at d (32 * t + q)).label s) ≡ argumentOf n (drafted d t n) p
-    argument-named named = pc-found d t n s ∙ sym (unfold-argument ∙ chosen _ _ named)
+    pub argument-named : is_named s ≡ true → least n (λ q. same (block_at d (32 * t + q)).label s) ≡ argument_of n (drafted d t n) p
+    argument-named named = pc-found d t n s ∙ sym (unfold_argument ∙ chosen _ _ named)
 
-    pub argument-plain : isNamed s ≡ false → (block_at d (32 * t + p)).argument ≡ argumentOf n (drafted d t n) p
-    argument-plain plain = sym (unfold-argument ∙ passed _ _ plain)
+    pub argument-plain : is_named s ≡ false → (block_at d (32 * t + p)).argument ≡ argument_of n (drafted d t n) p
+    argument-plain plain = sym (unfold_argument ∙ passed _ _ plain)
 
   module _ (s : List ℕ) (e : s ≡ (block_at d (32 * t + p)).label) where
-    unfold-doubled : doubledAt (drafted d t n) p ≡ (isNamed s && some p (λ q. same (drafted d t n q).label s))
-    unfolding doubledAt
-    unfold-doubled =
-        ap (λ (z : List ℕ). isNamed z && some p (λ q. same (drafted d t n q).label z)) (ap (λ x. x.label) at_p ∙ sym e)
+    unfold_doubled : doubled_at (drafted d t n) p ≡ (is_named s && some p (λ q. same (drafted d t n q).label s))
+    unfolding doubled_at
+    unfold_doubled =
+        ap (λ (z : List ℕ). is_named z && some p (λ q. same (drafted d t n q).label z)) (ap (λ x. x.label) at_p ∙ sym e)
 
-    pub doubled-named : isNamed s ≡ true → ltb (least p (λ q. same (block_at d (32 * t + q)).label s)) p ≡ doubledAt (drafted d t n) p
-    doubled-named named =
+    pub doubled_named : is_named s ≡ true → ltb (least p (λ q. same (block_at d (32 * t + q)).label s)) p ≡ doubled_at (drafted d t n) p
+    doubled_named named =
         label-before d t n p s (omega arith)
-        ∙ sym (unfold-doubled ∙ ap (λ (b : Bool). b && some p (λ q. same (drafted d t n q).label s)) named)
+        ∙ sym (unfold_doubled ∙ ap (λ (b : Bool). b && some p (λ q. same (drafted d t n q).label s)) named)
 
-    pub doubled-plain : isNamed s ≡ false → false ≡ doubledAt (drafted d t n) p
-    doubled-plain plain = sym (unfold-doubled ∙ and-false _ plain)
+    pub doubled_plain : is_named s ≡ false → false ≡ doubled_at (drafted d t n) p
+    doubled_plain plain = sym (unfold_doubled ∙ and_false _ plain)
 
   module _ (m : ℕ) (e : m ≡ (block_at d (32 * t + p)).number) where
-    unfold-target : targetFits n (drafted d t n) p ≡ cond (isJump m) (ltb (argumentOf n (drafted d t n) p) n) true
-    unfolding targetFits
-    unfold-target = ap (λ (z : ℕ). cond (isJump z) (ltb (argumentOf n (drafted d t n) p) n) true) (ap (λ x. x.number) at_p ∙ sym e)
+    unfold_target : target_fits n (drafted d t n) p ≡ cond (is_jump m) (ltb (argument_of n (drafted d t n) p) n) true
+    unfolding target_fits
+    unfold_target = ap (λ (z : ℕ). cond (is_jump z) (ltb (argument_of n (drafted d t n) p) n) true) (ap (λ x. x.number) at_p ∙ sym e)
 
-    pub target-jump : isJump m ≡ true → ltb (argumentOf n (drafted d t n) p) n ≡ targetFits n (drafted d t n) p
-    target-jump jump = sym (unfold-target ∙ chosen _ _ jump)
+    pub target-jump : is_jump m ≡ true → ltb (argument_of n (drafted d t n) p) n ≡ target_fits n (drafted d t n) p
+    target-jump jump = sym (unfold_target ∙ chosen _ _ jump)
 
-    pub target-plain : isJump m ≡ false → true ≡ targetFits n (drafted d t n) p
-    target-plain plain = sym (unfold-target ∙ passed _ _ plain)
+    pub target-plain : is_jump m ≡ false → true ≡ target_fits n (drafted d t n) p
+    target-plain plain = sym (unfold_target ∙ passed _ _ plain)

@@ -9,14 +9,14 @@ use native.Mathlib.Decide.{ℕ_discrete}
 use lib.Dec.{eqb, ltb}
 use lib.ListN.{get_or}
 use borrow.Author.Tests.{eq-eqb, lt-ltb, ltb-true, ltb-false}
-use Rattle.base.proofs.Choice.{chosen, passed, and_left, and_right, or-true, or-right-true, or_left, or_right, clash}
-use Rattle.text_lines.specs.Lines.{isDot, statementLine, mapLine}
-use Rattle.records.specs.Instructions.{isLast}
-use Rattle.text.specs.Answers.{lineRefusal}
+use Rattle.base.proofs.Choice.{chosen, passed, and_left, and_right, or_true, or_right_true, or_left, or_right, clash}
+use Rattle.text_lines.specs.Lines.{is_dot, statement_line, map_line}
+use Rattle.records.specs.Instructions.{is_last}
+use Rattle.text.specs.Answers.{line_refusal}
 use Rattle.text_drafts.specs.Blocks.{block_at}
-use Rattle.text.specs.Drafts.{threadsIn}
-use Rattle.text.specs.Readings.{threadsKept, cellsKept, openCount, Closes, States, Maps, Takes, misfits}
-use Rattle.text.specs.Sections.{Threads, halt, isGood, added, is_complete, gained, closed, lineAdded, cellAdded}
+use Rattle.text.specs.Drafts.{threads_in}
+use Rattle.text.specs.Readings.{threads_kept, cells_kept, open_count, Closes, States, Maps, Takes, misfits}
+use Rattle.text.specs.Sections.{Threads, halt, is_good, added, is_complete, gained, closed, line_added, cell_added}
 use Rattle.text.specs.declared.Reading.{Reading}
 use Rattle.text.proofs.Kept.{complete}
 use Rattle.text.proofs.Statements.{added-count}
@@ -28,9 +28,9 @@ numbered refusal line r = record { fits = r.fits; ended = r.ended; counts = r.co
 -- ---- how many statements the open section has
 
 -- what holds of a section without and with the HALT it gains holds of its end
-closed-open : (T : Threads) → (closed T).count T.ended ≡ cond (is_complete T) (T.count T.ended) (T.count T.ended + 1)
+closed_open : (T : Threads) → (closed T).count T.ended ≡ cond (is_complete T) (T.count T.ended) (T.count T.ended + 1)
 unfolding closed gained
-closed-open T = go (is_complete T) refl
+closed_open T = go (is_complete T) refl
   where
     go : (b : Bool) → is_complete T ≡ b → (cond (is_complete T) T (added halt T)).count T.ended ≡ cond (is_complete T) (T.count T.ended) (T.count T.ended + 1)
     go true e = ap (λ (U : Threads). U.count T.ended) (chosen T (added halt T) e) ∙ sym (chosen _ _ e)
@@ -38,94 +38,94 @@ closed-open T = go (is_complete T) refl
 
 -- the end of a section that does not fit
 closed-misfits : (r : Reading) (draft : List ℕ) →
-    (ltb 0 (openCount r) && (isLast (block_at draft (32 * r.ended + (openCount r - 1))).number || ltb (openCount r) 32)) ≡ false →
-    misfits true ((closed (threadsKept r draft)).count r.ended) ≡ true
-closed-misfits r draft e = ap (misfits true) (closed-open T) ∙ elim (ℕ_discrete n 0) [
+    (ltb 0 (open_count r) && (is_last (block_at draft (32 * r.ended + (open_count r - 1))).number || ltb (open_count r) 32)) ≡ false →
+    misfits true ((closed (threads_kept r draft)).count r.ended) ≡ true
+closed-misfits r draft e = ap (misfits true) (closed_open T) ∙ elim (ℕ_discrete n 0) [
   | yes z ↦
-      ap (misfits true) (chosen {b = is_complete T} n (n + 1) (or-true _ (eq-eqb n 0 z)))
-      ∙ or-right-true (ltb 32 n) (eq-eqb n 0 z)
+      ap (misfits true) (chosen {b = is_complete T} n (n + 1) (or_true _ (eq-eqb n 0 z)))
+      ∙ or_right_true (ltb 32 n) (eq-eqb n 0 z)
   | no f ↦
       let some : 0 < n = omega arith in
-      let both : (isLast (block_at draft (32 * r.ended + (n - 1))).number || ltb n 32) ≡ false = sym (ap (λ (b : Bool). b && (isLast (block_at draft (32 * r.ended + (n - 1))).number || ltb n 32)) (lt-ltb 0 n some)) ∙ e in
-      let full : 32 ≤ n = ltb-false n 32 (or_right (isLast (block_at draft (32 * r.ended + (n - 1))).number) (ltb n 32) both) in
-      ap (misfits true) (passed {b = is_complete T} n (n + 1) (complete draft r.counts r.ended some ∙ or_left (isLast (block_at draft (32 * r.ended + (n - 1))).number) (ltb n 32) both))
-      ∙ or-true _ (lt-ltb 32 (n + 1) (omega arith))
+      let both : (is_last (block_at draft (32 * r.ended + (n - 1))).number || ltb n 32) ≡ false = sym (ap (λ (b : Bool). b && (is_last (block_at draft (32 * r.ended + (n - 1))).number || ltb n 32)) (lt-ltb 0 n some)) ∙ e in
+      let full : 32 ≤ n = ltb-false n 32 (or_right (is_last (block_at draft (32 * r.ended + (n - 1))).number) (ltb n 32) both) in
+      ap (misfits true) (passed {b = is_complete T} n (n + 1) (complete draft r.counts r.ended some ∙ or_left (is_last (block_at draft (32 * r.ended + (n - 1))).number) (ltb n 32) both))
+      ∙ or_true _ (lt-ltb 32 (n + 1) (omega arith))
 ]
   where
     T : Threads
-    T = threadsKept r draft
+    T = threads_kept r draft
 
     n : ℕ
-    n = openCount r
+    n = open_count r
 
 -- ---- the three kinds of lines
 
 module _ (l : List ℕ) (left : ℕ) (r : Reading) (draft keys : List ℕ) where
-  pub took-dot : isDot l ≡ true → (r' : Reading) (draft' : List ℕ) → Closes r draft r' draft' → Takes l left r draft keys (numbered 0 (r.line + 1) r') draft' keys
-  took-dot dot r' draft' c = record {
+  pub took_dot : is_dot l ≡ true → (r' : Reading) (draft' : List ℕ) → Closes r draft r' draft' → Takes l left r draft keys (numbered 0 (r.line + 1) r') draft' keys
+  took_dot dot r' draft' c = record {
     refusal = sym (chosen _ _ dot);
     line = refl;
     ended = c.ended ∙ ap (λ (b : Bool). r.ended + cond b 1 0) (sym dot);
     sound = c.sound;
-    threads = λ sound fits. (and_left r.fits (ltb r.ended 4) (and_left _ (ltb 0 (openCount r)) (and_left _ _ (sym c.fits ∙ fits))), c.threads sound fits ∙ sym (chosen _ _ dot));
+    threads = λ sound fits. (and_left r.fits (ltb r.ended 4) (and_left _ (ltb 0 (open_count r)) (and_left _ _ (sym c.fits ∙ fits))), c.threads sound fits ∙ sym (chosen _ _ dot));
     same = λ plain none. clash dot plain;
-    some = λ fits e. ltb-true 0 (openCount r) (and_right (r.fits && ltb r.ended 4) (ltb 0 (openCount r)) (and_left _ _ (sym c.fits ∙ fits)));
+    some = λ fits e. ltb-true 0 (open_count r) (and_right (r.fits && ltb r.ended 4) (ltb 0 (open_count r)) (and_left _ _ (sym c.fits ∙ fits)));
     lost = λ sound fit four unfit.
-        let e = sym (ap₂ (λ (a b : Bool). a && b && ltb 0 (openCount r) && (isLast (block_at draft (32 * r.ended + (openCount r - 1))).number || ltb (openCount r) 32)) fit (lt-ltb r.ended 4 four)) ∙ sym c.fits ∙ unfit in
+        let e = sym (ap₂ (λ (a b : Bool). a && b && ltb 0 (open_count r) && (is_last (block_at draft (32 * r.ended + (open_count r - 1))).number || ltb (open_count r) 32)) fit (lt-ltb r.ended 4 four)) ∙ sym c.fits ∙ unfit in
         ap₂ (λ (b : Bool) (T : Threads). misfits b (T.count r.ended)) dot (chosen _ _ dot) ∙ closed-misfits r draft e;
     room = refl;
-    number = λ few full. c.cells ∙ sym (passed _ _ (ap (λ (b : Bool). not b && eqb left 0 && isGood (mapLine l).form) dot));
-    cells = λ full few. ap (λ (n : ℕ). cellsKept (record { fits = true; ended = 0; counts = []; cells = n; refusal = 0; line = 0 }) keys) c.cells ∙ sym (chosen _ _ dot);
+    number = λ few full. c.cells ∙ sym (passed _ _ (ap (λ (b : Bool). not b && eqb left 0 && is_good (map_line l).form) dot));
+    cells = λ full few. ap (λ (n : ℕ). cells_kept (record { fits = true; ended = 0; counts = []; cells = n; refusal = 0; line = 0 }) keys) c.cells ∙ sym (chosen _ _ dot);
   }
 
   -- a line that ends no section
-  no_end : isDot l ≡ false → (n : ℕ) → n ≡ r.ended → n ≡ r.ended + cond (isDot l) 1 0
+  no_end : is_dot l ≡ false → (n : ℕ) → n ≡ r.ended → n ≡ r.ended + cond (is_dot l) 1 0
   no_end plain n e = e ∙ sym (add-zero r.ended) ∙ ap (λ (b : Bool). r.ended + cond b 1 0) (sym plain)
 
-  pub took-cell : isDot l ≡ false → eqb left 0 ≡ true → (r' : Reading) (keys' : List ℕ) → Maps (mapLine l) r keys r' keys' → Takes l left r draft keys (numbered r'.refusal (r.line + 1) r') draft keys'
-  unfolding cellAdded
-  took-cell plain none r' keys' m = record {
-    refusal = m.refusal ∙ sym (passed _ _ plain ∙ ap lineRefusal (chosen (mapLine l).form (statementLine l).form none));
+  pub took_cell : is_dot l ≡ false → eqb left 0 ≡ true → (r' : Reading) (keys' : List ℕ) → Maps (map_line l) r keys r' keys' → Takes l left r draft keys (numbered r'.refusal (r.line + 1) r') draft keys'
+  unfolding cell_added
+  took_cell plain none r' keys' m = record {
+    refusal = m.refusal ∙ sym (passed _ _ plain ∙ ap line_refusal (chosen (map_line l).form (statement_line l).form none));
     line = refl;
     ended = no_end plain r'.ended m.ended;
     sound = λ sound. ((λ t. let e = ap (λ (counts : List ℕ). get_or counts t 0) m.counts in rw e (sound.0 t)), sound.1);
-    threads = λ sound fits. (sym m.fits ∙ fits, ap₂ (λ (ended : ℕ) (counts : List ℕ). threadsIn draft ended counts) m.ended m.counts ∙ sym (passed _ _ plain ∙ chosen _ _ none));
+    threads = λ sound fits. (sym m.fits ∙ fits, ap₂ (λ (ended : ℕ) (counts : List ℕ). threads_in draft ended counts) m.ended m.counts ∙ sym (passed _ _ plain ∙ chosen _ _ none));
     same = λ plain none. m.fits;
     some = λ fits dot. clash dot plain;
     lost = λ sound fit four unfit. clash (m.fits ∙ fit) unfit;
     room = m.room;
-    number = λ few full. m.number few full ∙ sym (ap₂ (λ (a b : Bool). cond (not a && b && isGood (mapLine l).form) (min (r.cells + 1) 129) r.cells) plain none);
+    number = λ few full. m.number few full ∙ sym (ap₂ (λ (a b : Bool). cond (not a && b && is_good (map_line l).form) (min (r.cells + 1) 129) r.cells) plain none);
     cells = λ full few. m.cells full few ∙ sym (passed _ _ plain ∙ chosen _ _ none);
   }
 
-  pub took-statement : isDot l ≡ false → eqb left 0 ≡ false → (r' : Reading) (draft' : List ℕ) → States (statementLine l) r draft r' draft' → Takes l left r draft keys (numbered r'.refusal (r.line + 1) r') draft' keys
-  unfolding lineAdded
-  took-statement plain more r' draft' s = record {
-    refusal = s.refusal ∙ sym (passed _ _ plain ∙ ap lineRefusal (passed (mapLine l).form (statementLine l).form more));
+  pub took_statement : is_dot l ≡ false → eqb left 0 ≡ false → (r' : Reading) (draft' : List ℕ) → States (statement_line l) r draft r' draft' → Takes l left r draft keys (numbered r'.refusal (r.line + 1) r') draft' keys
+  unfolding line_added
+  took_statement plain more r' draft' s = record {
+    refusal = s.refusal ∙ sym (passed _ _ plain ∙ ap line_refusal (passed (map_line l).form (statement_line l).form more));
     line = refl;
     ended = no_end plain r'.ended s.ended;
     sound = s.sound;
-    threads = λ sound fits. (fit (isGood (statementLine l).form) refl (sym s.fits ∙ fits), s.threads sound fits ∙ sym (passed _ _ plain ∙ passed _ _ more));
+    threads = λ sound fits. (fit (is_good (statement_line l).form) refl (sym s.fits ∙ fits), s.threads sound fits ∙ sym (passed _ _ plain ∙ passed _ _ more));
     same = λ plain none. clash none more;
     some = λ fits dot. clash dot plain;
     lost = λ sound fit four unfit.
         ap₂ (λ (b : Bool) (T : Threads). misfits b (T.count r.ended)) plain (passed _ _ plain ∙ passed _ _ more)
-        ∙ full (isGood (statementLine l).form) refl fit four (sym s.fits ∙ unfit);
+        ∙ full (is_good (statement_line l).form) refl fit four (sym s.fits ∙ unfit);
     room = refl;
-    number = λ few all. s.cells ∙ sym (passed _ _ (ap₂ (λ (a b : Bool). not a && b && isGood (mapLine l).form) plain more));
-    cells = λ all few. ap (λ (n : ℕ). cellsKept (record { fits = true; ended = 0; counts = []; cells = n; refusal = 0; line = 0 }) keys) s.cells ∙ sym (passed _ _ plain ∙ passed _ _ more);
+    number = λ few all. s.cells ∙ sym (passed _ _ (ap₂ (λ (a b : Bool). not a && b && is_good (map_line l).form) plain more));
+    cells = λ all few. ap (λ (n : ℕ). cells_kept (record { fits = true; ended = 0; counts = []; cells = n; refusal = 0; line = 0 }) keys) s.cells ∙ sym (passed _ _ plain ∙ passed _ _ more);
   }
     where
-      fit : (good : Bool) → isGood (statementLine l).form ≡ good → cond (isGood (statementLine l).form) (r.fits && ltb r.ended 4 && ltb (openCount r) 32) r.fits ≡ true → r.fits ≡ true
-      fit true e f = and_left r.fits (ltb r.ended 4) (and_left _ (ltb (openCount r) 32) (sym (chosen _ _ e) ∙ f))
+      fit : (good : Bool) → is_good (statement_line l).form ≡ good → cond (is_good (statement_line l).form) (r.fits && ltb r.ended 4 && ltb (open_count r) 32) r.fits ≡ true → r.fits ≡ true
+      fit true e f = and_left r.fits (ltb r.ended 4) (and_left _ (ltb (open_count r) 32) (sym (chosen _ _ e) ∙ f))
       fit false e f = sym (passed _ _ e) ∙ f
 
-      full : (good : Bool) → isGood (statementLine l).form ≡ good → r.fits ≡ true → r.ended < 4 → cond (isGood (statementLine l).form) (r.fits && ltb r.ended 4 && ltb (openCount r) 32) r.fits ≡ false →
-          misfits false ((cond (isGood (statementLine l).form) (added (statementLine l) (threadsKept r draft)) (threadsKept r draft)).count r.ended) ≡ true
+      full : (good : Bool) → is_good (statement_line l).form ≡ good → r.fits ≡ true → r.ended < 4 → cond (is_good (statement_line l).form) (r.fits && ltb r.ended 4 && ltb (open_count r) 32) r.fits ≡ false →
+          misfits false ((cond (is_good (statement_line l).form) (added (statement_line l) (threads_kept r draft)) (threads_kept r draft)).count r.ended) ≡ true
       full true e f four u =
-          let none : ltb (openCount r) 32 ≡ false = sym (ap₂ (λ (a b : Bool). a && b && ltb (openCount r) 32) f (lt-ltb r.ended 4 four)) ∙ sym (chosen _ _ e) ∙ u in
-          let h : 32 ≤ openCount r = ltb-false (openCount r) 32 none in
-          ap (λ (T : Threads). misfits false (T.count r.ended)) (chosen (added (statementLine l) (threadsKept r draft)) (threadsKept r draft) e)
-          ∙ ap (misfits false) (added-count (statementLine l) (threadsKept r draft))
-          ∙ or-true _ (lt-ltb 32 (openCount r + 1) (omega arith))
+          let none : ltb (open_count r) 32 ≡ false = sym (ap₂ (λ (a b : Bool). a && b && ltb (open_count r) 32) f (lt-ltb r.ended 4 four)) ∙ sym (chosen _ _ e) ∙ u in
+          let h : 32 ≤ open_count r = ltb-false (open_count r) 32 none in
+          ap (λ (T : Threads). misfits false (T.count r.ended)) (chosen (added (statement_line l) (threads_kept r draft)) (threads_kept r draft) e)
+          ∙ ap (misfits false) (added-count (statement_line l) (threads_kept r draft))
+          ∙ or_true _ (lt-ltb 32 (open_count r + 1) (omega arith))
       full false e f four u = clash f (sym (passed _ _ e) ∙ u)

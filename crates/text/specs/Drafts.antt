@@ -6,32 +6,32 @@ use Rattle.text_lines.specs.declared.Stated.{Stated}
 use Rattle.text_lines.specs.declared.Cell.{Cell}
 use Rattle.text_drafts.specs.Blocks.{block_at}
 use Rattle.text.specs.Sections.{Threads, halt, inserted}
-use Rattle.records.specs.Sets.{mostStatements}
+use Rattle.records.specs.Sets.{most_statements}
 
 -- the statements of thread t, which has n; its blocks start at 32 * t
 unfoldable pub drafted : List ℕ → ℕ → ℕ → ℕ → Stated
-drafted draft t n p = cond (ltb p n) (block_at draft (mostStatements * t + p)) halt
+drafted draft t n p = cond (ltb p n) (block_at draft (most_statements * t + p)) halt
 
 -- the threads read so far
-abbrev pub threadsIn : List ℕ → ℕ → List ℕ → Threads
-threadsIn draft ended counts = record {
+abbrev pub threads_in : List ℕ → ℕ → List ℕ → Threads
+threads_in draft ended counts = record {
   ended = ended;
   count = λ t. get_or counts t 0;
   statement = λ t p. drafted draft t (get_or counts t 0) p;
 }
 
 -- no thread has more than 32 statements
-abbrev pub fourFit : List ℕ → Bool
-fourFit counts = leb (get_or counts 0 0) mostStatements && leb (get_or counts 1 0) mostStatements && leb (get_or counts 2 0) mostStatements && leb (get_or counts 3 0) mostStatements
+abbrev pub four_fit : List ℕ → Bool
+four_fit counts = leb (get_or counts 0 0) most_statements && leb (get_or counts 1 0) most_statements && leb (get_or counts 2 0) most_statements && leb (get_or counts 3 0) most_statements
 
 -- a cell as one number, the address above the value
-abbrev pub cellOfKey : ℕ → Cell
-cellOfKey key = record { form = Good; address = key / 65536; value = key % 65536 }
+abbrev pub cell_of_key : ℕ → Cell
+cell_of_key key = record { form = Good; address = key / 65536; value = key % 65536 }
 
 unfoldable pub cells_of : List ℕ → List Cell
 cells_of [] = []
-cells_of (key ∷ keys) = cellOfKey key ∷ cells_of keys
+cells_of (key ∷ keys) = cell_of_key key ∷ cells_of keys
 
 -- the first n cells with one more, which has come to place i: those before it, and it put among the others
-abbrev pub carriedAt : ℕ → List ℕ → ℕ → ℕ → List Cell
-carriedAt n keys i carried = cells_of (take i keys) ++ inserted (cellOfKey carried) (cells_of (take (n - i) (drop i keys)))
+abbrev pub carried_at : ℕ → List ℕ → ℕ → ℕ → List Cell
+carried_at n keys i carried = cells_of (take i keys) ++ inserted (cell_of_key carried) (cells_of (take (n - i) (drop i keys)))

@@ -2,7 +2,7 @@
 use Rattle.std.specs.Prelude.{ℕ, zero, suc, ◌+◌, Bool, cond, not, List, [], ◌∷◌, ◌++◌, length, get_or}
 use Rattle.base.specs.Below.{least}
 use Rattle.base.specs.Bytes.{word, same}
-use Rattle.text_lines.specs.Lines.{unlabelled, noCell}
+use Rattle.text_lines.specs.Lines.{unlabelled, no_cell}
 use Rattle.text_lines.specs.declared.Form.TheVariants.{Empty}
 use Rattle.text_lines.specs.declared.Stated.{Stated}
 use Rattle.text_lines.specs.declared.Cell.{Cell}
@@ -16,43 +16,43 @@ joined (suc n) item = joined n item ++ item n
 -- ---- statements; x gives a thread's n statements by pc
 
 -- a label, or a jump's target, is there
-abbrev pub isNamed : List ℕ → Bool
-isNamed label = not (same label unlabelled)
+abbrev pub is_named : List ℕ → Bool
+is_named label = not (same label unlabelled)
 
 -- the pc of a label in its thread; n where the thread has no such label
-unfoldable pub pcOf : ℕ → (ℕ → Stated) → List ℕ → ℕ
-pcOf n x label = least n (λ p. same (x p).label label)
+unfoldable pub pc_of : ℕ → (ℕ → Stated) → List ℕ → ℕ
+pc_of n x label = least n (λ p. same (x p).label label)
 
 -- Labels become pcs.
-unfoldable pub argumentOf : ℕ → (ℕ → Stated) → ℕ → ℕ
-argumentOf n x p = cond (isNamed (x p).target) (pcOf n x (x p).target) (x p).argument
+unfoldable pub argument_of : ℕ → (ℕ → Stated) → ℕ → ℕ
+argument_of n x p = cond (is_named (x p).target) (pc_of n x (x p).target) (x p).argument
 
 -- Statement, 8 bytes: thread, instruction number, mode (1 indirect), 0, argument (2), pc (2).
-unfoldable pub statementBytes : ℕ → ℕ → (ℕ → Stated) → ℕ → List ℕ
-statementBytes t n x p = t ∷ (x p).number ∷ (x p).mode ∷ 0 ∷ word (argumentOf n x p) (word p [])
+unfoldable pub statement_bytes : ℕ → ℕ → (ℕ → Stated) → ℕ → List ℕ
+statement_bytes t n x p = t ∷ (x p).number ∷ (x p).mode ∷ 0 ∷ word (argument_of n x p) (word p [])
 
-unfoldable pub threadBytes : Threads → ℕ → List ℕ
-threadBytes T t = joined (T.count t) (statementBytes t (T.count t) (T.statement t))
+unfoldable pub thread_bytes : Threads → ℕ → List ℕ
+thread_bytes T t = joined (T.count t) (statement_bytes t (T.count t) (T.statement t))
 
-unfoldable pub setBytes : Threads → List ℕ
-setBytes T = joined T.ended (threadBytes T)
+unfoldable pub set_bytes : Threads → List ℕ
+set_bytes T = joined T.ended (thread_bytes T)
 
 -- how many statements the threads before t have
-unfoldable pub statementsBefore : Threads → ℕ → ℕ
-statementsBefore T zero = 0
-statementsBefore T (suc t) = statementsBefore T t + T.count t
+unfoldable pub statements_before : Threads → ℕ → ℕ
+statements_before T zero = 0
+statements_before T (suc t) = statements_before T t + T.count t
 
 abbrev pub statements : Threads → ℕ
-statements T = statementsBefore T T.ended
+statements T = statements_before T T.ended
 
 -- ---- the map
 
-abbrev pub mapCell : List Cell → ℕ → Cell
-mapCell cs i = get_or cs i (noCell Empty)
+abbrev pub map_cell : List Cell → ℕ → Cell
+map_cell cs i = get_or cs i (no_cell Empty)
 
 -- Map cell, 4 bytes: address, value.
-unfoldable pub cellBytes : List Cell → ℕ → List ℕ
-cellBytes cs i = word (mapCell cs i).address (word (mapCell cs i).value [])
+unfoldable pub cell_bytes : List Cell → ℕ → List ℕ
+cell_bytes cs i = word (map_cell cs i).address (word (map_cell cs i).value [])
 
-unfoldable pub mapBytes : List Cell → List ℕ
-mapBytes cs = joined (length cs) (cellBytes cs)
+unfoldable pub map_bytes : List Cell → List ℕ
+map_bytes cs = joined (length cs) (cell_bytes cs)

@@ -5,12 +5,12 @@ mod threads;
 
 ghost use Rattle.std.specs.Prelude.{◌≡◌, true, cond, List, ◌*◌, ◌≤◌, length, take};
 ghost use Rattle.text_lines.specs.declared.Cell.{Cell};
-ghost use Rattle.text.specs.Answers.{mapFits, outputBy, answer as answer_of, setOutput, mapOutput};
-ghost use Rattle.text.specs.Readings.{Sound, ThreadsStand, CellsStand, threadsRefusal, Judges, Few, roomed, setPart, mapPart};
-ghost use Rattle.text.specs.Records.{mapBytes};
+ghost use Rattle.text.specs.Answers.{map_fits, output_by, answer as answer_of, set_output, map_output};
+ghost use Rattle.text.specs.Readings.{Sound, ThreadsStand, CellsStand, threads_refusal, Judges, Few, roomed, set_part, map_part};
+ghost use Rattle.text.specs.Records.{map_bytes};
 ghost use Rattle.text.specs.Sections.{Threads};
-ghost use Rattle.records.specs.Sets.{mostThreads, recordLength, mostRecords};
-ghost use Rattle.records.specs.Maps.{cellLength, setCells};
+ghost use Rattle.records.specs.Sets.{most_threads, record_length, most_records};
+ghost use Rattle.records.specs.Maps.{cell_length, set_cells};
 
 use records::{Layout, Statement, refusals};
 use text_drafts::DRAFT;
@@ -56,7 +56,7 @@ fn refused(number: u8) -> ReadAnswer
 
 // Which of 4, 5 and 6 refuses the threads, 0 where none does.
 fn threads_refusal(draft: &[u8], r: Reading) -> u8
-    ensures { ((T : Threads) → ThreadsStand r draft.now T → result ≡ threadsRefusal T) × (result ≡ 0 → (r.fits ≡ true) × (r.ended ≤ mostThreads)) }
+    ensures { ((T : Threads) → ThreadsStand r draft.now T → result ≡ threads_refusal T) × (result ≡ 0 → (r.fits ≡ true) × (r.ended ≤ most_threads)) }
 {
     let counts = r.counts;
     let some = (0 < r.ended) & (r.ended <= Reading::THREADS);
@@ -74,8 +74,8 @@ fn threads_refusal(draft: &[u8], r: Reading) -> u8
 
 // Whether 8 refuses the map, 0 where it does not; then its records are in work memory.
 fn map_refusal(keys: &[u32], r: Reading, map: &mut [u8]) -> u8
-    requires { (length keys.now ≡ setCells) × (length map.old ≡ cellLength * setCells) }
-    ensures { ((cs : List Cell) → CellsStand r keys.now cs → (result ≡ cond (mapFits cs) 0 8) × (result ≡ 0 → (take (cellLength * r.cells) map.new ≡ mapBytes cs) × (r.cells ≤ setCells) × (length cs ≡ r.cells)))
+    requires { (length keys.now ≡ set_cells) × (length map.old ≡ cell_length * set_cells) }
+    ensures { ((cs : List Cell) → CellsStand r keys.now cs → (result ≡ cond (map_fits cs) 0 8) × (result ≡ 0 → (take (cell_length * r.cells) map.new ≡ map_bytes cs) × (r.cells ≤ set_cells) × (length cs ≡ r.cells)))
         × (length map.new ≡ length map.old) }
 {
     let n = r.cells as usize;
@@ -91,7 +91,7 @@ fn map_refusal(keys: &[u32], r: Reading, map: &mut [u8]) -> u8
 
 // The checks of the whole text but that of room, with the records written into work memory.
 fn judge(draft: &[u8], keys: &[u32], r: Reading, set: &mut [u8], map: &mut [u8]) -> ReadAnswer
-    requires { Sound r draft.now × (length keys.now ≡ setCells) × (length set.old ≡ recordLength * mostRecords) × (length map.old ≡ cellLength * setCells) }
+    requires { Sound r draft.now × (length keys.now ≡ set_cells) × (length set.old ≡ record_length * most_records) × (length map.old ≡ cell_length * set_cells) }
     ensures { Judges r draft.now keys.now result set.new map.new }
 {
     let first = threads_refusal(draft, r);
@@ -121,10 +121,10 @@ fn finish(
     set: &mut [u8],
     map: &mut [u8],
 ) -> ReadAnswer
-    requires { Few answer × (length records.now ≡ recordLength * mostRecords) × (length cells.now ≡ cellLength * setCells) }
+    requires { Few answer × (length records.now ≡ record_length * most_records) × (length cells.now ≡ cell_length * set_cells) }
     ensures { (result ≡ roomed (length set.old) (length map.old) answer)
-        × (set.new ≡ outputBy result (setPart answer records.now) set.old)
-        × (map.new ≡ outputBy result (mapPart answer cells.now) map.old) }
+        × (set.new ≡ output_by result (set_part answer records.now) set.old)
+        × (map.new ≡ output_by result (map_part answer cells.now) map.old) }
 {
     match answer {
         ReadAnswer::Read {
@@ -151,8 +151,8 @@ fn finish(
 // Reads a set text, and writes its statement records and its map records.
 pub fn read(text: &[u8], set: &mut [u8], map: &mut [u8]) -> ReadAnswer
     ensures { (result ≡ answer_of text.now (length set.old) (length map.old))
-        × (set.new ≡ setOutput result text.now set.old)
-        × (map.new ≡ mapOutput result text.now map.old) }
+        × (set.new ≡ set_output result text.now set.old)
+        × (map.new ≡ map_output result text.now map.old) }
 {
     let mut draft = [0u8; DRAFT];
     let mut keys = [0u32; Layout::MAP_CELLS];

@@ -1,13 +1,13 @@
 // The sections of a text: a statement more, a section's end, and what a thread's line adds.
 ghost use Rattle.std.specs.Prelude.{◌≡◌, ◌≤◌, ◌<◌, length, set};
-ghost use Rattle.text_drafts.specs.Blocks.{draftLength};
-ghost use Rattle.text.specs.Answers.{longestText};
+ghost use Rattle.text_drafts.specs.Blocks.{draft_length};
+ghost use Rattle.text.specs.Answers.{longest_text};
 ghost use Rattle.text_lines.specs.Lines.{lines};
 ghost use Rattle.text_lines.specs.declared.Form.{Form};
 ghost use Rattle.text.specs.Readings.{Adds, Closes, States, Takes, ReadsLines};
-ghost use Rattle.text.specs.Sections.{halt as haltOf, dots};
-ghost use Rattle.records.specs.Sets.{mostThreads};
-ghost use Rattle.records.specs.Maps.{setCells};
+ghost use Rattle.text.specs.Sections.{halt as halt_of, dots};
+ghost use Rattle.records.specs.Sets.{most_threads};
+ghost use Rattle.records.specs.Maps.{set_cells};
 
 use crate::{Reading, map};
 use records::instructions::{HALT, is_last};
@@ -17,8 +17,8 @@ use text_lines::{Form, Stated};
 
 // The counts with n for thread t.
 fn with_count(counts: [u16; Layout::THREADS], t: u16, n: u16) -> [u16; Layout::THREADS]
-    requires { t < mostThreads }
-    ensures { (result ≡ set counts t n) × (length counts ≡ mostThreads) }
+    requires { t < most_threads }
+    ensures { (result ≡ set counts t n) × (length counts ≡ most_threads) }
 {
     let mut after = counts;
     after[t as usize] = n;
@@ -46,7 +46,7 @@ fn add(r: Reading, draft: &mut [u8], x: Stated) -> Reading
 
 // The HALT that a thread gains.
 fn halt() -> Stated
-    ensures { result ≡ haltOf }
+    ensures { result ≡ halt_of }
 {
     Stated {
         form: Form::Good,
@@ -127,7 +127,7 @@ fn take_line(l: &[u8], left: u16, r: Reading, draft: &mut [u8], keys: &mut [u32]
 
 // How many lines end a section.
 fn count_dots(text: &[u8]) -> u16
-    requires { length text.now ≤ longestText }
+    requires { length text.now ≤ longest_text }
     ensures { (result ≡ dots (lines text.now)) × (result ≤ 16385) }
 {
     let mut found: u16 = 0;
@@ -143,7 +143,7 @@ fn count_dots(text: &[u8]) -> u16
 
 // Takes the lines one by one, up to the first that is refused; threads are kept where there are 1 to 4.
 fn read_lines(text: &[u8], draft: &mut [u8], keys: &mut [u32]) -> Reading
-    requires { (length text.now ≤ longestText) × (length draft.old ≡ draftLength) × (length keys.old ≡ setCells) }
+    requires { (length text.now ≤ longest_text) × (length draft.old ≡ draft_length) × (length keys.old ≡ set_cells) }
     ensures { ReadsLines text.now result draft.new keys.new }
 {
     let total = count_dots(text);
@@ -171,8 +171,8 @@ fn read_lines(text: &[u8], draft: &mut [u8], keys: &mut [u32]) -> Reading
 
 // Keeps what the lines of a text hold; 1 refuses a text above 16,384 bytes.
 pub fn read(text: &[u8], draft: &mut [u8], keys: &mut [u32]) -> Reading
-    ensures { (longestText < length text.now → (result.refusal ≡ 1) × (result.line ≡ 0))
-        × (length text.now ≤ longestText → length draft.old ≡ draftLength → length keys.old ≡ setCells → ReadsLines text.now result draft.new keys.new) }
+    ensures { (longest_text < length text.now → (result.refusal ≡ 1) × (result.line ≡ 0))
+        × (length text.now ≤ longest_text → length draft.old ≡ draft_length → length keys.old ≡ set_cells → ReadsLines text.now result draft.new keys.new) }
 {
     let fit = (text.len() <= Reading::TEXT)
         & (draft.len() == DRAFT)

@@ -2,11 +2,11 @@
 ghost use Rattle.std.specs.Prelude.{◌≡◌, ℕ, ◌+◌, ◌*◌, ◌≤◌, ◌<◌, ◌++◌, length, take, get_or};
 ghost use Rattle.base.specs.Below.{least};
 ghost use Rattle.base.specs.Bytes.{same};
-ghost use Rattle.text.specs.Answers.{doubledAt, targetFits, threadFits, labelsFit, checkpointsFit};
+ghost use Rattle.text.specs.Answers.{doubled_at, target_fits, thread_fits, labels_fit, checkpoints_fit};
 ghost use Rattle.text_drafts.specs.Blocks.{block_at};
-ghost use Rattle.text.specs.Drafts.{drafted, threadsIn, fourFit};
-ghost use Rattle.text.specs.Records.{joined, isNamed, argumentOf, statementBytes, setBytes, statements};
-ghost use Rattle.records.specs.Sets.{mostThreads, mostStatements, recordLength, mostRecords};
+ghost use Rattle.text.specs.Drafts.{drafted, threads_in, four_fit};
+ghost use Rattle.text.specs.Records.{joined, is_named, argument_of, statement_bytes, set_bytes, statements};
+ghost use Rattle.records.specs.Sets.{most_threads, most_statements, record_length, most_records};
 
 use crate::Reading;
 use records::instructions::is_jump;
@@ -15,7 +15,7 @@ use text_lines::Stated;
 
 // Whether a label is there.
 fn is_named(label: &[u8]) -> bool
-    ensures { result ≡ isNamed label.now }
+    ensures { result ≡ is_named label.now }
 {
     let none = [0u8; Stated::LABEL];
     !text_drafts::same_label(label, &none)
@@ -23,7 +23,7 @@ fn is_named(label: &[u8]) -> bool
 
 // The first of thread t's first n statements that has a label, n where none has.
 fn find(draft: &[u8], t: u16, n: u16, label: &[u8]) -> u16
-    ensures { result ≡ least n (λ p. same (block_at draft.now (mostStatements * t + p)).label label.now) }
+    ensures { result ≡ least n (λ p. same (block_at draft.now (most_statements * t + p)).label label.now) }
 {
     let mut p: u16 = 0;
     while p < n {
@@ -39,7 +39,7 @@ fn find(draft: &[u8], t: u16, n: u16, label: &[u8]) -> u16
 // The argument of thread t's statement p.
 fn argument(draft: &[u8], t: u16, n: u16, p: u16) -> u16
     requires { p < n }
-    ensures { result ≡ argumentOf n (drafted draft.now t n) p }
+    ensures { result ≡ argument_of n (drafted draft.now t n) p }
 {
     let k = text_drafts::block(t, p);
     let target = text_drafts::target(draft, k);
@@ -52,7 +52,7 @@ fn argument(draft: &[u8], t: u16, n: u16, p: u16) -> u16
 // Whether the label of thread t's statement p is doubled: one before p has it.
 fn is_doubled(draft: &[u8], t: u16, n: u16, p: u16) -> bool
     requires { p < n }
-    ensures { result ≡ doubledAt (drafted draft.now t n) p }
+    ensures { result ≡ doubled_at (drafted draft.now t n) p }
 {
     let label = text_drafts::label(draft, text_drafts::block(t, p));
     if is_named(label) {
@@ -64,7 +64,7 @@ fn is_doubled(draft: &[u8], t: u16, n: u16, p: u16) -> bool
 // Whether the target of thread t's statement p, if it jumps, is one of its statements.
 fn target_fits(draft: &[u8], t: u16, n: u16, p: u16) -> bool
     requires { p < n }
-    ensures { result ≡ targetFits n (drafted draft.now t n) p }
+    ensures { result ≡ target_fits n (drafted draft.now t n) p }
 {
     let number = text_drafts::number(draft, text_drafts::block(t, p));
     if is_jump(number) {
@@ -75,7 +75,7 @@ fn target_fits(draft: &[u8], t: u16, n: u16, p: u16) -> bool
 
 // Whether thread t's labels are neither doubled nor unknown, and its targets not beyond it.
 fn fits(draft: &[u8], t: u16, n: u16) -> bool
-    ensures { result ≡ threadFits n (drafted draft.now t n) }
+    ensures { result ≡ thread_fits n (drafted draft.now t n) }
 {
     let mut p: u16 = 0;
     while p < n {
@@ -92,7 +92,7 @@ fn fits(draft: &[u8], t: u16, n: u16) -> bool
 
 // Whether every thread that has ended keeps the rules of labels.
 pub fn labels_fit(draft: &[u8], ended: u16, counts: [u16; Layout::THREADS]) -> bool
-    ensures { result ≡ labelsFit (threadsIn draft.now ended counts) }
+    ensures { result ≡ labels_fit (threads_in draft.now ended counts) }
 {
     let mut t: u16 = 0;
     while t < ended {
@@ -107,7 +107,7 @@ pub fn labels_fit(draft: &[u8], ended: u16, counts: [u16; Layout::THREADS]) -> b
 // The record of thread t's statement p.
 fn bytes_of(draft: &[u8], t: u16, n: u16, p: u16) -> [u8; Statement::SIZE]
     requires { (p < n) × (t < 256) }
-    ensures { result ≡ statementBytes t n (drafted draft.now t n) p }
+    ensures { result ≡ statement_bytes t n (drafted draft.now t n) p }
 {
     let k = text_drafts::block(t, p);
     let argument = argument(draft, t, n, p);
@@ -125,8 +125,8 @@ fn bytes_of(draft: &[u8], t: u16, n: u16, p: u16) -> [u8; Statement::SIZE]
 
 // Writes thread t's records after the first k of a set.
 fn write(draft: &[u8], t: u16, n: u16, set: &mut [u8], k: u16)
-    requires { (t < mostThreads) × (recordLength * k + recordLength * n ≤ length set.old) }
-    ensures { (take (recordLength * k + recordLength * n) set.new ≡ take (recordLength * k) set.old ++ joined n (statementBytes t n (drafted draft.now t n)))
+    requires { (t < most_threads) × (record_length * k + record_length * n ≤ length set.old) }
+    ensures { (take (record_length * k + record_length * n) set.new ≡ take (record_length * k) set.old ++ joined n (statement_bytes t n (drafted draft.now t n)))
         × (length set.new ≡ length set.old) }
 {
     let start = 8 * (k as usize);
@@ -140,8 +140,8 @@ fn write(draft: &[u8], t: u16, n: u16, set: &mut [u8], k: u16)
 
 // Writes the records of the threads that have ended, and gives their number.
 fn write_threads(draft: &[u8], ended: u16, counts: [u16; Layout::THREADS], set: &mut [u8]) -> u16
-    requires { (ended ≤ mostThreads) × ((t : ℕ) → get_or counts t 0 ≤ mostStatements) × (recordLength * mostRecords ≤ length set.old) }
-    ensures { (result ≡ statements (threadsIn draft.now ended counts)) × (result ≤ mostRecords) × (take (recordLength * result) set.new ≡ setBytes (threadsIn draft.now ended counts)) }
+    requires { (ended ≤ most_threads) × ((t : ℕ) → get_or counts t 0 ≤ most_statements) × (record_length * most_records ≤ length set.old) }
+    ensures { (result ≡ statements (threads_in draft.now ended counts)) × (result ≤ most_records) × (take (record_length * result) set.new ≡ set_bytes (threads_in draft.now ended counts)) }
 {
     let mut k: u16 = 0;
     let mut t: u16 = 0;
@@ -156,15 +156,15 @@ fn write_threads(draft: &[u8], ended: u16, counts: [u16; Layout::THREADS], set: 
 
 // Whether no thread has more than 32 statements.
 fn counts_fit(counts: [u16; Layout::THREADS]) -> bool
-    ensures { (result ≡ fourFit counts) × (length counts ≡ mostThreads) }
+    ensures { (result ≡ four_fit counts) × (length counts ≡ most_threads) }
 {
     (counts[0] <= 32) & (counts[1] <= 32) & (counts[2] <= 32) & (counts[3] <= 32)
 }
 
 // Writes the records of the threads that have ended, where they fit, and gives their number.
 pub fn assemble(draft: &[u8], ended: u16, counts: [u16; Layout::THREADS], set: &mut [u8]) -> u16
-    ensures { (ended ≤ mostThreads → ((t : ℕ) → get_or counts t 0 ≤ mostStatements) → recordLength * mostRecords ≤ length set.old →
-        (result ≡ statements (threadsIn draft.now ended counts)) × (result ≤ mostRecords) × (take (recordLength * result) set.new ≡ setBytes (threadsIn draft.now ended counts)))
+    ensures { (ended ≤ most_threads → ((t : ℕ) → get_or counts t 0 ≤ most_statements) → record_length * most_records ≤ length set.old →
+        (result ≡ statements (threads_in draft.now ended counts)) × (result ≤ most_records) × (take (record_length * result) set.new ≡ set_bytes (threads_in draft.now ended counts)))
         × (length set.new ≡ length set.old) }
 {
     let fit = (ended <= Reading::THREADS) & counts_fit(counts) & (Layout::SET <= set.len());
@@ -176,7 +176,7 @@ pub fn assemble(draft: &[u8], ended: u16, counts: [u16; Layout::THREADS], set: &
 
 // Whether the first n records of a set have at most 8 different checkpoints.
 pub fn checkpoints_fit(set: &[u8], n: u16) -> bool
-    ensures { recordLength * n ≤ length set.now → result ≡ checkpointsFit (take (recordLength * n) set.now) }
+    ensures { record_length * n ≤ length set.now → result ≡ checkpoints_fit (take (record_length * n) set.now) }
 {
     let size = 8 * (n as usize);
     if size <= set.len() {

@@ -10,7 +10,7 @@ use lib.Dec.{eqb}
 use lib.ListN.{length, get_or, take, drop}
 use lib.Seq.{take_all}
 use borrow.Author.Tests.{eq-eqb, ne_eqb}
-use Rattle.base.specs.Bytes.{wordAt, placed}
+use Rattle.base.specs.Bytes.{word_at, placed}
 use Rattle.base.proofs.Bytes.{length-placed}
 use Rattle.base.proofs.Choice.{chosen, passed}
 use Rattle.text_lines.specs.declared.Form.TheVariants.{Good}
@@ -97,7 +97,7 @@ module _ (x : Stated) (k : ℕ) (d d₁ d₂ d₃ : List ℕ)
         ∙ ap (λ (s : List ℕ). take 1 (drop (36 * k + i) s)) e₁
         ∙ part_at d (36 * k) _ fits₁ i 1 (omega arith))
 
-    word-is : wordAt d₃ (36 * k + 2) ≡ x.argument
+    word-is : word_at d₃ (36 * k + 2) ≡ x.argument
     word-is =
         ap₂ (λ (low high : ℕ). low + 256 * high) (number_is 2 (omega arith)) (ap (λ (i : ℕ). get_or d₃ i 0) (add_assoc (36 * k) 2 1) ∙ number_is 3 (omega arith))
         ∙ omega arith

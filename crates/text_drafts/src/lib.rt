@@ -2,10 +2,10 @@
 pub mod keys;
 
 ghost use Rattle.std.specs.Prelude.{◌≡◌, ◌+◌, ◌*◌, length, drop, take, get_or};
-ghost use Rattle.base.specs.Bytes.{same, wordAt};
-ghost use Rattle.text_drafts.specs.Blocks.{blockLength, stored};
-ghost use Rattle.records.specs.Sets.{mostStatements};
-ghost use Rattle.text_lines.specs.Lines.{longestLabel};
+ghost use Rattle.base.specs.Bytes.{same, word_at};
+ghost use Rattle.text_drafts.specs.Blocks.{block_length, stored};
+ghost use Rattle.records.specs.Sets.{most_statements};
+ghost use Rattle.text_lines.specs.Lines.{longest_label};
 
 use records::Layout;
 use text_lines::Stated;
@@ -51,49 +51,49 @@ pub fn count(counts: [u16; Layout::THREADS], t: u16) -> u16
 
 // The block of thread t's statement p.
 pub fn block(t: u16, p: u16) -> u32
-    ensures { result ≡ mostStatements * t + p }
+    ensures { result ≡ most_statements * t + p }
 {
     (Layout::STATEMENTS as u32) * (t as u32) + (p as u32)
 }
 
 // The label of block k.
 pub fn label(draft: &[u8], k: u32) -> &[u8]
-    ensures { result.now ≡ take longestLabel (drop (blockLength * k + 4) draft.now) }
+    ensures { result.now ≡ take longest_label (drop (block_length * k + 4) draft.now) }
 {
     part(draft, BLOCK * (k as usize) + LABEL, Stated::LABEL)
 }
 
 // The target of block k.
 pub fn target(draft: &[u8], k: u32) -> &[u8]
-    ensures { result.now ≡ take longestLabel (drop (blockLength * k + 20) draft.now) }
+    ensures { result.now ≡ take longest_label (drop (block_length * k + 20) draft.now) }
 {
     part(draft, BLOCK * (k as usize) + TARGET, Stated::LABEL)
 }
 
 // The instruction number of block k.
 pub fn number(draft: &[u8], k: u32) -> u8
-    ensures { result ≡ get_or draft.now (blockLength * k) 0 }
+    ensures { result ≡ get_or draft.now (block_length * k) 0 }
 {
     base::byte_at(draft, BLOCK * (k as usize))
 }
 
 // The mode of block k.
 pub fn mode(draft: &[u8], k: u32) -> u8
-    ensures { result ≡ get_or draft.now (blockLength * k + 1) 0 }
+    ensures { result ≡ get_or draft.now (block_length * k + 1) 0 }
 {
     base::byte_at(draft, BLOCK * (k as usize) + MODE)
 }
 
 // The argument of block k.
 pub fn argument(draft: &[u8], k: u32) -> u16
-    ensures { result ≡ wordAt draft.now (blockLength * k + 2) }
+    ensures { result ≡ word_at draft.now (block_length * k + 2) }
 {
     base::word_at(draft, BLOCK * (k as usize) + ARGUMENT)
 }
 
 // Puts a statement into block k, if there is room.
 pub fn put(draft: &mut [u8], k: u32, x: Stated)
-    ensures { (draft.new ≡ stored draft.old k x) × (length x.label ≡ longestLabel) × (length x.target ≡ longestLabel) }
+    ensures { (draft.new ≡ stored draft.old k x) × (length x.label ≡ longest_label) × (length x.target ≡ longest_label) }
 {
     let at = BLOCK * (k as usize);
     let label = x.label;
@@ -111,7 +111,7 @@ pub fn put(draft: &mut [u8], k: u32, x: Stated)
 
 // Whether two labels of sixteen bytes are the same. Sixteen tests without a branch are one comparison of the machine.
 fn sixteen(a: &[u8], b: &[u8]) -> bool
-    requires { (length a.now ≡ longestLabel) × (length b.now ≡ longestLabel) }
+    requires { (length a.now ≡ longest_label) × (length b.now ≡ longest_label) }
     ensures { result ≡ same a.now b.now }
 {
     (a[0] == b[0])

@@ -12,8 +12,8 @@ use lib.ListN.{length, get_or, take, drop, length-drop}
 use lib.Seq.{drop-cons, drop-drop, drop-length, take_all}
 use Rattle.base.specs.Below.{every}
 use Rattle.base.proofs.Choice.{chosen, passed, and_left, and_right}
-use Rattle.text_lines.specs.Characters.{isDigit, first, run}
-use Rattle.text_lines.specs.Lines.{isLabel}
+use Rattle.text_lines.specs.Characters.{is_digit, first, run}
+use Rattle.text_lines.specs.Lines.{is_label}
 
 -- A run that has come to index i goes on at a byte that passes, and ends at one that does not and at the end.
 module _ (test : ℕ → Bool) (s : List ℕ) (i : ℕ) (e : run test s ≡ i + run test (drop i s)) where
@@ -23,9 +23,9 @@ module _ (test : ℕ → Bool) (s : List ℕ) (i : ℕ) (e : run test s ≡ i + 
       let k : run test (drop i s) ≡ suc (run test (drop (i + 1) s)) = rw (add-one, drop-cons s i 0 h) (chosen _ _ t) in
       omega (arith, e, k)
 
-  pub run-stopped : i < length s → test (get_or s i 0) ≡ false → i ≡ run test s
+  pub run_stopped : i < length s → test (get_or s i 0) ≡ false → i ≡ run test s
   unfolding run
-  run-stopped h t =
+  run_stopped h t =
       let k : run test (drop i s) ≡ 0 = rw (drop-cons s i 0 h) (passed _ _ t) in
       omega (arith, e, k)
 
@@ -56,8 +56,8 @@ run_by test s i n e h t =
     omega (arith, e, k)
 
 -- a label fits in sixteen bytes
-pub label-short : (w : List ℕ) → isLabel w ≡ true → length w < 17
-unfolding isLabel
+pub label-short : (w : List ℕ) → is_label w ≡ true → length w < 17
+unfolding is_label
 label-short w t =
-    let h = leb-true (length w) 16 (and_right (ltb 0 (length w)) (leb (length w) 16) (and_left (ltb 0 (length w) && leb (length w) 16) (not (isDigit (first w))) t)) in
+    let h = leb-true (length w) 16 (and_right (ltb 0 (length w)) (leb (length w) 16) (and_left (ltb 0 (length w) && leb (length w) 16) (not (is_digit (first w))) t)) in
     omega (arith, h)

@@ -8,9 +8,9 @@ use mathlib.Core.List.{List, [], ◌∷◌, ◌++◌, map}
 use Rattle.base.specs.Below.{least}
 use Rattle.base.specs.Bytes.{same, over}
 use Rattle.records.specs.Instructions.{LOAD, FENCE, ADDI, JMP, JNZNS, HALT, CHECK, words, word_of}
-use Rattle.text_lines.specs.Characters.{run, valueAfter}
-use Rattle.text_lines.specs.Lines.{lines, isDot, noStatement, padded, isLabel, stated, numbered, bracketed, targeted, argued, afterWord, worded, labelled, statement, statementLine}
-use Rattle.text_lines.specs.Lines.{noCell, valued, addressed, cell, mapLine}
+use Rattle.text_lines.specs.Characters.{run, value_after}
+use Rattle.text_lines.specs.Lines.{lines, is_dot, no_statement, padded, is_label, stated, numbered, bracketed, targeted, argued, after_word, worded, labelled, statement, statement_line}
+use Rattle.text_lines.specs.Lines.{no_cell, valued, addressed, cell, map_line}
 use Rattle.text_lines.specs.declared.Cell.{Cell}
 use Rattle.text_lines.specs.declared.Form.TheVariants.{Empty, Malformed, Large, Good}
 use Rattle.text_lines.specs.declared.Stated.{Stated}
@@ -37,7 +37,7 @@ holds label number mode argument target =
 
 -- numbers, brackets, and comments straight after an item
 good-arguments :
-    Gives statementLine
+    Gives statement_line
     (("ADDI 1", holds "" ADDI 0 1 "")
     ∷ ("ADDI 0000000001", holds "" ADDI 0 1 "")
     ∷ ("ADDI 65535", holds "" ADDI 0 65535 "")
@@ -48,12 +48,12 @@ good-arguments :
     ∷ (" FENCE\t# a # . :", holds "" FENCE 0 0 "")
     ∷ ("CHECK 7", holds "" CHECK 0 7 "")
     ∷ ("JMP 65535", holds "" JMP 0 65535 "") ∷ [])
-unfolding bytes run valueAfter padded over isLabel stated numbered bracketed targeted argued afterWord worded labelled statement statementLine least same words word_of holds
+unfolding bytes run value_after padded over is_label stated numbered bracketed targeted argued after_word worded labelled statement statement_line least same words word_of holds
 good-arguments = refl
 
 -- a label with and without blanks around the colon; one that is an instruction's word, in both places; one of 16 characters
 good-labels :
-    Gives statementLine
+    Gives statement_line
     (("a:HALT", holds "a" HALT 0 0 "")
     ∷ ("a :HALT", holds "a" HALT 0 0 "")
     ∷ ("a: HALT", holds "a" HALT 0 0 "")
@@ -63,7 +63,7 @@ good-labels :
     ∷ ("JMP: JMP JMP", holds "JMP" JMP 0 0 "JMP")
     ∷ ("CMP: HALT", holds "CMP" HALT 0 0 "")
     ∷ ("_b23456789012345: JNZNS _b23456789012345", holds "_b23456789012345" JNZNS 0 0 "_b23456789012345") ∷ [])
-unfolding bytes run valueAfter padded over isLabel stated numbered bracketed targeted argued afterWord worded labelled statement statementLine least same words word_of holds
+unfolding bytes run value_after padded over is_label stated numbered bracketed targeted argued after_word worded labelled statement statement_line least same words word_of holds
 good-labels = refl
 
 -- n zeros before the rest
@@ -72,31 +72,31 @@ zeros zero rest = rest
 zeros (suc n) rest = 48 ∷ zeros n rest
 
 -- any number of leading zeros
-five-thousand-zeros : statementLine (bytes "ADDI " ++ zeros 5000 (bytes "1")) ≡ holds "" ADDI 0 1 ""
-unfolding bytes run valueAfter padded over isLabel stated numbered bracketed targeted argued afterWord worded labelled statement statementLine least same words word_of holds zeros
-five-thousand-zeros = refl
+five_thousand_zeros : statement_line (bytes "ADDI " ++ zeros 5000 (bytes "1")) ≡ holds "" ADDI 0 1 ""
+unfolding bytes run value_after padded over is_label stated numbered bracketed targeted argued after_word worded labelled statement statement_line least same words word_of holds zeros
+five_thousand_zeros = refl
 
 -- lines without a statement
 empty-lines :
-    Each statementLine
+    Each statement_line
     ("" ∷ " \t " ∷  -- nothing, blanks
     "# HALT" ∷ "\t#" ∷ [])  -- comments
-    (noStatement Empty)
-unfolding bytes run valueAfter padded over isLabel stated numbered bracketed targeted argued afterWord worded labelled statement statementLine least same words word_of
+    (no_statement Empty)
+unfolding bytes run value_after padded over is_label stated numbered bracketed targeted argued after_word worded labelled statement statement_line least same words word_of
 empty-lines = refl
 
 -- a number above 65,535
 large-lines :
-    Each statementLine
+    Each statement_line
     ("ADDI 65536" ∷ "JMP 65536" ∷ "LOAD [65536]" ∷  -- in each kind of argument
     "a: EXIT 99999999999999999999999999" ∷ [])  -- of many digits
-    (noStatement Large)
-unfolding bytes run valueAfter padded over isLabel stated numbered bracketed targeted argued afterWord worded labelled statement statementLine least same words word_of
+    (no_statement Large)
+unfolding bytes run value_after padded over is_label stated numbered bracketed targeted argued after_word worded labelled statement statement_line least same words word_of
 large-lines = refl
 
 -- malformed lines and forbidden bytes
 malformed-lines :
-    Each statementLine
+    Each statement_line
     ("a:" ∷ ": HALT" ∷ "a: b: HALT" ∷  -- label or statement lacking, two labels
     "_b234567890123456: HALT" ∷ "JMP _b234567890123456" ∷  -- a label of 17 characters
     "a-b: HALT" ∷ "JMP a-b" ∷ "1a: HALT" ∷ "JMP 1a" ∷  -- another character in a label, a digit first
@@ -108,8 +108,8 @@ malformed-lines :
     ".." ∷ ". ." ∷ ". # x" ∷ ".#" ∷  -- not dot lines
     "ADDI 65536 x" ∷ "ADDI 65536 #\r" ∷ "FENCE 65536" ∷ "JMP [65536]" ∷  -- 2 before 3 in a line
     "HALT\r" ∷ "HALT # \r" ∷ "# \0" ∷ "\u{b}" ∷ "HALT \u{c}" ∷ "# \u{7f}" ∷ "# \u{80}" ∷ [])  -- forbidden bytes, in a comment too
-    (noStatement Malformed)
-unfolding bytes run valueAfter padded over isLabel stated numbered bracketed targeted argued afterWord worded labelled statement statementLine least same words word_of
+    (no_statement Malformed)
+unfolding bytes run value_after padded over is_label stated numbered bracketed targeted argued after_word worded labelled statement statement_line least same words word_of
 malformed-lines = refl
 
 -- ---- map cells
@@ -118,48 +118,48 @@ malformed-lines = refl
 pair : ℕ → ℕ → Cell
 pair address value = record { form = Good; address = address; value = value }
 
-good-cells : Gives mapLine (("1 2", pair 1 2) ∷ (" 01\t2 # x", pair 1 2) ∷ ("65535 0#", pair 65535 0) ∷ [])
-unfolding bytes run valueAfter valued addressed cell mapLine pair
+good-cells : Gives map_line (("1 2", pair 1 2) ∷ (" 01\t2 # x", pair 1 2) ∷ ("65535 0#", pair 65535 0) ∷ [])
+unfolding bytes run value_after valued addressed cell map_line pair
 good-cells = refl
 
 -- lines without a cell
 empty-map-lines :
-    Each mapLine
+    Each map_line
     ("" ∷ " \t " ∷ "# 1 2" ∷ [])  -- nothing, blanks, a comment
-    (noCell Empty)
-unfolding bytes run valueAfter valued addressed cell mapLine
+    (no_cell Empty)
+unfolding bytes run value_after valued addressed cell map_line
 empty-map-lines = refl
 
 -- a number above 65,535
 large-cells :
-    Each mapLine
+    Each map_line
     ("65536 1" ∷ "1 65536" ∷ "99999999999999999999999999 65536" ∷ [])  -- either, or both
-    (noCell Large)
-unfolding bytes run valueAfter valued addressed cell mapLine
+    (no_cell Large)
+unfolding bytes run value_after valued addressed cell map_line
 large-cells = refl
 
 -- malformed lines and forbidden bytes
 malformed-cells :
-    Each mapLine
+    Each map_line
     ("1" ∷ "1 " ∷ "1 2 3" ∷  -- one number, three
     "EXIT 1" ∷ "1 -2" ∷ "1,2" ∷ "[1] 2" ∷  -- not two numbers parted by blanks
     ".." ∷ ". # x" ∷  -- not dot lines
     "65536" ∷ "65536 x" ∷ "1 65536 x" ∷  -- 2 before 3 in a line
     "1 2 # \r" ∷ [])  -- a forbidden byte in a comment
-    (noCell Malformed)
-unfolding bytes run valueAfter valued addressed cell mapLine
+    (no_cell Malformed)
+unfolding bytes run value_after valued addressed cell map_line
 malformed-cells = refl
 
 -- ---- lines
 
 -- one dot and blanks
-dots : Each isDot ("." ∷ " .\t" ∷ []) true
-unfolding bytes run isDot
+dots : Each is_dot ("." ∷ " .\t" ∷ []) true
+unfolding bytes run is_dot
 dots = refl
 
 -- two dots, a comment, another byte, nothing
-no-dots : Each isDot (".." ∷ ". ." ∷ ". # x" ∷ ".#" ∷ ".\r" ∷ "a." ∷ "" ∷ []) false
-unfolding bytes run isDot
+no-dots : Each is_dot (".." ∷ ". ." ∷ ". # x" ∷ ".#" ∷ ".\r" ∷ "a." ∷ "" ∷ []) false
+unfolding bytes run is_dot
 no-dots = refl
 
 -- with and without a last LF

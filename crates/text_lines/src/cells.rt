@@ -1,12 +1,12 @@
 // What a line of the map holds: "address value".
 ghost use Rattle.std.specs.Prelude.{◌≡◌};
-ghost use Rattle.text_lines.specs.Lines.{noCell, cell_of, valued as valuedOf, addressed as addressedOf, cell as cellIn, mapLine};
+ghost use Rattle.text_lines.specs.Lines.{no_cell, cell_of, valued as valued_of, addressed as addressed_of, cell as cell_in, map_line};
 
 use crate::{Cell, Class, Form, items};
 
 // A line that holds no cell.
 fn none(form: Form) -> Cell
-    ensures { result ≡ noCell form }
+    ensures { result ≡ no_cell form }
 {
     Cell {
         form,
@@ -32,7 +32,7 @@ fn pair(address: u32, value: u32) -> Cell
 
 // The value, and nothing after it.
 fn valued(address: u32, s: &[u8]) -> Cell
-    ensures { result ≡ valuedOf address s.now }
+    ensures { result ≡ valued_of address s.now }
 {
     let v = items::value(s);
     if items::is_number(s) {
@@ -43,7 +43,7 @@ fn valued(address: u32, s: &[u8]) -> Cell
 
 // The address, blanks, and what follows them; s starts with no blank.
 fn addressed(s: &[u8]) -> Cell
-    ensures { result ≡ addressedOf s.now }
+    ensures { result ≡ addressed_of s.now }
 {
     let n = items::run(s, Class::Digit);
     let parted = (0 < n) & items::is_blank(base::byte_at(items::past(s, n), 0));
@@ -55,7 +55,7 @@ fn addressed(s: &[u8]) -> Cell
 
 // A line without its comment.
 fn cell(s: &[u8]) -> Cell
-    ensures { result ≡ cellIn s.now }
+    ensures { result ≡ cell_in s.now }
 {
     if items::only_blanks(s) {
         return none(Form::Empty);
@@ -65,7 +65,7 @@ fn cell(s: &[u8]) -> Cell
 
 // What a line of the map holds.
 pub fn map_line(l: &[u8]) -> Cell
-    ensures { result ≡ mapLine l.now }
+    ensures { result ≡ map_line l.now }
 {
     let code = items::uncommented(l);
     if items::is_allowed(l) {

@@ -1,25 +1,25 @@
 // The items of a line, at the start of a slice: blanks, names, numbers, signs.
 ghost use Rattle.std.specs.Prelude.{◌≡◌, ◌+◌, ◌-◌, ◌*◌, ◌≤◌, min, true, not, ◌&&◌, eqb, ltb, length, drop, take, get_or};
 ghost use Rattle.base.specs.Below.{every};
-ghost use Rattle.text_lines.specs.Characters.{allowedByte as allowedOf, isBlank, isDigit, digits, pastDigits, test_of, run as run_of, skip as skipOf, onlyBlanks, endsWith, value as value_of, valueAfter};
-ghost use Rattle.text_lines.specs.Lines.{isAllowed, uncommented as uncommentedOf};
+ghost use Rattle.text_lines.specs.Characters.{allowed_byte as allowed_of, is_blank, is_digit, digits, past_digits, test_of, run as run_of, skip as skip_of, only_blanks, ends_with, value as value_of, value_after};
+ghost use Rattle.text_lines.specs.Lines.{is_allowed, uncommented as uncommented_of};
 
 use crate::Class;
 
 pub fn is_blank(b: u8) -> bool
-    ensures { result ≡ isBlank b }
+    ensures { result ≡ is_blank b }
 {
     (b == 32) | (b == 9)
 }
 
 pub fn is_digit(b: u8) -> bool
-    ensures { result ≡ isDigit b }
+    ensures { result ≡ is_digit b }
 {
     (48 <= b) & (b <= 57)
 }
 
 fn allowed(b: u8) -> bool
-    ensures { result ≡ allowedOf b }
+    ensures { result ≡ allowed_of b }
 {
     (b == 9) | (b == 10) | ((32 <= b) & (b <= 126))
 }
@@ -58,7 +58,7 @@ fn eight_but(b: u8, s: &[u8]) -> bool
 // Whether the first eight bytes of s are allowed.
 fn eight_allowed(s: &[u8]) -> bool
     requires { 8 ≤ length s.now }
-    ensures { result ≡ every 8 (λ k. allowedOf (get_or s.now k 0)) }
+    ensures { result ≡ every 8 (λ k. allowed_of (get_or s.now k 0)) }
 {
     allowed(s[0])
         & allowed(s[1])
@@ -127,7 +127,7 @@ pub fn past(s: &[u8], n: usize) -> &[u8]
 
 // s past the blanks at its start.
 pub fn skip(s: &[u8]) -> &[u8]
-    ensures { result.now ≡ skipOf s.now }
+    ensures { result.now ≡ skip_of s.now }
 {
     let n = run(s, Class::Blank);
     &s[n..]
@@ -135,14 +135,14 @@ pub fn skip(s: &[u8]) -> &[u8]
 
 // Whether s holds only blanks.
 pub fn only_blanks(s: &[u8]) -> bool
-    ensures { result ≡ onlyBlanks s.now }
+    ensures { result ≡ only_blanks s.now }
 {
     run(s, Class::Blank) == s.len()
 }
 
 // Whether s is byte b and nothing after it but blanks.
 pub fn ends_with(b: u8, s: &[u8]) -> bool
-    ensures { result ≡ endsWith b s.now }
+    ensures { result ≡ ends_with b s.now }
 {
     (base::byte_at(s, 0) == b) & only_blanks(past(s, 1))
 }
@@ -189,7 +189,7 @@ pub fn value(s: &[u8]) -> u32
 
 // Whether s is a number and nothing after it but blanks.
 pub fn is_number(s: &[u8]) -> bool
-    ensures { result ≡ (ltb 0 (digits s.now) && onlyBlanks (pastDigits s.now)) }
+    ensures { result ≡ (ltb 0 (digits s.now) && only_blanks (past_digits s.now)) }
 {
     let n = run(s, Class::Digit);
     (0 < n) & only_blanks(past(s, n))
@@ -197,14 +197,14 @@ pub fn is_number(s: &[u8]) -> bool
 
 // Whether no byte of a line is forbidden.
 pub fn is_allowed(l: &[u8]) -> bool
-    ensures { result ≡ isAllowed l.now }
+    ensures { result ≡ is_allowed l.now }
 {
     run(l, Class::Allowed) == l.len()
 }
 
 // A line up to its comment.
 pub fn uncommented(l: &[u8]) -> &[u8]
-    ensures { result.now ≡ uncommentedOf l.now }
+    ensures { result.now ≡ uncommented_of l.now }
 {
     let n = run(l, Class::Code);
     &l[..n]

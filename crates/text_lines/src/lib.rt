@@ -4,8 +4,8 @@ mod items;
 pub mod statements;
 
 ghost use Rattle.std.specs.Prelude.{◌≡◌, drop};
-ghost use Rattle.text_lines.specs.Characters.{isInLine, run as run_of};
-ghost use Rattle.text_lines.specs.Lines.{isDot as isDotOf};
+ghost use Rattle.text_lines.specs.Characters.{is_in_line, run as run_of};
+ghost use Rattle.text_lines.specs.Lines.{is_dot as is_dot_of};
 
 // Classes of bytes.
 #[derive(Drop)]
@@ -53,14 +53,14 @@ impl Stated {
 
 // How many bytes the line has that starts a text.
 pub fn line_length(text: &[u8]) -> usize
-    ensures { result ≡ run_of isInLine text.now }
+    ensures { result ≡ run_of is_in_line text.now }
 {
     items::run(text, Class::InLine)
 }
 
 // Whether a line holds only "." and blanks.
 pub fn is_dot(l: &[u8]) -> bool
-    ensures { result ≡ isDotOf l.now }
+    ensures { result ≡ is_dot_of l.now }
 {
     items::ends_with(b'.', items::skip(l))
 }

@@ -1,7 +1,7 @@
 // What a thread's line holds: an optional label and ":", a word, and its argument.
 ghost use Rattle.std.specs.Prelude.{◌≡◌, min, ◌<◌, length};
 ghost use Rattle.records.specs.Instructions.{instructions};
-ghost use Rattle.text_lines.specs.Lines.{noStatement, padded as paddedOf, isLabel, stated as statedOf, numbered as numberedOf, bracketed as bracketedOf, targeted as targetedOf, argued as arguedOf, afterWord, worded as wordedOf, labelled as labelledOf, statement as statementOf, statementLine};
+ghost use Rattle.text_lines.specs.Lines.{no_statement, padded as padded_of, is_label, stated as stated_of, numbered as numbered_of, bracketed as bracketed_of, targeted as targeted_of, argued as argued_of, after_word, worded as worded_of, labelled as labelled_of, statement as statement_of, statement_line};
 
 use crate::{Class, Form, Stated, items};
 use records::Statement;
@@ -9,7 +9,7 @@ use records::instructions::{is_bare, is_jump, is_memory};
 
 // A line that holds no statement.
 fn none(form: Form) -> Stated
-    ensures { result ≡ noStatement form }
+    ensures { result ≡ no_statement form }
 {
     Stated {
         form,
@@ -24,7 +24,7 @@ fn none(form: Form) -> Stated
 // A label filled up with 0.
 fn padded(label: &[u8]) -> [u8; 16]
     requires { length label.now < 17 }
-    ensures { result ≡ paddedOf label.now }
+    ensures { result ≡ padded_of label.now }
 {
     let mut bytes = [0u8; Stated::LABEL];
     bytes::copy(label, &mut bytes);
@@ -33,14 +33,14 @@ fn padded(label: &[u8]) -> [u8; 16]
 
 // Whether a name is a label.
 fn is_label(w: &[u8]) -> bool
-    ensures { result ≡ isLabel w.now }
+    ensures { result ≡ is_label w.now }
 {
     (0 < w.len()) & (w.len() <= Stated::LABEL) & !items::is_digit(base::byte_at(w, 0))
 }
 
 // A statement whose argument, if it has one, is a number.
 fn stated(label: [u8; 16], number: u8, mode: u8, argument: u32) -> Stated
-    ensures { result ≡ statedOf label number mode argument }
+    ensures { result ≡ stated_of label number mode argument }
 {
     if 65535 < argument {
         return none(Form::Large);
@@ -57,7 +57,7 @@ fn stated(label: [u8; 16], number: u8, mode: u8, argument: u32) -> Stated
 
 // Number, and nothing after it.
 fn numbered(label: [u8; 16], number: u8, s: &[u8]) -> Stated
-    ensures { result ≡ numberedOf label number s.now }
+    ensures { result ≡ numbered_of label number s.now }
 {
     let v = items::value(s);
     if items::is_number(s) {
@@ -68,7 +68,7 @@ fn numbered(label: [u8; 16], number: u8, s: &[u8]) -> Stated
 
 // Number and "]", and nothing after it.
 fn bracketed(label: [u8; 16], number: u8, s: &[u8]) -> Stated
-    ensures { result ≡ bracketedOf label number s.now }
+    ensures { result ≡ bracketed_of label number s.now }
 {
     let n = items::run(s, Class::Digit);
     let whole = (0 < n) & items::ends_with(b']', items::skip(items::past(s, n)));
@@ -80,7 +80,7 @@ fn bracketed(label: [u8; 16], number: u8, s: &[u8]) -> Stated
 
 // Label, and nothing after it.
 fn targeted(label: [u8; 16], number: u8, s: &[u8]) -> Stated
-    ensures { result ≡ targetedOf label number s.now }
+    ensures { result ≡ targeted_of label number s.now }
 {
     let n = items::run(s, Class::Name);
     let w = items::front(s, n);
@@ -100,7 +100,7 @@ fn targeted(label: [u8; 16], number: u8, s: &[u8]) -> Stated
 
 // The argument, by the class of the word.
 fn argued(label: [u8; 16], number: u8, s: &[u8]) -> Stated
-    ensures { result ≡ arguedOf label number s.now }
+    ensures { result ≡ argued_of label number s.now }
 {
     let first = base::byte_at(s, 0);
     let indirect = is_memory(number) & (first == b'[');
@@ -116,7 +116,7 @@ fn argued(label: [u8; 16], number: u8, s: &[u8]) -> Stated
 
 // What follows the word.
 fn after_word(label: [u8; 16], number: u8, s: &[u8]) -> Stated
-    ensures { result ≡ afterWord label number s.now }
+    ensures { result ≡ after_word label number s.now }
 {
     if Statement::INSTRUCTIONS <= number {
         return none(Form::Malformed);
@@ -135,7 +135,7 @@ fn after_word(label: [u8; 16], number: u8, s: &[u8]) -> Stated
 
 // The word and what follows it.
 fn worded(label: [u8; 16], s: &[u8]) -> Stated
-    ensures { result ≡ wordedOf label s.now }
+    ensures { result ≡ worded_of label s.now }
 {
     let n = items::run(s, Class::Name);
     let number = records::instructions::number_of(items::front(s, n));
@@ -144,7 +144,7 @@ fn worded(label: [u8; 16], s: &[u8]) -> Stated
 
 // An optional label and ":", and what follows it.
 fn labelled(s: &[u8]) -> Stated
-    ensures { result ≡ labelledOf s.now }
+    ensures { result ≡ labelled_of s.now }
 {
     let n = items::run(s, Class::Name);
     let w = items::front(s, n);
@@ -160,7 +160,7 @@ fn labelled(s: &[u8]) -> Stated
 
 // A line without its comment.
 fn statement(s: &[u8]) -> Stated
-    ensures { result ≡ statementOf s.now }
+    ensures { result ≡ statement_of s.now }
 {
     if items::only_blanks(s) {
         return none(Form::Empty);
@@ -170,7 +170,7 @@ fn statement(s: &[u8]) -> Stated
 
 // What a thread's line holds.
 pub fn statement_line(l: &[u8]) -> Stated
-    ensures { result ≡ statementLine l.now }
+    ensures { result ≡ statement_line l.now }
 {
     let code = items::uncommented(l);
     if items::is_allowed(l) {

@@ -30,15 +30,15 @@ abbrev pub R : Lft → RattleType
 R κ = T.the_row (α κ)
 
 module _ {M : Type 1} {𝓤 : Ura M} (𝓛 : Logic 𝓤) (κ : Lft) (h : Reader) (b o : ℕ) where
-  pub lies-of : (v : Val) → ent 𝓤 (sep 𝓤 (sem 𝓛 (fat full_share (T'.mir erased) b o v)) (sem 𝓛 ((R κ).own h (v ∷ [])))) (sem 𝓛 ((mem (R κ)).own_at h b o))
+  pub lies_of : (v : Val) → ent 𝓤 (sep 𝓤 (sem 𝓛 (fat full_share (T'.mir erased) b o v)) (sem 𝓛 ((R κ).own h (v ∷ [])))) (sem 𝓛 ((mem (R κ)).own_at h b o))
   unfolding part_of
-  lies-of v =
+  lies_of v =
       qed 𝓛 (‵ (fat full_share (T'.mir erased) b o v) ∷ ‵ ((R κ).own h (v ∷ [])) ∷ []) ∵ use1 𝓛 (‵ (cell_at full_share (R κ).mir (v ∷ []) b o)) (𝓛.laws.at_raw full_share (T'.mir erased) b o v) $
       fjoin ! $ fpack ! (List Val) (λ us. fsep (cell_at full_share (R κ).mir us b o) ((R κ).own h us)) (v ∷ []) $ done !
 
-  pub of-lies : ent 𝓤 (sem 𝓛 ((mem (R κ)).own_at h b o)) (sep 𝓤 (sem 𝓛 (fat full_share (T'.mir erased) b o (T'.lowered h))) (sem 𝓛 ((R κ).own h (T'.lowered h ∷ []))))
+  pub of_lies : ent 𝓤 (sem 𝓛 ((mem (R κ)).own_at h b o)) (sep 𝓤 (sem 𝓛 (fat full_share (T'.mir erased) b o (T'.lowered h))) (sem 𝓛 ((R κ).own h (T'.lowered h ∷ []))))
   unfolding part_of
-  of-lies =
+  of_lies =
       qed 𝓛 (‵ ((mem (R κ)).own_at h b o) ∷ []) ∵ fpick ! (λ vs. fsplit ! $
       spelt ! (R κ) (Is (R κ)) (shows 𝓛 (R κ)) (LL.vals (T.the_type (α κ)) (T'.the_laws (α κ))) (LL.tells (T.the_type (α κ)) (T'.the_laws (α κ))) full_share h vs b o $
       use1 𝓛 (‵ (fat full_share (T'.mir erased) b o (T'.lowered h))) (𝓛.laws.raw_at full_share (T'.mir erased) b o (T'.lowered h)) $ frame ! $ done !)

@@ -24,15 +24,15 @@ module _ {M : Type 1} {𝓤 : Ura M} (𝓛 : Logic 𝓤) (κ : Lft) (q : Share) 
   abbrev pub Met : ℕ → SProp 𝓤
   Met ν = sep 𝓤 (A.lft (ν ∷ κ) (PosShare.left q)) (sep 𝓤 (A.lft κ (PosShare.right q)) (Way ν))
 
-  pub lend-tok : ent 𝓤 (A.lft κ q) (H.⇛ (ex 𝓤 Met))
-  lend-tok =
+  pub lend_tok : ent 𝓤 (A.lft κ q) (H.⇛ (ex 𝓤 Met))
+  lend_tok =
       qed 𝓛 (‵ (flft κ q) ∷ []) ∵ updating ! $ lft_new ! tt (λ ν. use1 𝓛 (‵ (flft (ν ∷ []) (PosShare.left q)) ⊛ raw (Way ν)) (𝓛.lfts.lft_carve ν (PosShare.left q)) $ split ! $
       move ! (2 ∷ []) $ use1 𝓛 (‵ (flft κ (PosShare.left q)) ⊛ ‵ (flft κ (PosShare.right q))) (𝓛.lfts.lft_split κ q) $ split ! $
       -- [half of κ's; the other half; a share of ν's; the way back]
       move ! (2 ∷ 0 ∷ []) $ use2 𝓛 (‵ (flft (ν ∷ κ) (PosShare.left q))) (𝓛.lfts.lft_meet (ν ∷ []) κ (PosShare.left q)) $ at_once ! $ show ! Met ν $ frame ! $ frame ! $ done !)
 
-  pub end-tok : (ν : ℕ) → ent 𝓤 (Met ν) (H.⇛ (sep 𝓤 (A.dead (ν ∷ κ)) (A.lft κ q)))
-  end-tok ν =
+  pub end_tok : (ν : ℕ) → ent 𝓤 (Met ν) (H.⇛ (sep 𝓤 (A.dead (ν ∷ κ)) (A.lft κ q)))
+  end_tok ν =
       qed 𝓛 (‵ (flft (ν ∷ κ) (PosShare.left q)) ∷ ‵ (flft κ (PosShare.right q)) ∷ raw (Way ν) ∷ []) ∵ updating ! $
       use1 𝓛 (‵ (flft (ν ∷ []) (PosShare.left q)) ⊛ ‵ (flft κ (PosShare.left q))) (𝓛.lfts.lft_unmeet (ν ∷ []) κ (PosShare.left q)) $ split ! $
       -- [a share of ν's; half of κ's; the other half; the way back]

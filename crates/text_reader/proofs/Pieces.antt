@@ -10,9 +10,9 @@ use lib.ListN.{length, take, drop, length-drop, drop_of_length-le}
 use lib.Seq.{drop-drop}
 use borrow.Author.Tests.{le-leb, lt-leb}
 use Rattle.base.proofs.Choice.{chosen, passed}
-use Rattle.text_lines.specs.Characters.{isInLine, run}
+use Rattle.text_lines.specs.Characters.{is_in_line, run}
 use Rattle.text_lines.specs.Lines.{lines, extended}
-use Rattle.text_reader.specs.Readers.{lineEnd, nextStart, line_at, lines_from}
+use Rattle.text_reader.specs.Readers.{line_end, next_start, line_at, lines_from}
 use Rattle.text_reader.specs.declared.Line.{Line}
 
 pub run-below : (test : ℕ → Bool) (s : List ℕ) → run test s ≤ length s
@@ -32,24 +32,24 @@ leb-suc a b = elim (dec_lt b a) [
 ]
 
 -- the lines after the first
-pub lines-first : (s : List ℕ) → lines s ≡ take (run isInLine s) s ∷ lines_from s (run isInLine s + 1)
+pub lines-first : (s : List ℕ) → lines s ≡ take (run is_in_line s) s ∷ lines_from s (run is_in_line s + 1)
 unfolding lines run lines_from
 lines-first [] = refl
-lines-first (b ∷ s) = go (isInLine b) refl (lines-first s)
+lines-first (b ∷ s) = go (is_in_line b) refl (lines-first s)
   where
-    go : (t : Bool) → isInLine b ≡ t → lines s ≡ take (run isInLine s) s ∷ cond (leb (run isInLine s + 1) (length s)) (lines (drop (run isInLine s + 1) s)) [] →
-        cond (isInLine b) (extended b (lines s)) ([] ∷ lines s)
-        ≡ take (cond (isInLine b) (suc (run isInLine s)) 0) (b ∷ s)
-        ∷ cond (leb (cond (isInLine b) (suc (run isInLine s)) 0 + 1) (suc (length s))) (lines (drop (cond (isInLine b) (suc (run isInLine s)) 0 + 1) (b ∷ s))) []
+    go : (t : Bool) → is_in_line b ≡ t → lines s ≡ take (run is_in_line s) s ∷ cond (leb (run is_in_line s + 1) (length s)) (lines (drop (run is_in_line s + 1) s)) [] →
+        cond (is_in_line b) (extended b (lines s)) ([] ∷ lines s)
+        ≡ take (cond (is_in_line b) (suc (run is_in_line s)) 0) (b ∷ s)
+        ∷ cond (leb (cond (is_in_line b) (suc (run is_in_line s)) 0 + 1) (suc (length s))) (lines (drop (cond (is_in_line b) (suc (run is_in_line s)) 0 + 1) (b ∷ s))) []
     go true e ih =
-        let n = run isInLine s in
+        let n = run is_in_line s in
         chosen _ _ e ∙ ap (extended b) ih
         ∙ ap (λ (t : Bool). (b ∷ take n s) ∷ cond t (lines (drop (n + 1) s)) []) (sym (leb-suc (n + 1) (length s)))
         ∙ ap (λ (k : ℕ). (b ∷ take n s) ∷ cond (leb k (suc (length s))) (lines (drop k (b ∷ s))) []) (let k : suc (n + 1) ≡ suc n + 1 = omega arith in k)
         ∙ sym (ap (λ (k : ℕ). take k (b ∷ s) ∷ cond (leb (k + 1) (suc (length s))) (lines (drop (k + 1) (b ∷ s))) []) (chosen (suc n) 0 e))
     go false e ih =
         passed _ _ e
-        ∙ sym (ap (λ (k : ℕ). take k (b ∷ s) ∷ cond (leb (k + 1) (suc (length s))) (lines (drop (k + 1) (b ∷ s))) []) (passed (suc (run isInLine s)) 0 e)
+        ∙ sym (ap (λ (k : ℕ). take k (b ∷ s) ∷ cond (leb (k + 1) (suc (length s))) (lines (drop (k + 1) (b ∷ s))) []) (passed (suc (run is_in_line s)) 0 e)
         ∙ ap (λ (ls : List (List ℕ)). [] ∷ ls) (chosen _ _ (le-leb (0 + 1) (suc (length s)) (omega arith))))
 
 from-rest : (s : List ℕ) (i k : ℕ) → i ≤ length s → lines_from (drop i s) k ≡ lines_from s (i + k)
@@ -64,39 +64,39 @@ from-rest s i k h =
     ]
 
 -- what stands at index i: a line of n bytes, or nothing past the text
-pub line-here : (s : List ℕ) (i n : ℕ) → i ≤ length s → n ≡ run isInLine (drop i s) → line_at s i ≡ record { end = i + n; next = i + n + 1 }
-unfolding lineEnd nextStart
+pub line-here : (s : List ℕ) (i n : ℕ) → i ≤ length s → n ≡ run is_in_line (drop i s) → line_at s i ≡ record { end = i + n; next = i + n + 1 }
+unfolding line_end next_start
 line-here s i n h e =
-    ap (λ (m : ℕ). record { end = i + run isInLine (drop i s); next = m }) (chosen _ _ (le-leb i (length s) h))
+    ap (λ (m : ℕ). record { end = i + run is_in_line (drop i s); next = m }) (chosen _ _ (le-leb i (length s) h))
     ∙ ap (λ (m : ℕ). record { end = i + m; next = i + m + 1 }) (sym e)
 
 pub line-past : (s : List ℕ) (i : ℕ) → length s < i → line_at s i ≡ record { end = i; next = i }
-unfolding lineEnd nextStart run
+unfolding line_end next_start run
 line-past s i h =
-    let n : run isInLine (drop i s) ≡ 0 = ap (run isInLine) (drop_of_length-le s (let k : length s ≤ i = omega arith in k)) in
-    let e : i + run isInLine (drop i s) ≡ i = omega (arith, n) in
+    let n : run is_in_line (drop i s) ≡ 0 = ap (run is_in_line) (drop_of_length-le s (let k : length s ≤ i = omega arith in k)) in
+    let e : i + run is_in_line (drop i s) ≡ i = omega (arith, n) in
     ap₂ (λ (m k : ℕ). record { end = m; next = k }) e (passed _ _ (lt-leb i (length s) h))
 
 -- a line that starts at index i ends in the text, and the next one starts past its LF
 abbrev pub Bounds : List ℕ → ℕ → Line → Type 0
 Bounds s i l = (i ≤ l.end) × (l.end ≤ length s) × (l.next ≡ l.end + 1)
 
-pub line-bounds : (s : List ℕ) (i : ℕ) (l : Line) → i ≤ length s → l ≡ line_at s i → Bounds s i l
-unfolding lineEnd nextStart
-line-bounds s i l h e =
-    let b = run-below isInLine (drop i s) in
-    let n : l.end ≡ i + run isInLine (drop i s) = ap (λ (x : Line). x.end) e in
-    let m : l.next ≡ i + run isInLine (drop i s) + 1 = ap (λ (x : Line). x.next) e ∙ chosen _ _ (le-leb i (length s) h) in
+pub line_bounds : (s : List ℕ) (i : ℕ) (l : Line) → i ≤ length s → l ≡ line_at s i → Bounds s i l
+unfolding line_end next_start
+line_bounds s i l h e =
+    let b = run-below is_in_line (drop i s) in
+    let n : l.end ≡ i + run is_in_line (drop i s) = ap (λ (x : Line). x.end) e in
+    let m : l.next ≡ i + run is_in_line (drop i s) + 1 = ap (λ (x : Line). x.next) e ∙ chosen _ _ (le-leb i (length s) h) in
     (omega (arith, n), omega (arith, n, b, length-drop i s), omega (arith, n, m))
 
 -- the line that starts at index i, and the lines after it
 pub lines_next : (s : List ℕ) (i : ℕ) (l : Line) → i ≤ length s → l ≡ line_at s i → lines_from s i ≡ take (l.end - i) (drop i s) ∷ lines_from s l.next
-unfolding lines_from lineEnd
+unfolding lines_from line_end
 lines_next s i l h e =
-    let n = run isInLine (drop i s) in
+    let n = run is_in_line (drop i s) in
     let at : l.end ≡ i + n = ap (λ (x : Line). x.end) e in
     let w : n ≡ l.end - i = omega (arith, at) in
-    let k : i + (n + 1) ≡ l.next = omega (arith, at, (line-bounds s i l h e).2) in
+    let k : i + (n + 1) ≡ l.next = omega (arith, at, (line_bounds s i l h e).2) in
     chosen _ _ (le-leb i (length s) h) ∙ lines-first (drop i s)
     ∙ ap₂ (λ (m : ℕ) (ls : List (List ℕ)). take m (drop i s) ∷ ls) w (from-rest s i (n + 1) h ∙ ap (lines_from s) k)
 

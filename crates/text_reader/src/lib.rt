@@ -1,7 +1,7 @@
 // A reader of a text: it stands at a byte and gives the next line. `line_at` has a slice and a number and does the work;
 // the functions over a Reader take it apart, and `line_from`, with plain parameters, is what reading calls.
 ghost use Rattle.std.specs.Prelude.{◌≡◌};
-ghost use Rattle.text_reader.specs.Readers.{line_at, movedOn};
+ghost use Rattle.text_reader.specs.Readers.{line_at, moved_on};
 
 // Where a line ends, and where the next one starts.
 #[derive(Drop)]
@@ -37,7 +37,7 @@ pub fn new<'a>(text: &'a [u8], at: usize) -> Reader<'a>
 
 // Gives where the line ends that starts where the reader stands, and moves the reader to the next line.
 pub fn next_line<'s, 'a>(r: &'s mut Reader<'a>) -> usize
-    ensures { (result ≡ (line_at r.old.text.now r.old.at).end) × (r.new ≡ movedOn r.old) }
+    ensures { (result ≡ (line_at r.old.text.now r.old.at).end) × (r.new ≡ moved_on r.old) }
 {
     let l = line_at(r.text, r.at);
     r.at = l.next;

@@ -1,5 +1,5 @@
 -- `base::product` meets its contract. Assumes nothing.
-use Rattle.base.proofs.Factors.{product-below}
+use Rattle.base.proofs.Factors.{product_below}
 use Rattle.std.proofs.Common.{rules}
 use Rattle.base.proofs.product.Statement.{statement}
 use Rattle.base.proofs.product.Tie as tie
@@ -7,7 +7,7 @@ use Rattle.base.proofs.product.Reads as reads
 use Rattle.base.proofs.product.Lts as lts
 
 mul-result : tie.Need-overflow-mul-result
-mul-result c = record { fits = product-below 16 (search rules) (search rules) }
+mul-result c = record { fits = product_below 16 (search rules) (search rules) }
 
 cast-result : tie.Need-overflow-cast-result
 cast-result c = search rules

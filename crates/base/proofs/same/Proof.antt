@@ -1,6 +1,6 @@
 -- `base::same` meets its contract. The whole lists are the same exactly where those before i and those from i on are. Assumes nothing.
 use Rattle.std.proofs.Common.{◌≡◌, ℕ, ◌-◌, ◌≤◌, ◌&&◌, List, length, drop, sym, refl, ◌∙◌, ap₂, arith, drop_of_length-le, rules}
-use Rattle.base.proofs.Bytes.{same-lengths, same_next}
+use Rattle.base.proofs.Bytes.{same_lengths, same_next}
 use Rattle.base.proofs.Choice.{and_yes}
 use Rattle.base.specs.Bytes.{same}
 use Rattle.base.proofs.same.Statement.{statement}
@@ -14,7 +14,7 @@ abbrev decreases-loop : tie.decreases-loop
 decreases-loop a b i₀ equal₀ i equal = length a - i
 
 returns : tie.Need-returns invariant-loop decreases-loop
-returns c = sym (same-lengths _ _ c.if1.true)
+returns c = sym (same_lengths _ _ c.if1.true)
 
 loop-holds : tie.Need-loop-init invariant-loop decreases-loop
 loop-holds c = (search rules, search rules, refl)

@@ -1,14 +1,14 @@
 -- `decoder::false_record` meets its contract. Assumes nothing.
 use Rattle.encoding.specs.Encodings.{table_of}
-use Rattle.table.specs.Formulas.{tableBytes}
+use Rattle.table.specs.Formulas.{table_bytes}
 use Rattle.base.specs.Bytes.{over}
 use Rattle.decoder.proofs.Judged.{model-bits, encodes, found}
 use Rattle.decoder.proofs.Sized.{sized}
-use Rattle.evaluation.specs.Evaluations.{givenBy, falseIn}
+use Rattle.evaluation.specs.Evaluations.{given_by, false_in}
 use Rattle.decoding.specs.Models.{bits}
 use Rattle.encoder.specs.declared.TableAnswer.{TableAnswer as Size}
-use Rattle.encoder.specs.Answers.{tableOutput}
-use Rattle.base.proofs.Factors.{product-below}
+use Rattle.encoder.specs.Answers.{table_output}
+use Rattle.base.proofs.Factors.{product_below}
 use lib.Seq.{take_all}
 use lib.ListN.{length, take, drop, length-drop, replicate}
 use mathlib.Core.List.{List}
@@ -20,7 +20,7 @@ use Rattle.decoder.proofs.false_record.Statement.{statement}
 use Rattle.decoder.proofs.false_record.Tie as tie
 
 cast-steps : tie.Need-overflow-cast-steps
-cast-steps c = let s = c.before.before.before.before in let a = s.args in let p : a.bound ≤ 64 = (sized a.set.now a.map.now a.bound a.n s.requires.0).fewSteps in search rules
+cast-steps c = let s = c.before.before.before.before in let a = s.args in let p : a.bound ≤ 64 = (sized a.set.now a.map.now a.bound a.n s.requires.0).few_steps in search rules
 
 mul-bits : tie.Need-overflow-mul-bits
 mul-bits c = search rules
@@ -29,8 +29,8 @@ cast-bits : tie.Need-overflow-cast-bits
 cast-bits c = search rules
 
 mul-bits-2 : tie.Need-overflow-mul-bits-2
-mul-bits-2 c = let s = c.before.before.before.before in let a = s.args in let p : a.bound ≤ 64 = (sized a.set.now a.map.now a.bound a.n s.requires.0).fewSteps in
-    let q : 2 * a.threads * a.bound < 4294967296 = product-below 16 {a = 2 * a.threads} {b = a.bound} (search rules) (omega arith) in search rules
+mul-bits-2 c = let s = c.before.before.before.before in let a = s.args in let p : a.bound ≤ 64 = (sized a.set.now a.map.now a.bound a.n s.requires.0).few_steps in
+    let q : 2 * a.threads * a.bound < 4294967296 = product_below 16 {a = 2 * a.threads} {b = a.bound} (search rules) (omega arith) in search rules
 
 encode-requires : tie.Need-encode-requires
 encode-requires c κs = search rules
@@ -63,10 +63,10 @@ returns c = let v = c.before.before.before.before.before.before in let w = c.bef
     let still : length values ≡ length encoded = v.evaluate.auto.0 in
     let room : 32 * a.n ≤ length work = s.requires.3 in
     let there : take (length model - count) (drop count model) ≡ drop count model = take_all (length model - count) (drop count model) (let e = length-drop count model in omega arith) in
-    let written : encoded ≡ over (tableBytes (table_of set map a.bound)) work =
-    w.encode.ensures.1 ∙ ap (λ (r : Size). tableOutput r set map a.bound work) (w.encode.ensures.0 ∙ encodes set map a.bound a.n s.requires.0 (length work) (omega arith)) in (
+    let written : encoded ≡ over (table_bytes (table_of set map a.bound)) work =
+    w.encode.ensures.1 ∙ ap (λ (r : Size). table_output r set map a.bound work) (w.encode.ensures.0 ∙ encodes set map a.bound a.n s.requires.0 (length work) (omega arith)) in (
       v.evaluate.ensures
-          ∙ ((λ z. falseIn (givenBy a.threads a.bound model (there z)) a.n (written z))
+          ∙ ((λ z. false_in (given_by a.threads a.bound model (there z)) a.n (written z))
           ∙ found set map a.bound a.n s.requires.0 model a.threads (λ i. omega (arith, c.before.before.before.before.before.before.before.before.before.before.before.before.before.before.before.before.shared-slice-known.given i)) (λ i. omega (arith, c.before.before.before.before.before.before.before.before.before.before.before.before.before.before.before.shared-slice-known2.given i)) s.requires.1 (search rules) (search rules) work room),
       c.before.before.clear.ensures ∙ ap (λ (k : ℕ). replicate k 0) (still ∙ kept),
     )

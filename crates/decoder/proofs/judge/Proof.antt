@@ -11,7 +11,7 @@ use Rattle.decoder.proofs.judge.Statement.{statement}
 use Rattle.decoder.proofs.judge.Tie as tie
 
 cast-model-fits : tie.Need-cast-model-fits
-cast-model-fits c = let s = c.before.before.before.before in let a = s.args in let p : a.bound ≤ 64 = (sized a.set.now a.map.now a.bound a.n s.pre.0).fewSteps in search rules
+cast-model-fits c = let s = c.before.before.before.before in let a = s.args in let p : a.bound ≤ 64 = (sized a.set.now a.map.now a.bound a.n s.pre.0).few_steps in search rules
 
 model-fits-requires : tie.Need-model-fits-requires
 model-fits-requires c κs = search rules

@@ -1,8 +1,8 @@
 -- `decoder::model_fits` meets its contract. Assumes nothing.
-use Rattle.decoding.specs.Models.{modelFits, bits}
-use Rattle.records.specs.Maps.{mapAccepted, runCells}
-use Rattle.base.proofs.Factors.{product-below}
-use Rattle.base.proofs.Choice.{and-true, and-false, and-right-false}
+use Rattle.decoding.specs.Models.{model_fits, bits}
+use Rattle.records.specs.Maps.{map_accepted, run_cells}
+use Rattle.base.proofs.Factors.{product_below}
+use Rattle.base.proofs.Choice.{and_true, and_false, and_right_false}
 use lib.Seq.{take_all}
 use lib.ListN.{length, drop, length-drop}
 use lib.Dec.{leb}
@@ -19,11 +19,11 @@ mul-bits : tie.Need-overflow-mul-bits
 mul-bits c = search rules
 
 mul-bits-2 : tie.Need-overflow-mul-bits-2
-mul-bits-2 c = let a = c.before.args in let p : 2 * a.threads * a.bound < 4294967296 = product-below 16 {a = 2 * a.threads} {b = a.bound} (search rules) (search rules) in search rules
+mul-bits-2 c = let a = c.before.args in let p : 2 * a.threads * a.bound < 4294967296 = product_below 16 {a = 2 * a.threads} {b = a.bound} (search rules) (search rules) in search rules
 
 returns : tie.Need-returns
-unfolding modelFits
-returns c = sym (and-false _ (and-false _ (lt-leb _ _ c.if1.true)))
+unfolding model_fits
+returns c = sym (and_false _ (and_false _ (lt-leb _ _ c.if1.true)))
 
 are-bits-requires : tie.Need-are-bits-requires
 are-bits-requires c κs = search rules
@@ -41,16 +41,16 @@ map-accepted-requires : tie.Need-map-accepted-requires
 map-accepted-requires c κs = search rules
 
 returns-2 : tie.Need-returns-2
-unfolding modelFits
+unfolding model_fits
 returns-2 c = let t = c.before.before in let a = t.before.before.before.before.args in let s = a.model.now in let n = bits a.threads a.bound in
     c.map-accepted.ensures
-    ∙ (ap (mapAccepted runCells) (take_all (length s - n) (drop n s) (let e = length-drop n s in omega arith))
-    ∙ sym (ap (λ (b : Bool). b && mapAccepted runCells (drop n s)) (and-true (le-leb _ _ t.before.before.if1.false) (sym t.before.are-bits.ensures ∙ t.if2.true))))
+    ∙ (ap (map_accepted run_cells) (take_all (length s - n) (drop n s) (let e = length-drop n s in omega arith))
+    ∙ sym (ap (λ (b : Bool). b && map_accepted run_cells (drop n s)) (and_true (le-leb _ _ t.before.before.if1.false) (sym t.before.are-bits.ensures ∙ t.if2.true))))
 
 returns-3 : tie.Need-returns-3
-unfolding modelFits
+unfolding model_fits
 returns-3 c = let b = c.before in let a = b.before.before.before.args in
-    sym (and-false _ (and-right-false (leb (bits a.threads a.bound) (length a.model.now)) (sym b.are-bits.ensures ∙ c.if2.false)))
+    sym (and_false _ (and_right_false (leb (bits a.threads a.bound) (length a.model.now)) (sym b.are-bits.ensures ∙ c.if2.false)))
 
 pub model-fits-spec : {M : Type 1} → statement M
 model-fits-spec =

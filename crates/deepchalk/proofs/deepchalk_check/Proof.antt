@@ -1,8 +1,8 @@
 -- `deepchalk::deepchalk_check` meets its contract. Assumes nothing.
 use mathlib.Core.Path.{ap, ◌∙◌}
 use Rattle.decoder.specs.declared.CheckAnswer.{CheckAnswer}
-use Rattle.decoder.specs.Answers.{workAfter}
-use Rattle.deepchalk.specs.Packed.{packedCheck}
+use Rattle.decoder.specs.Answers.{work_after}
+use Rattle.deepchalk.specs.Packed.{packed_check}
 use borrow.Author.Rules.{rules}
 use Rattle.deepchalk.proofs.deepchalk_check.Statement.{statement}
 use Rattle.deepchalk.proofs.deepchalk_check.Tie as tie
@@ -24,7 +24,7 @@ returns : tie.Need-returns
 returns c =
     let s = c.before.before.before.check.ensures in
     let a = c.before.before.before.before.before.before.before.before.before.args in
-    (c.pack-check.ensures ∙ ap packedCheck s.0, s.1 ∙ ap (λ (r : CheckAnswer). workAfter r a.work.now) s.0)
+    (c.pack-check.ensures ∙ ap packed_check s.0, s.1 ∙ ap (λ (r : CheckAnswer). work_after r a.work.now) s.0)
 
 pub deepchalk-check-spec : {M : Type 1} → statement M
 deepchalk-check-spec = tie.close (tie.spec check-requires pack-check-requires same_length returns)

@@ -1,8 +1,8 @@
 -- `deepchalk::deepchalk_decode` meets its contract. Assumes nothing.
 use mathlib.Core.Path.{ap, ◌∙◌}
 use Rattle.decoder.specs.declared.DecodeAnswer.{DecodeAnswer}
-use Rattle.decoder.specs.Answers.{workLeft, traceLeft, mapLeft}
-use Rattle.deepchalk.specs.Packed.{packedDecoding}
+use Rattle.decoder.specs.Answers.{work_left, trace_left, map_left}
+use Rattle.deepchalk.specs.Packed.{packed_decoding}
 use borrow.Author.Rules.{rules}
 use Rattle.deepchalk.proofs.deepchalk_decode.Statement.{statement}
 use Rattle.deepchalk.proofs.deepchalk_decode.Tie as tie
@@ -30,10 +30,10 @@ returns : tie.Need-returns
 returns c =
     let s = c.before.before.before.before.before.before.before.decode.ensures in
     let a = c.before.before.before.before.before.before.before.before.before.before.before.before.before.before.before.before.before.args in (
-      c.pack-decoding.ensures ∙ ap packedDecoding s.0,
-      s.1 ∙ ap (λ (r : DecodeAnswer). workLeft r a.work.now) s.0,
-      s.2 ∙ ap (λ (r : DecodeAnswer). traceLeft r a.set.now a.bound a.model.now a.trace.now) s.0,
-      s.3 ∙ ap (λ (r : DecodeAnswer). mapLeft r a.set.now a.map.now a.bound a.model.now a.found.now) s.0,
+      c.pack-decoding.ensures ∙ ap packed_decoding s.0,
+      s.1 ∙ ap (λ (r : DecodeAnswer). work_left r a.work.now) s.0,
+      s.2 ∙ ap (λ (r : DecodeAnswer). trace_left r a.set.now a.bound a.model.now a.trace.now) s.0,
+      s.3 ∙ ap (λ (r : DecodeAnswer). map_left r a.set.now a.map.now a.bound a.model.now a.found.now) s.0,
     )
 
 pub deepchalk-decode-spec : {M : Type 1} → statement M

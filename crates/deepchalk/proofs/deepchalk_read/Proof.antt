@@ -1,6 +1,6 @@
 -- `deepchalk::deepchalk_read` meets its contract. Assumes nothing.
-use Rattle.deepchalk.specs.Packed.{packedRead}
-use Rattle.text.specs.Answers.{setOutput, mapOutput}
+use Rattle.deepchalk.specs.Packed.{packed_read}
+use Rattle.text.specs.Answers.{set_output, map_output}
 use Rattle.text.specs.declared.ReadAnswer.{ReadAnswer}
 use mathlib.Core.Path.{ap, ◌∙◌}
 use borrow.Author.Rules.{rules}
@@ -26,7 +26,7 @@ same-length-2 c = search rules
 returns : tie.Need-returns
 returns c = let s = c.before.before.before.before.before.read.ensures in
     let a = c.before.before.before.before.before.before.before.before.before.before.before.args in
-    (c.pack-read.ensures ∙ ap packedRead s.0, s.1 ∙ ap (λ (r : ReadAnswer). setOutput r a.text.now a.set.now) s.0, s.2 ∙ ap (λ (r : ReadAnswer). mapOutput r a.text.now a.map.now) s.0)
+    (c.pack-read.ensures ∙ ap packed_read s.0, s.1 ∙ ap (λ (r : ReadAnswer). set_output r a.text.now a.set.now) s.0, s.2 ∙ ap (λ (r : ReadAnswer). map_output r a.text.now a.map.now) s.0)
 
 pub deepchalk-read-spec : {M : Type 1} → statement M
 deepchalk-read-spec =

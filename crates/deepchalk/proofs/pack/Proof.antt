@@ -1,5 +1,5 @@
 -- `deepchalk::pack` meets its contract. Assumes nothing.
-use Rattle.deepchalk.specs.Packed.{bit8, bit16, bit32, endNumber, endCode, packed}
+use Rattle.deepchalk.specs.Packed.{bit8, bit16, bit32, end_number, end_code, packed}
 use Rattle.machine.specs.declared.End.{End}
 use mathlib.Core.Path.{ap, ◌∙◌, sym}
 use native.Mathlib.Nat.{zero-add}
@@ -57,17 +57,17 @@ returns : tie.Need-returns
 returns c =
     let steps = c.before.before.before.before.answer.given.0.0 in
     ap (λ (n : ℕ). n + bit32 * steps) (sym (zero-add (bit16 * c.before.end.given.0.0)))
-    ∙ sym (ap packed c.before.before.before.before.answer.given.1 ∙ ap (λ (e : End). bit8 * endNumber e + bit16 * endCode e + bit32 * steps) c.before.end.given.1)
+    ∙ sym (ap packed c.before.before.before.before.answer.given.1 ∙ ap (λ (e : End). bit8 * end_number e + bit16 * end_code e + bit32 * steps) c.before.end.given.1)
 
 returns-2 : tie.Need-returns-2
 returns-2 c =
     let steps = c.before.before.before.answer.given.0.0 in
-    sym (ap packed c.before.before.before.answer.given.1 ∙ ap (λ (e : End). bit8 * endNumber e + bit16 * endCode e + bit32 * steps) c.enum_told.given.1)
+    sym (ap packed c.before.before.before.answer.given.1 ∙ ap (λ (e : End). bit8 * end_number e + bit16 * end_code e + bit32 * steps) c.enum_told.given.1)
 
 returns-3 : tie.Need-returns-3
 returns-3 c =
     let steps = c.before.before.before.answer.given.0.0 in
-    sym (ap packed c.before.before.before.answer.given.1 ∙ ap (λ (e : End). bit8 * endNumber e + bit16 * endCode e + bit32 * steps) c.enum-told2.given.1)
+    sym (ap packed c.before.before.before.answer.given.1 ∙ ap (λ (e : End). bit8 * end_number e + bit16 * end_code e + bit32 * steps) c.enum-told2.given.1)
 
 returns-4 : tie.Need-returns-4
 returns-4 c = c.pack-refusal.ensures ∙ sym (ap packed c.before.before.answer2.given.1)

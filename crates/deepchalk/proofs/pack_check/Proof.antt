@@ -1,5 +1,5 @@
 -- `deepchalk::pack_check` meets its contract. Assumes nothing.
-use Rattle.deepchalk.specs.Packed.{packedCheck}
+use Rattle.deepchalk.specs.Packed.{packed_check}
 use mathlib.Core.Path.{ap, ◌∙◌, sym}
 use borrow.Author.Rules.{rules}
 use Rattle.deepchalk.proofs.pack_check.Statement.{statement}
@@ -21,7 +21,7 @@ returns : tie.Need-returns
 returns c = search rules
 
 returns-2 : tie.Need-returns-2
-returns-2 c = c.pack-refusal.ensures ∙ sym (ap packedCheck c.before.before.answer.given.1)
+returns-2 c = c.pack-refusal.ensures ∙ sym (ap packed_check c.before.before.answer.given.1)
 
 pub pack-check-spec : {M : Type 1} → statement M
 pack-check-spec =

@@ -1,5 +1,5 @@
 -- `deepchalk::pack_decoding` meets its contract. Assumes nothing.
-use Rattle.deepchalk.specs.Packed.{packedDecoding}
+use Rattle.deepchalk.specs.Packed.{packed_decoding}
 use mathlib.Core.Path.{ap, ◌∙◌, sym}
 use borrow.Author.Rules.{rules}
 use Rattle.deepchalk.proofs.pack_decoding.Statement.{statement}
@@ -33,10 +33,10 @@ pack-refusal-requires : tie.Need-pack-refusal-requires
 pack-refusal-requires c κs = search rules
 
 returns : tie.Need-returns
-returns c = sym (ap packedDecoding c.before.answer.given.1)
+returns c = sym (ap packed_decoding c.before.answer.given.1)
 
 returns-2 : tie.Need-returns-2
-returns-2 c = c.pack-refusal.ensures ∙ sym (ap packedDecoding c.before.before.answer2.given.1)
+returns-2 c = c.pack-refusal.ensures ∙ sym (ap packed_decoding c.before.before.answer2.given.1)
 
 pub pack-decoding-spec : {M : Type 1} → statement M
 pack-decoding-spec =

@@ -1,5 +1,5 @@
 -- `deepchalk::pack_table` meets its contract. Assumes nothing.
-use Rattle.deepchalk.specs.Packed.{packedTable}
+use Rattle.deepchalk.specs.Packed.{packed_table}
 use mathlib.Core.Path.{ap, ◌∙◌, sym}
 use borrow.Author.Rules.{rules}
 use Rattle.deepchalk.proofs.pack_table.Statement.{statement}
@@ -24,10 +24,10 @@ pack-refusal-requires : tie.Need-pack-refusal-requires
 pack-refusal-requires c κs = search rules
 
 returns : tie.Need-returns
-returns c = sym (ap packedTable c.before.answer.given.1)
+returns c = sym (ap packed_table c.before.answer.given.1)
 
 returns-2 : tie.Need-returns-2
-returns-2 c = c.pack-refusal.ensures ∙ sym (ap packedTable c.before.before.answer2.given.1)
+returns-2 c = c.pack-refusal.ensures ∙ sym (ap packed_table c.before.before.answer2.given.1)
 
 pub pack-table-spec : {M : Type 1} → statement M
 pack-table-spec =

@@ -2,7 +2,7 @@
 use mathlib.Core.Path.{refl}
 use native.Mathlib.Omega.{arith}
 use borrow.Author.Rules.{rules}
-use Rattle.records.specs.Sets.{setBy}
+use Rattle.records.specs.Sets.{set_by}
 use Rattle.table.specs.Programs.{upto}
 use Rattle.encoding.specs.Slots.{code}
 use Rattle.encoding.specs.Steps.{only, word0, step}
@@ -32,7 +32,7 @@ later-steps-requires : tie.Need-later-steps-requires
 later-steps-requires c κs =
     let a = c.before.before.before.before.before.before.before.before.before.before.before.before.before.before.args in
     let p = c.before.before.before.before.before.before.before.before.before.before.before.before.before.before.requires in
-    let S = setBy a.set.now a.layout in
+    let S = set_by a.set.now a.layout in
     let cs = listed a.points in
     let start = place_of a.slots.now in
     let f = c.before.before.before.before.before.few-steps2 in
@@ -40,13 +40,13 @@ later-steps-requires c κs =
     let few = f.ensures.1 in
     let next = w.stepped.next in
     let below = program-below (upto (step S cs) 2) start a.first p.0.below in (
-      p.0.byName.fourThreads,
+      p.0.by_name.four_threads,
       omega arith,
       p.2,
       two-steps-room S cs start a.first f.result.next next p.0.below,
       few,
-      (let e = w.codeIs in let l = below (only code) in omega arith),
-      (let e = w.wordZeroIs in let l = below word0 in omega arith),
+      (let e = w.code_is in let l = below (only code) in omega arith),
+      (let e = w.word_zero_is in let l = below word0 in omega arith),
     )
 
 same-length-3 : tie.Need-same-length-3
@@ -60,7 +60,7 @@ returns-2 c =
     let a = c.before.before.before.before.before.before.before.before.before.before.before.before.before.before.before.before.before.args in
     let p = c.before.before.before.before.before.before.before.before.before.before.before.before.before.before.before.before.before.requires in
     let l = c.before.before.later-steps.ensures in
-    (l.0 (setBy a.set.now a.layout) (listed a.points) (place_of a.slots.now) a.out.now refl p.0.below p.3 c.before.before.before.before.before.before.before.before.few-steps2.ensures.0, l.1)
+    (l.0 (set_by a.set.now a.layout) (listed a.points) (place_of a.slots.now) a.out.now refl p.0.below p.3 c.before.before.before.before.before.before.before.before.few-steps2.ensures.0, l.1)
 
 pub all-steps-spec : {M : Type 1} → statement M
 all-steps-spec =

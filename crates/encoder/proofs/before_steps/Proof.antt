@@ -1,9 +1,9 @@
 -- `encoder::before_steps` meets its contract. Assumes nothing.
 use native.Mathlib.Omega.{arith}
 use Rattle.records.specs.Maps.{cells}
-use Rattle.records.specs.Sets.{setBy}
+use Rattle.records.specs.Sets.{set_by}
 use Rattle.table.specs.Programs.{upto}
-use Rattle.encoding.specs.Encodings.{starting, mapDemand}
+use Rattle.encoding.specs.Encodings.{starting, map_demand}
 use Rattle.set_index.specs.Points.{listed}
 use Rattle.encoder_slots.proofs.Pieces.{writes-++}
 use borrow.Author.Rules.{rules}
@@ -32,9 +32,9 @@ returns c =
     let r2 = c.before.before.demands in
     let m1 = r1.ensures.1 in
     let m2 = r2.ensures.1 in
-    let S = setBy a.set.now a.layout in (
+    let S = set_by a.set.now a.layout in (
       λ lists ready.
-          writes-++ (starting S (listed a.points)) (upto (mapDemand a.map.now) (cells a.map.now)) a.out.now a.slots.now 4 _ _ _ _ _ _
+          writes-++ (starting S (listed a.points)) (upto (map_demand a.map.now) (cells a.map.now)) a.out.now a.slots.now 4 _ _ _ _ _ _
           (r1.ensures.0 (listed a.points) lists ready (omega arith)) r2.ensures.0,
       omega arith,
     )

@@ -9,18 +9,18 @@ use lib.ListN.{length}
 use borrow.Author.Rules.{rules}
 use Rattle.base.specs.Bytes.{placed}
 use Rattle.table.specs.declared.Formula.{Formula}
-use Rattle.table.specs.Formulas.{formulaBytes, writtenAt}
-use Rattle.table.specs.Programs.{leafFormula, choiceBit, upto}
+use Rattle.table.specs.Formulas.{formula_bytes, written_at}
+use Rattle.table.specs.Programs.{leaf_formula, choice_bit, upto}
 use Rattle.table.proofs.Numbered.{numbered-none, numbered_more}
 use Rattle.encoder.proofs.choice_bits.Statement.{statement}
 use Rattle.encoder.proofs.choice_bits.Tie as tie
 
 abbrev bit : (threads step j : ℕ) → Formula
-bit threads step j = leafFormula (cond (ltb j threads) (choiceBit step 0 j) (choiceBit step 1 (j - threads)))
+bit threads step j = leaf_formula (cond (ltb j threads) (choice_bit step 0 j) (choice_bit step 1 (j - threads)))
 
 abbrev invariant-loop : tie.invariant-loop
 invariant-loop threads out₀ step n count j₀ out j =
-    (j ≤ count) × (count ≤ 8) × (length out ≡ length out₀) × (out ≡ writtenAt out₀ n (upto (λ i. bit threads step i ∷ []) j))
+    (j ≤ count) × (count ≤ 8) × (length out ≡ length out₀) × (out ≡ written_at out₀ n (upto (λ i. bit threads step i ∷ []) j))
 
 abbrev decreases-loop : tie.decreases-loop
 decreases-loop threads out₀ step n count j₀ out j = count - j
@@ -59,7 +59,7 @@ loop-again c =
       l.invariant.1,
       c.before.before.put.auto.0 ∙ l.invariant.2,
       c.before.before.put.ensures
-          ∙ (ap (λ (x : Formula). placed l.out (16 * (a.n + l.j)) (formulaBytes x)) c.before.before.before.before.choice-bit.ensures
+          ∙ (ap (λ (x : Formula). placed l.out (16 * (a.n + l.j)) (formula_bytes x)) c.before.before.before.before.choice-bit.ensures
           ∙ numbered_more (bit a.threads a.step) a.out.now l.out a.n l.j l.invariant.3),
     )
 
@@ -71,7 +71,7 @@ returns c =
     let a = c.before.before.before.args in
     let l = c.before.loop in
     let j-is : l.j ≡ a.threads + a.threads = omega arith in
-    l.invariant.3 ∙ ap (λ (k : ℕ). writtenAt a.out.now a.n (upto (λ i. bit a.threads a.step i ∷ []) k)) j-is
+    l.invariant.3 ∙ ap (λ (k : ℕ). written_at a.out.now a.n (upto (λ i. bit a.threads a.step i ∷ []) k)) j-is
 
 pub choice-bits-spec : {M : Type 1} → statement M
 choice-bits-spec =

@@ -2,9 +2,9 @@
 use mathlib.Core.Path.{refl, ap, ◌∙◌}
 use Prim.Native.Nat.{◌+◌}
 use borrow.Author.Rules.{rules}
-use Rattle.table.specs.Programs.{constraint, leafFormula, binaryFormula, constantWord, equal2, read2}
-use Rattle.encoder.proofs.Parts.{demand-writes}
-use Rattle.encoder_bases.proofs.Records.{recordAt}
+use Rattle.table.specs.Programs.{constraint, leaf_formula, binary_formula, constant_word, equal2, read2}
+use Rattle.encoder.proofs.Parts.{demand_writes}
+use Rattle.encoder_bases.proofs.Records.{record_at}
 use Rattle.encoder.proofs.demand.Statement.{statement}
 use Rattle.encoder.proofs.demand.Tie as tie
 
@@ -62,12 +62,12 @@ same_length c = search rules
 returns : tie.Need-returns
 returns c =
     let a = c.before.before.before.before.before.before.before.before.before.before.before.before.before.before.before.before.before.before.before.before.before.before.before.before.before.before.args in (
-      demand-writes a.out.now a.slots.now a.n a.map.now a.j _
-          (c.before.before.put5.ensures ∙ ap (recordAt (a.n + 4) (constraint (a.n + 3)))
-          (c.before.before.before.before.before.before.put4.ensures ∙ ap (recordAt (a.n + 3) (binaryFormula equal2 (a.n + 1) (a.n + 2)))
-          (c.before.before.before.before.before.before.before.before.before.before.put3.ensures ∙ (λ i. recordAt (a.n + 2) (leafFormula (constantWord (c.before.before.before.before.before.before.before.before.before.before.before.before.before.before.before.before.before.before.before.before.value-at.ensures i)))
-          ((c.before.before.before.before.before.before.before.before.before.before.before.before.before.before.put2.ensures ∙ λ k. recordAt (a.n + 1) (binaryFormula read2 (c.before.before.before.before.before.before.before.before.before.before.before.before.before.before.before.before.before.before.before.before.before.place.ensures k) a.n)
-          ((c.before.before.before.before.before.before.before.before.before.before.before.before.before.before.before.before.before.before.put.ensures ∙ λ h. recordAt a.n (leafFormula (constantWord (c.before.before.before.before.before.before.before.before.before.before.before.before.before.before.before.before.before.before.before.before.before.before.address-at.ensures h))) a.out.now) k)) i))))),
+      demand_writes a.out.now a.slots.now a.n a.map.now a.j _
+          (c.before.before.put5.ensures ∙ ap (record_at (a.n + 4) (constraint (a.n + 3)))
+          (c.before.before.before.before.before.before.put4.ensures ∙ ap (record_at (a.n + 3) (binary_formula equal2 (a.n + 1) (a.n + 2)))
+          (c.before.before.before.before.before.before.before.before.before.before.put3.ensures ∙ (λ i. record_at (a.n + 2) (leaf_formula (constant_word (c.before.before.before.before.before.before.before.before.before.before.before.before.before.before.before.before.before.before.before.before.value-at.ensures i)))
+          ((c.before.before.before.before.before.before.before.before.before.before.before.before.before.before.put2.ensures ∙ λ k. record_at (a.n + 1) (binary_formula read2 (c.before.before.before.before.before.before.before.before.before.before.before.before.before.before.before.before.before.before.before.before.before.place.ensures k) a.n)
+          ((c.before.before.before.before.before.before.before.before.before.before.before.before.before.before.before.before.before.before.put.ensures ∙ λ h. record_at a.n (leaf_formula (constant_word (c.before.before.before.before.before.before.before.before.before.before.before.before.before.before.before.before.before.before.before.before.before.before.address-at.ensures h))) a.out.now) k)) i))))),
       refl,
     )
 

@@ -6,16 +6,16 @@ use native.Mathlib.Omega.{arith}
 use borrow.Author.Rules.{rules}
 use borrow.Author.Tests.{lt-ltb, le-ltb}
 use Rattle.base.proofs.Choice.{chosen, passed}
-use Rattle.records.specs.Maps.{setCells}
+use Rattle.records.specs.Maps.{set_cells}
 use Rattle.records.proofs.Maps.{few-cells}
-use Rattle.table.specs.Formulas.{writtenAt, formulaLength}
+use Rattle.table.specs.Formulas.{written_at, formula_length}
 use Rattle.table.proofs.Written.{written-table}
 use Rattle.encoding.specs.Encodings.{table_of}
-use Rattle.encoder_size.specs.Sizes.{Limits, tableRoom}
-use Rattle.encoder.specs.Answers.{encodeAnswer}
+use Rattle.encoder_size.specs.Sizes.{Limits, table_room}
+use Rattle.encoder.specs.Answers.{encode_answer}
 use Rattle.encoder.specs.Refusals.{early}
 use Rattle.encoder.specs.declared.TableAnswer.TheVariants.{Encoded}
-use Rattle.encoder.proofs.Accepted.{Passed, early-refused, early-passed, limits, points-differ, table_is}
+use Rattle.encoder.proofs.Accepted.{Passed, early-refused, early-passed, limits, points_differ, table_is}
 use Rattle.encoder.proofs.encode.Statement.{statement}
 use Rattle.encoder.proofs.encode.Tie as tie
 
@@ -38,12 +38,12 @@ limited c =
     let e = else-of c in
     let a = (start_of e.before).args in
     let points = c.before.of-set in
-    limits a.set.now e.before.before.layout.result points.result (passed-by e).acceptedSet e.before.before.layout.ensures points.ensures
+    limits a.set.now e.before.before.layout.result points.result (passed-by e).accepted_set e.before.before.layout.ensures points.ensures
 
-few : (c : tie.After-table-records) → c.table-records.result ≤ tableRoom
+few : (c : tie.After-table-records) → c.table-records.result ≤ table_room
 few c =
     let p = passed-by (else-of c) in
-    c.table-records.ensures.1 (limited c) (few-cells setCells (start_of (else-of c).before).args.map.now p.acceptedMap) (omega (arith, p.few))
+    c.table-records.ensures.1 (limited c) (few-cells set_cells (start_of (else-of c).before).args.map.now p.accepted_map) (omega (arith, p.few))
 
 size_is : (c : tie.After-table-records) → let a = (start_of (else-of c).before).args in c.table-records.result ≡ length (table_of a.set.now a.map.now a.bound)
 size_is c =
@@ -51,7 +51,7 @@ size_is c =
     let a = (start_of e.before).args in
     let points = c.before.of-set in
     let layout = e.before.before.layout in
-    c.table-records.ensures.0 ∙ ap length (table_is a.set.now layout.result points.result (passed-by e).acceptedSet layout.ensures points.ensures a.map.now a.bound)
+    c.table-records.ensures.0 ∙ ap length (table_is a.set.now layout.result points.result (passed-by e).accepted_set layout.ensures points.ensures a.map.now a.bound)
 
 layout-requires : tie.Need-layout-requires
 layout-requires c κs = search rules
@@ -60,7 +60,7 @@ refusal-of-requires : tie.Need-refusal-of-requires
 refusal-of-requires c κs = search rules
 
 returns : tie.Need-returns
-unfolding encodeAnswer
+unfolding encode_answer
 returns c = let a = (start_of c.before).args in (early-refused a.set.now a.map.now a.bound _ _ (told c.before) c.if1.true, refl)
 
 of-set-requires : tie.Need-of-set-requires
@@ -76,11 +76,11 @@ mul-if2 : tie.Need-overflow-mul-if2
 mul-if2 c = omega (arith, few c)
 
 returns-2 : tie.Need-returns-2
-unfolding encodeAnswer
+unfolding encode_answer
 returns-2 c =
     let t = c.before in
     let a = (start_of (else-of t).before).args in (
-      sym (chosen _ _ (lt-ltb (length a.table.now) (formulaLength * length (table_of a.set.now a.map.now a.bound)) (omega (arith, size_is t, c.if2.true))))
+      sym (chosen _ _ (lt-ltb (length a.table.now) (formula_length * length (table_of a.set.now a.map.now a.bound)) (omega (arith, size_is t, c.if2.true))))
           ∙ (passed-by (else-of t)).answers _,
       refl,
     )
@@ -94,10 +94,10 @@ write-requires c κs =
     let points = t.before.of-set in
     let layout = e.before.before.layout in (
       limited t,
-      few-cells setCells a.map.now p.acceptedMap,
+      few-cells set_cells a.map.now p.accepted_map,
       p.few,
       omega (arith, t.table-records.ensures.0, c.before.if2.false),
-      points-differ a.set.now layout.result points.result p.acceptedSet layout.ensures points.ensures,
+      points_differ a.set.now layout.result points.result p.accepted_set layout.ensures points.ensures,
     )
 
 cast-t17 : tie.Need-overflow-cast-t17
@@ -107,19 +107,19 @@ same_length : tie.Need-same-length
 same_length c = search rules
 
 returns-3 : tie.Need-returns-3
-unfolding encodeAnswer
+unfolding encode_answer
 returns-3 c =
     let t = c.before.before.before.before.before in
     let e = else-of t in
     let a = (start_of e.before).args in
     let points = t.before.of-set in
     let layout = e.before.before.layout in
-    let is = table_is a.set.now layout.result points.result (passed-by e).acceptedSet layout.ensures points.ensures a.map.now a.bound in
-    let room : formulaLength * length (table_of a.set.now a.map.now a.bound) ≤ length a.table.now = omega (arith, size_is t, c.before.before.before.before.if2.false) in (
+    let is = table_is a.set.now layout.result points.result (passed-by e).accepted_set layout.ensures points.ensures a.map.now a.bound in
+    let room : formula_length * length (table_of a.set.now a.map.now a.bound) ≤ length a.table.now = omega (arith, size_is t, c.before.before.before.before.if2.false) in (
       ap Encoded (size_is t)
-          ∙ sym (passed _ _ (le-ltb (length a.table.now) (formulaLength * length (table_of a.set.now a.map.now a.bound)) room))
+          ∙ sym (passed _ _ (le-ltb (length a.table.now) (formula_length * length (table_of a.set.now a.map.now a.bound)) room))
           ∙ (passed-by e).answers _,
-      c.before.before.write.ensures ∙ (ap (writtenAt a.table.now 0) is ∙ written-table a.table.now (table_of a.set.now a.map.now a.bound) room),
+      c.before.before.write.ensures ∙ (ap (written_at a.table.now 0) is ∙ written-table a.table.now (table_of a.set.now a.map.now a.bound) room),
     )
 
 pub encode-spec : {M : Type 1} → statement M

@@ -31,8 +31,8 @@ returns c =
     let p = c.before.before.before.before.before.before.before.before.before.before.before.before.before.before.before.before.requires.1 in (
       record {
         stepped = record { written = w.written; next = w.next };
-        codeIs = c.before.before.place.ensures ∙ ap (λ (f : Slot → ℕ). f (only code)) w.places;
-        wordZeroIs = c.place2.ensures ∙ ap (λ (f : Slot → ℕ). f word0) w.places;
+        code_is = c.before.before.place.ensures ∙ ap (λ (f : Slot → ℕ). f (only code)) w.places;
+        word_zero_is = c.place2.ensures ∙ ap (λ (f : Slot → ℕ). f word0) w.places;
       },
       omega arith,
     )

@@ -2,8 +2,8 @@
 use mathlib.Core.Bool.{true, false}
 use mathlib.Core.Path.{ap, ◌∙◌}
 use borrow.Author.Rules.{rules}
-use Rattle.table.specs.Programs.{leafFormula, constantBit, constantWord, firstMemory}
-use Rattle.encoder_bases.proofs.Records.{recordAt, written_4}
+use Rattle.table.specs.Programs.{leaf_formula, constant_bit, constant_word, first_memory}
+use Rattle.encoder_bases.proofs.Records.{record_at, written_4}
 use Rattle.encoder.proofs.firsts.Statement.{statement}
 use Rattle.encoder.proofs.firsts.Tie as tie
 
@@ -25,10 +25,10 @@ same_length c = search rules
 returns : tie.Need-returns
 returns c =
     let a = c.before.before.before.before.before.before.before.before.before.before.before.before.before.before.before.before.before.args in
-    c.before.before.put4.ensures ∙ (ap (recordAt 3 (leafFormula firstMemory))
-    (c.before.before.before.before.before.before.put3.ensures ∙ ap (recordAt 2 (leafFormula (constantWord 0)))
-    (c.before.before.before.before.before.before.before.before.before.before.put2.ensures ∙ ap (recordAt 1 (leafFormula (constantBit true))) c.before.before.before.before.before.before.before.before.before.before.before.before.before.before.put.ensures))
-    ∙ written_4 a.out.now 0 (leafFormula (constantBit false)) (leafFormula (constantBit true)) (leafFormula (constantWord 0)) (leafFormula firstMemory))
+    c.before.before.put4.ensures ∙ (ap (record_at 3 (leaf_formula first_memory))
+    (c.before.before.before.before.before.before.put3.ensures ∙ ap (record_at 2 (leaf_formula (constant_word 0)))
+    (c.before.before.before.before.before.before.before.before.before.before.put2.ensures ∙ ap (record_at 1 (leaf_formula (constant_bit true))) c.before.before.before.before.before.before.before.before.before.before.before.before.before.before.put.ensures))
+    ∙ written_4 a.out.now 0 (leaf_formula (constant_bit false)) (leaf_formula (constant_bit true)) (leaf_formula (constant_word 0)) (leaf_formula first_memory))
 
 pub firsts-spec : {M : Type 1} → statement M
 firsts-spec =

@@ -2,9 +2,9 @@
 use mathlib.Core.Path.{ap, ◌∙◌}
 use Prim.Native.Nat.{◌+◌}
 use borrow.Author.Rules.{rules}
-use Rattle.table.specs.Programs.{goal, unaryFormula, binaryFormula, not1, equal2}
+use Rattle.table.specs.Programs.{goal, unary_formula, binary_formula, not1, equal2}
 use Rattle.encoder.proofs.Parts.{goal-written}
-use Rattle.encoder_bases.proofs.Records.{recordAt}
+use Rattle.encoder_bases.proofs.Records.{record_at}
 use Rattle.encoder.proofs.goal.Statement.{statement}
 use Rattle.encoder.proofs.goal.Tie as tie
 
@@ -33,9 +33,9 @@ returns : tie.Need-returns
 returns c places e f =
     let a = c.before.before.before.before.before.before.before.before.before.before.before.before.before.args in
     goal-written a.out.now a.n places _
-    (c.before.before.put3.ensures ∙ ap (recordAt (a.n + 2) (goal (a.n + 1)))
-    (c.before.before.before.before.before.before.put2.ensures ∙ ap (recordAt (a.n + 1) (unaryFormula not1 a.n))
-    (c.before.before.before.before.before.before.before.before.before.before.put.ensures ∙ λ i. recordAt a.n (binaryFormula equal2 (e i) (f i)) a.out.now)))
+    (c.before.before.put3.ensures ∙ ap (record_at (a.n + 2) (goal (a.n + 1)))
+    (c.before.before.before.before.before.before.put2.ensures ∙ ap (record_at (a.n + 1) (unary_formula not1 a.n))
+    (c.before.before.before.before.before.before.before.before.before.before.put.ensures ∙ λ i. record_at a.n (binary_formula equal2 (e i) (f i)) a.out.now)))
 
 pub goal-spec : {M : Type 1} → statement M
 goal-spec = tie.close (tie.spec add-t9 put-requires add-put put-requires-2 add-put-2 put-requires-3 same_length returns)

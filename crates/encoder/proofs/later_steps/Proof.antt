@@ -7,7 +7,7 @@ use lib.ListN.{length}
 use borrow.Author.Rules.{rules}
 use Rattle.encoding.specs.Slots.{code}
 use Rattle.encoding.specs.Steps.{only, word0}
-use Rattle.encoder.proofs.Repeating.{two-steps-started, last-place, steps-room}
+use Rattle.encoder.proofs.Repeating.{two-steps_started, last-place, steps-room}
 use Rattle.encoder.proofs.later_steps.Statement.{statement}
 use Rattle.encoder.proofs.later_steps.Tie as tie
 
@@ -59,12 +59,12 @@ returns c =
     let p = c.before.before.before.before.before.before.before.requires in
     let stride = (a.second.next - a.first) / 2 in (
       λ S cs start begun t low room w.
-          let s = two-steps-started S cs start a.threads a.first a.second.next w.stepped.next t low in
+          let s = two-steps_started S cs start a.threads a.first a.second.next w.stepped.next t low in
           let place = last-place S cs start a.threads a.first stride s a.bound p.1 in
           record {
             stepped = c.before.before.before.before.repeated-steps.ensures.0 S cs start begun s (steps-room S cs start a.threads a.first stride s a.bound p.1 (length begun) room) w.stepped;
-            codeIs = c.before.further.ensures ∙ place (only code) refl a.second.code w.codeIs;
-            wordZeroIs = c.further2.ensures ∙ place word0 refl a.second.zero w.wordZeroIs;
+            code_is = c.before.further.ensures ∙ place (only code) refl a.second.code w.code_is;
+            word_zero_is = c.further2.ensures ∙ place word0 refl a.second.zero w.word_zero_is;
           },
       let l = c.before.before.before.before.repeated-steps.ensures.1 in omega arith,
     )

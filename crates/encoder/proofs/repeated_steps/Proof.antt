@@ -7,14 +7,14 @@ use lib.ListN.{length}
 use borrow.Author.Rules.{rules}
 use Rattle.records.specs.Sets.{Set}
 use Rattle.encoding.specs.Slots.{Slot}
-use Rattle.encoder.specs.Repeating.{Started, Stepped, earlyRoom, stepsRoom}
+use Rattle.encoder.specs.Repeating.{Started, Stepped, early_room, steps_room}
 use Rattle.encoder.proofs.Repeating.{room-more}
 use Rattle.encoder.proofs.repeated_steps.Statement.{statement}
 use Rattle.encoder.proofs.repeated_steps.Tie as tie
 
 abbrev invariant-loop : tie.invariant-loop
 invariant-loop threads out₀ bound first stride n next₀ k₀ out next k =
-    (2 ≤ k) × (k ≤ bound) × (bound ≤ 64) × (n ≤ earlyRoom + stepsRoom) × (next ≤ n + stepsRoom * k) × (length out ≡ length out₀)
+    (2 ≤ k) × (k ≤ bound) × (bound ≤ 64) × (n ≤ early_room + steps_room) × (next ≤ n + steps_room * k) × (length out ≡ length out₀)
     × ((S : Set) (cs : List ℕ) (start : Slot → ℕ) (begun : List ℕ) → Started S cs start threads first stride → 16 * (first + bound * stride) ≤ length begun →
     Stepped S cs start first 2 begun out₀ n → Stepped S cs start first k begun out next)
 

@@ -8,20 +8,20 @@ use Rattle.set_index.specs.Points.{listed}
 use Rattle.encoder_slots.proofs.Idle.{idle-step}
 use Rattle.encoding.specs.Steps.{step}
 use Rattle.table.specs.Programs.{upto}
-use Rattle.records.specs.Sets.{setBy}
-use Rattle.encoder_step.specs.Entries.{stepRoom}
+use Rattle.records.specs.Sets.{set_by}
+use Rattle.encoder_step.specs.Entries.{step_room}
 use Rattle.encoder_slots.proofs.Ready.{ready-after}
 use Rattle.encoder_slots.proofs.Pieces.{writes-row, writes_more}
 use Rattle.encoder_slots.specs.Pieces.{Writes, Ready}
 use Rattle.encoder.proofs.steps.Statement.{statement}
 use Rattle.encoder.proofs.steps.Tie as tie
-use Rattle.table.specs.Repeats.{lastIndex}
+use Rattle.table.specs.Repeats.{last_index}
 
 abbrev invariant-loop : tie.invariant-loop
 invariant-loop set layout points members lists slots₀ out₀ bound n next₀ k₀ slots out next k =
-    (k ≤ bound) × (bound ≤ 64) × (next ≤ n + stepRoom * k) × (length out ≡ length out₀) × (length slots ≡ length slots₀)
-    × (Ready (setBy set layout) (listed points) members lists slots next)
-    × (Writes (upto (step (setBy set layout) (listed points)) k) out₀ slots₀ n out slots next)
+    (k ≤ bound) × (bound ≤ 64) × (next ≤ n + step_room * k) × (length out ≡ length out₀) × (length slots ≡ length slots₀)
+    × (Ready (set_by set layout) (listed points) members lists slots next)
+    × (Writes (upto (step (set_by set layout) (listed points)) k) out₀ slots₀ n out slots next)
 
 abbrev decreases-loop : tie.decreases-loop
 decreases-loop set layout points members lists slots₀ out₀ bound n next₀ k₀ slots out next k = bound - k
@@ -30,7 +30,7 @@ loop-holds : tie.Need-loop-init invariant-loop decreases-loop
 loop-holds c =
     let a = c.before.before.before.before.before.args in
     let l = c.before.before.before.before.before.requires.0 in
-    (omega arith, omega arith, omega arith, refl, refl, l, writes-row (step (setBy a.set.now a.layout) (listed a.points)) a.out.now a.slots.now a.n)
+    (omega arith, omega arith, omega arith, refl, refl, l, writes-row (step (set_by a.set.now a.layout) (listed a.points)) a.out.now a.slots.now a.n)
 
 one-step-requires : tie.Need-one-step-requires invariant-loop decreases-loop
 one-step-requires c κs = search rules
@@ -46,12 +46,12 @@ loop-again c =
     let a = c.before.before.before.before.before.before.before.before.before.before.before.before.before.before.args in
     let l = c.before.before.before.before.before.before.before.before.loop in
     let r = c.before.before.before.before.one-step in
-    let f = step (setBy a.set.now a.layout) (listed a.points) in
+    let f = step (set_by a.set.now a.layout) (listed a.points) in
     let q = c.before.before.before.before.before.before.before.before.before.before.before.before.before.before.requires in
     let little = q.1 in
     let most = l.invariant.1 in
     let so_far = l.invariant.2 in
-    let room : l.next + stepRoom ≤ lastIndex = omega arith in
+    let room : l.next + step_room ≤ last_index = omega arith in
     let more = r.ensures.1 in
     let w = r.ensures.0 l.invariant.5 room in (
       omega arith,
@@ -59,7 +59,7 @@ loop-again c =
       omega arith,
       search rules,
       search rules,
-      ready-after (f l.k) (idle-step (setBy a.set.now a.layout) (listed a.points) l.k) w l.invariant.5,
+      ready-after (f l.k) (idle-step (set_by a.set.now a.layout) (listed a.points) l.k) w l.invariant.5,
       writes_more f l.k a.out.now a.slots.now a.n _ _ _ _ _ _ l.invariant.6 w,
     )
 
@@ -74,7 +74,7 @@ returns c =
     let a = c.before.before.before.before.before.before.before.args in
     let l = c.before.loop in
     let k-is : l.k ≡ a.bound = omega arith in (
-      subst (λ (j : ℕ). Writes (upto (step (setBy a.set.now a.layout) (listed a.points)) j) a.out.now a.slots.now a.n l.out l.slots l.next) k-is l.invariant.6,
+      subst (λ (j : ℕ). Writes (upto (step (set_by a.set.now a.layout) (listed a.points)) j) a.out.now a.slots.now a.n l.out l.slots l.next) k-is l.invariant.6,
       omega arith,
     )
 

@@ -4,11 +4,11 @@ use mathlib.Core.List.{[]}
 use native.Mathlib.Omega.{arith}
 use borrow.Author.Rules.{rules}
 use Rattle.records.specs.Maps.{cells}
-use Rattle.records.specs.Sets.{setBy}
+use Rattle.records.specs.Sets.{set_by}
 use Rattle.table.specs.Programs.{upto}
-use Rattle.encoding.specs.Slots.{wordOne, argument}
+use Rattle.encoding.specs.Slots.{word_one, argument}
 use Rattle.encoding.specs.Steps.{block}
-use Rattle.encoding.specs.Encodings.{mapDemand, starting}
+use Rattle.encoding.specs.Encodings.{map_demand, starting}
 use Rattle.encoder_slots.proofs.Idle.{idle-none, idle-needs, idle-++, idle-upto, idle-block}
 use Rattle.set_index.specs.Points.{listed}
 use Rattle.encoder_slots.proofs.Ready.{ready-after}
@@ -59,15 +59,15 @@ all-steps-requires : tie.Need-all-steps-requires
 all-steps-requires c κs =
     let a = c.before.before.before.before.before.before.before.before.before.before.before.before.before.before.before.before.before.before.before.before.before.before.before.before.before.args in
     let p = c.before.before.before.before.before.before.before.before.before.before.before.before.before.before.before.before.before.before.before.before.before.before.before.before.before.requires in
-    let S = setBy a.set.now a.layout in
+    let S = set_by a.set.now a.layout in
     let cs = listed a.points in
-    let members = c.before.before.before.before.before.before.before.before.before.before.before.before.before.before.before.before.before.before.before.before.make.ensures.1 refl (λ t h. p.0.fewStatements t) in
-    let lists = c.before.before.before.before.before.before.before.before.before.before.before.before.before.before.before.before.make2.ensures.1 refl p.0.fourThreads members p.4 in
+    let members = c.before.before.before.before.before.before.before.before.before.before.before.before.before.before.before.before.before.before.before.before.make.ensures.1 refl (λ t h. p.0.few_statements t) in
+    let lists = c.before.before.before.before.before.before.before.before.before.before.before.before.before.before.before.before.make2.ensures.1 refl p.0.four_threads members p.4 in
     let start = ready-start members lists in
     let b = c.before.before.before.before.before.before.before.before-steps.ensures in
     let w = b.0 _ start in (
-      ready-after (early S cs a.map.now) (idle-++ S (starting S cs) (upto (mapDemand a.map.now) (cells a.map.now)) (idle-++ S (block S cs 0 wordOne) (block S cs 0 argument) (idle-block S cs 0 wordOne) (idle-block S cs 0 argument))
-          (idle-upto S (mapDemand a.map.now) (λ j. idle-needs S _ [] (idle-none S)) (cells a.map.now))) w start,
+      ready-after (early S cs a.map.now) (idle-++ S (starting S cs) (upto (map_demand a.map.now) (cells a.map.now)) (idle-++ S (block S cs 0 word_one) (block S cs 0 argument) (idle-block S cs 0 word_one) (idle-block S cs 0 argument))
+          (idle-upto S (map_demand a.map.now) (λ j. idle-needs S _ [] (idle-none S)) (cells a.map.now))) w start,
       (let l = b.1 in omega arith),
       p.2,
       ended-room S cs a.map.now a.bound a.table.now _ _ _ _ c.before.before.before.before.before.before.before.before.before.before.before.before.before.firsts.ensures w p.3,
@@ -82,14 +82,14 @@ same_length c = search rules
 returns : tie.Need-returns
 returns c =
     let a = c.before.before.before.before.before.before.before.before.before.before.before.before.before.before.before.before.before.before.before.before.before.before.before.before.before.before.before.before.before.before.before.before.before.args in
-    let S = setBy a.set.now a.layout in
+    let S = set_by a.set.now a.layout in
     let cs = listed a.points in
     let p = c.before.before.before.before.before.before.before.before.before.before.before.before.before.before.before.before.before.before.before.before.before.before.before.before.before.before.before.before.before.before.before.before.before.requires in
-    let members = c.before.before.before.before.before.before.before.before.before.before.before.before.before.before.before.before.before.before.before.before.before.before.before.before.before.before.before.before.make.ensures.1 refl (λ t h. p.0.fewStatements t) in
-    let lists = c.before.before.before.before.before.before.before.before.before.before.before.before.before.before.before.before.before.before.before.before.before.before.before.before.make2.ensures.1 refl p.0.fourThreads members p.4 in
+    let members = c.before.before.before.before.before.before.before.before.before.before.before.before.before.before.before.before.before.before.before.before.before.before.before.before.before.before.before.before.make.ensures.1 refl (λ t h. p.0.few_statements t) in
+    let lists = c.before.before.before.before.before.before.before.before.before.before.before.before.before.before.before.before.before.before.before.before.before.before.before.before.make2.ensures.1 refl p.0.four_threads members p.4 in
     let e = c.before.before.before.before.before.before.before.all-steps.ensures.0 in
     encoded-ended S cs a.map.now a.bound a.table.now _ _ _ _ _ _ _ _ _ c.before.before.before.before.before.before.before.before.before.before.before.before.before.before.before.before.before.before.before.before.before.firsts.ensures (c.before.before.before.before.before.before.before.before.before.before.before.before.before.before.before.before-steps.ensures.0 _ (ready-start members lists)) e
-    (c.before.before.goal.ensures _ e.codeIs e.wordZeroIs)
+    (c.before.before.goal.ensures _ e.code_is e.word_zero_is)
 
 pub write_spec : {M : Type 1} → statement M
 write_spec =

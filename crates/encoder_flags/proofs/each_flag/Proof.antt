@@ -3,10 +3,10 @@ use Rattle.records.specs.StatementRecords.{Stands}
 use Rattle.encoder_slots.proofs.Entries.{row-others}
 use Rattle.encoder_slots.proofs.Pieces.{writes-row, writes_more}
 use Rattle.encoder_slots.proofs.Ready.{ready-entry}
-use Rattle.encoder_slots.specs.Pieces.{Writes, Ready, entryRoom}
+use Rattle.encoder_slots.specs.Pieces.{Writes, Ready, entry_room}
 use Rattle.encoder_slots.specs.Places.{place_of}
 use Rattle.encoding.specs.Steps.{entry}
-use Rattle.encoding.specs.Slots.{Kind, kindNumber, choice, flag, bitZero, slot}
+use Rattle.encoding.specs.Slots.{Kind, kind_number, choice, flag, bit_zero, slot}
 use Rattle.table.specs.Programs.{upto}
 use Rattle.records.specs.Sets.{Set}
 use Prim.Native.Nat.{ℕ, ◌+◌, ◌-◌, ◌*◌, ◌≤◌, ◌<◌}
@@ -22,7 +22,7 @@ use Rattle.encoder_flags.proofs.each_flag.Tie as tie
 
 abbrev invariant-loop : tie.invariant-loop
 invariant-loop set first lists slots₀ out₀ t count n executes no' next₀ j₀ slots out next j =
-    (j ≤ count) × (next ≤ n + entryRoom * j) × (length out ≡ length out₀) × (length slots ≡ length slots₀)
+    (j ≤ count) × (next ≤ n + entry_room * j) × (length out ≡ length out₀) × (length slots ≡ length slots₀)
     × ((S : Set) (cs members : List ℕ) (k : ℕ) → t < S.threads → Stands S set first count t → Ready S cs members lists slots₀ n
     → (Writes (upto (entry S cs k flag t) j) out₀ slots₀ n out slots next) × (Ready S cs members lists slots next))
 
@@ -73,9 +73,9 @@ loop-again c =
       λ (S : Set) (cs members : List ℕ) (k : ℕ) row stands ready.
           let f = entry S cs k flag a.t in
           let so_far = l.invariant.4 S cs members k row stands ready in
-          let kept : (other : Kind) (x y : ℕ) → eqb (kindNumber other) (kindNumber flag) ≡ false → place_of a.slots.now (slot other x y) ≡ place_of l.slots (slot other x y) =
+          let kept : (other : Kind) (x y : ℕ) → eqb (kind_number other) (kind_number flag) ≡ false → place_of a.slots.now (slot other x y) ≡ place_of l.slots (slot other x y) =
           λ other x y apart. sym (row-others S cs k flag a.t other x y apart l.j a.out.now a.slots.now a.n l.out l.slots l.next so_far.0) in
-          let w = r.ensures.0 S cs members k row stands so_far.1 (choice-place.ensures ∙ kept choice 0 a.t refl) (no_place.ensures ∙ kept bitZero 0 0 refl) in
+          let w = r.ensures.0 S cs members k row stands so_far.1 (choice-place.ensures ∙ kept choice 0 a.t refl) (no_place.ensures ∙ kept bit_zero 0 0 refl) in
           (writes_more f l.j a.out.now a.slots.now a.n _ _ _ _ _ _ so_far.0 w, ready-entry k flag a.t l.j w so_far.1),
     )
 
@@ -93,7 +93,7 @@ returns c =
     let j-is : l.j ≡ a.count = omega arith in (
       λ (S : Set) (cs members : List ℕ) (k : ℕ) row stands ready.
           subst (λ (i : ℕ). Writes (upto (entry S cs k flag a.t) i) a.out.now a.slots.now a.n l.out l.slots l.next)
-          (j-is ∙ sym stands.countIs) (l.invariant.4 S cs members k row stands ready).0,
+          (j-is ∙ sym stands.count_is) (l.invariant.4 S cs members k row stands ready).0,
       omega arith,
     )
 

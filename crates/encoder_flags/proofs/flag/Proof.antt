@@ -15,7 +15,7 @@ use native.Mathlib.Omega.{arith}
 use borrow.Author.Rules.{rules}
 use Rattle.encoder_flags.proofs.flag.Statement.{statement}
 use Rattle.encoder_flags.proofs.flag.Tie as tie
-use Rattle.table.specs.Repeats.{lastIndex}
+use Rattle.table.specs.Repeats.{last_index}
 
 add-statement-at : tie.Need-overflow-add-statement-at
 add-statement-at c = search rules
@@ -47,7 +47,7 @@ returns c =
     let a = c.before.before.before.before.before.before.before.before.before.before.before.before.before.before.before.before.before.before.before.before.args in
     let q = c.before.before.before.before.before.before.before.before.before.before.before.before.before.before.before.before.before.before.before.before.requires in
     let within = q.2 in
-    let room : a.n ≤ lastIndex = let p = q.4 in omega arith in
+    let room : a.n ≤ last_index = let p = q.4 in omega arith in
     let g = c.before.before.before.before.before.before.before.before.before.before.before.before.put-flag in
     let s = c.before.before.before.before.before.before.before.before.before.before.before.before.before.before.before.statement-at in
     let r = c.before.before.before.before.before.before.flag-links in
@@ -56,13 +56,13 @@ returns c =
     let links = r.ensures.1 in (
       λ (S : Set) (cs members : List ℕ) (k : ℕ) row stands ready executes-is no-is.
           let places = place_of a.slots.now in
-          let put = g.ensures.0 S cs k (s.ensures ∙ sym (stands.statementIs a.j (omega arith))) executes-is no-is room in
+          let put = g.ensures.0 S cs k (s.ensures ∙ sym (stands.statement_is a.j (omega arith))) executes-is no-is room in
           let w : WritesTree places (tree_of S cs k flag a.t a.j) a.out.now a.n _ r.result.next r.result.at =
-          flag-chained S cs k a.t a.j a.count (sym stands.countIs) places a.out.now a.n _ r.result.next r.result.at
+          flag-chained S cs k a.t a.j a.count (sym stands.count_is) places a.out.now a.n _ r.result.next r.result.at
           (r.ensures.0 S cs members (base S cs k flag a.t a.j) a.out.now a.n row stands ready
           (put_written g.result places a.n (base S cs k flag a.t a.j) a.out.now _ put)) in
           entry_kept S cs k flag a.t a.j a.out.now a.slots.now a.n _ _ r.result.next r.result.at refl w
-          (p.1 ready.allPlaces (omega arith) q.3 (omega arith) (ready-root ready w (omega arith))) p.0,
+          (p.1 ready.all_places (omega arith) q.3 (omega arith) (ready-root ready w (omega arith))) p.0,
       omega arith,
     )
 

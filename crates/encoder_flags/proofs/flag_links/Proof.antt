@@ -1,9 +1,9 @@
 -- `encoder_flags::flag_links` meets its contract. Assumes nothing.
 use Rattle.encoder_flags.proofs.Lists.{jumps-unnamed}
-use Rattle.encoder_flags.proofs.Written.{none-lead, before-leads}
+use Rattle.encoder_flags.proofs.Written.{none_lead, before-leads}
 use Rattle.encoder_slots.specs.Places.{place_of}
 use Rattle.encoder_slots.proofs.Ready.{ready-jumps}
-use Rattle.set_index.specs.ListTables.{firstJumps, noStatement}
+use Rattle.set_index.specs.ListTables.{first_jumps, no_statement}
 use Rattle.encoding.specs.Steps.{chain, leads}
 use Rattle.encoding.specs.Slots.{Term}
 use Rattle.records.specs.declared.Statement.{Statement}
@@ -16,7 +16,7 @@ use lib.ListN.{get_or}
 use borrow.Author.Rules.{rules}
 use Rattle.encoder_flags.proofs.flag_links.Statement.{statement}
 use Rattle.encoder_flags.proofs.flag_links.Tie as tie
-use Rattle.table.specs.Repeats.{lastIndex}
+use Rattle.table.specs.Repeats.{last_index}
 
 first-requires : tie.Need-first-requires
 first-requires c κs = search rules
@@ -65,15 +65,15 @@ returns-2 c =
     let few = q.1 in
     let jump = c.before.before.before.before.before.before.before.before.first.ensures in
     let left = c.before.before.before.before.before.before.before.if1.false in
-    let room : a.n ≤ lastIndex = omega arith in (
+    let room : a.n ≤ last_index = omega arith in (
       λ (S : Set) (cs members : List ℕ) (tree : Term) (start : List ℕ) (m : ℕ) row stands ready w.
-          let unnamed = jumps-unnamed S a.t a.count a.j (omega arith) few (now a.lists) (ready-jumps ready row stands) (λ (e : get_or (now a.lists) (firstJumps a.t + a.j) 0 < noStatement). omega arith) in
+          let unnamed = jumps-unnamed S a.t a.count a.j (omega arith) few (now a.lists) (ready-jumps ready row stands) (λ (e : get_or (now a.lists) (first_jumps a.t + a.j) 0 < no_statement). omega arith) in
           let places = place_of (now a.slots) in
           let links = leads S [] 0 a.t a.j in
           before-leads places S a.t a.j a.count within unnamed tree start m (a.j - 1) (omega arith)
           (now a.out) a.n a.base _ _ _
           (p.ensures.0 places (links (a.j - 1)) (chain links (a.j - 1) tree) start m room
-          (c.before.before.before.before.follows.ensures S a.j (ap (λ (x : Statement). x.number) (s.ensures ∙ sym (stands.statementIs (a.j - 1) (omega arith)))) (omega arith)
+          (c.before.before.before.before.follows.ensures S a.j (ap (λ (x : Statement). x.number) (s.ensures ∙ sym (stands.statement_is (a.j - 1) (omega arith)))) (omega arith)
           (unnamed (a.j - 1) (omega arith)))) w,
       omega arith,
     )
@@ -87,8 +87,8 @@ returns-3 c =
     let jump = c.before.before.first.ensures in
     let left = c.before.if1.false in (
       λ (S : Set) (cs members : List ℕ) (tree : Term) (start : List ℕ) (m : ℕ) row stands ready w.
-          let unnamed = jumps-unnamed S a.t a.count a.j (omega arith) few (now a.lists) (ready-jumps ready row stands) (λ (e : get_or (now a.lists) (firstJumps a.t + a.j) 0 < noStatement). omega arith) in
-          none-lead (place_of (now a.slots)) S a.t a.j a.count (omega arith) unnamed tree start m (omega arith)
+          let unnamed = jumps-unnamed S a.t a.count a.j (omega arith) few (now a.lists) (ready-jumps ready row stands) (λ (e : get_or (now a.lists) (first_jumps a.t + a.j) 0 < no_statement). omega arith) in
+          none_lead (place_of (now a.slots)) S a.t a.j a.count (omega arith) unnamed tree start m (omega arith)
           (now a.out) a.n a.base w,
       omega arith,
     )

@@ -11,11 +11,11 @@ use mathlib.Core.List.{List, []}
 use native.Mathlib.Omega.{arith}
 use Rattle.set_index.specs.ListTables.{JumpsOf}
 use Rattle.encoder_flags.specs.Named.{NamedFirst}
-use Rattle.encoder_flags.proofs.Lists.{named_past, past-ahead}
+use Rattle.encoder_flags.proofs.Lists.{named_past, past_ahead}
 use borrow.Author.Rules.{rules}
 use Rattle.encoder_flags.proofs.jump_links.Statement.{statement}
 use Rattle.encoder_flags.proofs.jump_links.Tie as tie
-use Rattle.table.specs.Repeats.{lastIndex}
+use Rattle.table.specs.Repeats.{last_index}
 
 -- the first jump that names j
 heads : (c : tie.After-first) → let a = c.before.before.before.before.before.args in
@@ -87,7 +87,7 @@ named-links-requires-3 c κs =
     let most = earlier.ensures.2 in
     let one = c.before.before.before.before.put-link.ensures.1 in
     let g = c.before.past in
-    let ahead = past-ahead (j - 1) earlier.result.hit g.result _ (omega arith) g.ensures.0 g.ensures.1 in
+    let ahead = past_ahead (j - 1) earlier.result.hit g.result _ (omega arith) g.ensures.0 g.ensures.1 in
     (q.0, q.1, omega arith, q.4)
 
 same-length-2 : tie.Need-same-length-2
@@ -110,8 +110,8 @@ returns-2 c =
     let most = earlier.ensures.2 in
     let one = p.ensures.1 in
     let rest = later.ensures.2 in
-    let ahead = past-ahead (a.j - 1) earlier.result.hit g.result _ (omega arith) g.ensures.0 g.ensures.1 in
-    let room : earlier.result.tree.next ≤ lastIndex = omega arith in (
+    let ahead = past_ahead (a.j - 1) earlier.result.hit g.result _ (omega arith) g.ensures.0 g.ensures.1 in
+    let room : earlier.result.tree.next ≤ last_index = omega arith in (
       λ (S : Set) (cs members : List ℕ) (tree : Term) (start : List ℕ) (m : ℕ) row stands ready w.
           let listed = ready-jumps ready row stands in
           let places = place_of a.slots.now in
@@ -124,7 +124,7 @@ returns-2 c =
           (named_past S a.t a.count a.j (omega arith) few a.lists.now listed earlier.result.hit (a.j - 1) g.result (omega arith) due g.ensures.0 g.ensures.1 before.1)
           (chain_more places links tree start m _ _ _ (a.j - 1)
           (p.ensures.0 places (links (a.j - 1)) (chain links (a.j - 1) tree) start m room
-          (link.ensures S (s.ensures ∙ sym (stands.statementIs (a.j - 1) (omega arith)))) before.0))).0,
+          (link.ensures S (s.ensures ∙ sym (stands.statement_is (a.j - 1) (omega arith)))) before.0))).0,
       omega arith,
     )
 

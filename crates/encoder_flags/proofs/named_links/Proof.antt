@@ -1,13 +1,13 @@
 -- `encoder_flags::named_links` meets its contract. Assumes nothing.
 use Rattle.records.specs.StatementRecords.{Stands}
-use Rattle.set_index.specs.Members.{namesTarget}
+use Rattle.set_index.specs.Members.{names_target}
 use Rattle.encoder_slots.specs.Pieces.{WritesTree, Ready}
 use Rattle.encoder_slots.specs.Places.{place_of}
 use Rattle.encoder_slots.proofs.Ready.{ready-jumps}
 use Rattle.encoding.specs.Steps.{chain, leads}
 use Rattle.encoding.specs.Slots.{Term}
 use Rattle.records.specs.declared.Statement.{Statement}
-use Rattle.records.specs.Sets.{Set, mostStatements}
+use Rattle.records.specs.Sets.{Set, most_statements}
 use Prim.Native.Nat.{ℕ, ◌+◌, ◌-◌, ◌≤◌, ◌<◌}
 use mathlib.Core.Path.{◌≡◌, refl, sym, ap, ◌∙◌, subst}
 use mathlib.Core.Bool.{true}
@@ -20,12 +20,12 @@ use Rattle.encoder_flags.proofs.Written.{Reached, reached-more, reached-all}
 use borrow.Author.Rules.{rules}
 use Rattle.encoder_flags.proofs.named_links.Statement.{statement}
 use Rattle.encoder_flags.proofs.named_links.Tie as tie
-use Rattle.table.specs.Repeats.{lastIndex}
+use Rattle.table.specs.Repeats.{last_index}
 
 abbrev invariant-loop : tie.invariant-loop
 invariant-loop set first lists slots out₀ t hit end n base tree₀ i₀ out tree i =
     (hit ≤ i) × (i < end → tree.next ≤ n + (i - hit)) × (tree.next ≤ n + (end - hit)) × (length out ≡ length out₀)
-    × ((S : Set) (cs members : List ℕ) (base-tree : Term) (start : List ℕ) (m j count from : ℕ) → j < mostStatements → from ≤ hit → from ≤ end → end ≤ count
+    × ((S : Set) (cs members : List ℕ) (base-tree : Term) (start : List ℕ) (m j count from : ℕ) → j < most_statements → from ≤ hit → from ≤ end → end ≤ count
     → ((x : ℕ) → from ≤ x → x < end → (j ≡ x + 1 → ⊥)) → t < S.threads → Stands S set first count t
     → Ready S cs members lists slots m → NamedFirst S t count hit from j
     → WritesTree (place_of slots) (chain (leads S [] 0 t j) from base-tree) start m out₀ n base
@@ -92,7 +92,7 @@ loop-again c =
     let one = p.ensures.1 in
     let started = l.invariant.0 in
     let so_far = l.invariant.1 going in
-    let room : l.tree.next ≤ lastIndex = let n = q.2 in omega arith in (
+    let room : l.tree.next ≤ last_index = let n = q.2 in omega arith in (
       omega arith,
       λ more. omega arith,
       omega arith,
@@ -101,12 +101,12 @@ loop-again c =
           let places = place_of a.slots.now in
           let links = leads S [] 0 a.t j in
           let r = l.invariant.4 S cs members tree start m j count from small due within inside apart row stands ready soonest w in
-          let names : namesTarget (S.statement a.t l.i) j ≡ true = (r.soonest.belongs (omega arith)).1 in
+          let names : names_target (S.statement a.t l.i) j ≡ true = (r.soonest.belongs (omega arith)).1 in
           let after : from ≤ l.i = let x = r.since in let y = r.due in omega arith in
           reached-more places S a.t j small count from a.end inside apart tree start m l.i l.out l.tree.next l.tree.at r going names
           a.lists.now (ready-jumps ready row stands) f.result greater f.ensures _ _ _
           (p.ensures.0 places (links l.i) (chain links l.i tree) start m room
-          (link.ensures S j (ap (λ (x : Statement). x.number) (s.ensures ∙ sym (stands.statementIs l.i (omega arith)))) names (apart l.i after going))),
+          (link.ensures S j (ap (λ (x : Statement). x.number) (s.ensures ∙ sym (stands.statement_is l.i (omega arith)))) names (apart l.i after going))),
     )
 
 same_length : tie.Need-same-length invariant-loop decreases-loop

@@ -1,6 +1,6 @@
 -- `encoder_marks::entry` meets its contract. Assumes nothing.
 use Rattle.encoder_marks.specs.Marked.{marked}
-use Rattle.encoder_marks.proofs.Marked.{marked-known, marked-kept, raised-written, mark-written}
+use Rattle.encoder_marks.proofs.Marked.{marked-known, marked-kept, raised_written, mark_written}
 use Rattle.encoder_slots.specs.Pieces.{WritesTree, Ready}
 use Rattle.encoder_slots.specs.Places.{place_of}
 use Rattle.encoder_slots.proofs.Entries.{entry-none, entry_kept, tree_of}
@@ -26,7 +26,7 @@ there : (c : tie.After-contains) → let a = c.before.before.before.before.args 
     kept S cs 0 (shape (kind_at a.kind)) a.t a.p ≡ c.contains.result
 there c S cs members is row column ready =
     let a = c.before.before.before.before.args in
-    marked-kept S cs 0 a.t a.p a.kind is ∙ sym (c.contains.ensures S cs ready.byName row column)
+    marked-kept S cs 0 a.t a.p a.kind is ∙ sym (c.contains.ensures S cs ready.by_name row column)
 
 contains-requires : tie.Need-contains-requires
 contains-requires c κs = search rules
@@ -66,10 +66,10 @@ returns c =
           let bare = base S cs a.step (kind_at a.kind) a.t a.p in
           let put = put_written g.result places a.n bare (now a.out) _ (g.ensures.0 S cs threads is (omega arith)) in
           let w : WritesTree places (tree_of S cs a.step (kind_at a.kind) a.t a.p) (now a.out) a.n _ r.result.next r.result.at =
-          raised-written S cs a.step a.t a.p places (now a.out) a.n _ r.result.next r.result.at a.kind c.before.before.before.before.before.before.before.before.before.if2.true
+          raised_written S cs a.step a.t a.p places (now a.out) a.n _ r.result.next r.result.at a.kind c.before.before.before.before.before.before.before.before.before.if2.true
           (r.ensures.0 S cs members bare (now a.out) a.n inside-row inside-column (omega arith) ready put) in
           entry_kept S cs a.step (kind_at a.kind) a.t a.p (now a.out) (now a.slots) a.n _ _ r.result.next r.result.at
-          (there c.before.before.before.before.before.before.before.before.before.before.before.before.before.before.before.before.before S cs members is inside-row inside-column ready ∙ c.before.before.before.before.before.before.before.before.before.before.before.before.before.before.before.before.if1.true) w (p.1 ready.allPlaces (marked-known a.kind is) q.1 (omega arith) (ready-root ready w (omega arith))) p.0,
+          (there c.before.before.before.before.before.before.before.before.before.before.before.before.before.before.before.before.before S cs members is inside-row inside-column ready ∙ c.before.before.before.before.before.before.before.before.before.before.before.before.before.before.before.before.if1.true) w (p.1 ready.all_places (marked-known a.kind is) q.1 (omega arith) (ready-root ready w (omega arith))) p.0,
       omega arith,
     )
 
@@ -97,9 +97,9 @@ returns-2 c =
           let bare = base S cs a.step (kind_at a.kind) a.t a.p in
           let put = put_written g.result places a.n bare (now a.out) _ (g.ensures.0 S cs threads is (omega arith)) in
           let w : WritesTree places (tree_of S cs a.step (kind_at a.kind) a.t a.p) (now a.out) a.n _ (a.n + g.result.count) g.result.root =
-          mark-written S cs a.step a.t a.p places (now a.out) a.n _ (a.n + g.result.count) g.result.root a.kind is c.before.before.before.before.if2.false put in
+          mark_written S cs a.step a.t a.p places (now a.out) a.n _ (a.n + g.result.count) g.result.root a.kind is c.before.before.before.before.if2.false put in
           entry_kept S cs a.step (kind_at a.kind) a.t a.p (now a.out) (now a.slots) a.n _ _ (a.n + g.result.count) g.result.root
-          (there c.before.before.before.before.before.before.before.before.before.before.before.before S cs members is inside-row inside-column ready ∙ c.before.before.before.before.before.before.before.before.before.before.before.if1.true) w (p.1 ready.allPlaces (marked-known a.kind is) q.1 (omega arith) (ready-root ready w (omega arith))) p.0,
+          (there c.before.before.before.before.before.before.before.before.before.before.before.before S cs members is inside-row inside-column ready ∙ c.before.before.before.before.before.before.before.before.before.before.before.if1.true) w (p.1 ready.all_places (marked-known a.kind is) q.1 (omega arith) (ready-root ready w (omega arith))) p.0,
       omega arith,
     )
 

@@ -1,5 +1,5 @@
 -- `encoder_marks::line` meets its contract. Assumes nothing.
-use Rattle.encoder_slots.specs.Pieces.{Writes, Ready, entryRoom}
+use Rattle.encoder_slots.specs.Pieces.{Writes, Ready, entry_room}
 use Rattle.encoder_slots.proofs.Ready.{ready-entry}
 use Rattle.encoder_slots.proofs.Pieces.{writes-row, writes_more}
 use Rattle.encoder_marks.specs.Marked.{marked}
@@ -20,7 +20,7 @@ use Rattle.encoder_marks.proofs.line.Tie as tie
 
 abbrev invariant-loop : tie.invariant-loop
 invariant-loop table slots₀ out₀ threads count step kind t n next₀ p₀ slots out next p =
-    (p ≤ count) × (next ≤ n + entryRoom * p) × (length out ≡ length out₀) × (length slots ≡ length slots₀)
+    (p ≤ count) × (next ≤ n + entry_room * p) × (length out ≡ length out₀) × (length slots ≡ length slots₀)
     × ((S : Set) (cs members : List ℕ) → S.threads ≡ threads → length cs ≡ count → marked kind ≡ true → t < S.threads → Ready S cs members table slots₀ n
     → (Ready S cs members table slots next) × (Writes (upto (entry S cs step (kind_at kind) t) p) out₀ slots₀ n out slots next))
 

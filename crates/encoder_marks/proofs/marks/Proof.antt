@@ -1,5 +1,5 @@
 -- `encoder_marks::marks` meets its contract. Assumes nothing.
-use Rattle.encoder_slots.specs.Pieces.{Writes, Ready, entryRoom, blockRoom}
+use Rattle.encoder_slots.specs.Pieces.{Writes, Ready, entry_room, block_room}
 use Rattle.encoder_slots.proofs.Ready.{ready-line}
 use Rattle.encoder_slots.proofs.Pieces.{writes-row, writes_more}
 use Rattle.encoder_marks.specs.Marked.{marked}
@@ -7,7 +7,7 @@ use Rattle.encoder_marks.proofs.Marked.{marked-rows}
 use Rattle.encoding.specs.Steps.{line}
 use Rattle.encoding.specs.Slots.{kind_at}
 use Rattle.table.specs.Programs.{upto}
-use Rattle.records.specs.Sets.{Set, mostThreads, mostCheckpoints}
+use Rattle.records.specs.Sets.{Set, most_threads, most_checkpoints}
 use Prim.Native.Nat.{ℕ, ◌+◌, ◌-◌, ◌*◌, ◌≤◌, ◌<◌}
 use mathlib.Core.Path.{◌≡◌, refl, sym, ◌∙◌, subst}
 use mathlib.Core.Bool.{true}
@@ -17,11 +17,11 @@ use lib.ListN.{length}
 use borrow.Author.Rules.{rules}
 use Rattle.encoder_marks.proofs.marks.Statement.{statement}
 use Rattle.encoder_marks.proofs.marks.Tie as tie
-use Rattle.table.specs.Repeats.{lastIndex}
+use Rattle.table.specs.Repeats.{last_index}
 
 abbrev invariant-loop : tie.invariant-loop
 invariant-loop table slots₀ out₀ threads count step kind n next₀ t₀ slots out next t =
-    (t ≤ threads) × (threads ≤ mostThreads) × (count ≤ mostCheckpoints) × (n + blockRoom ≤ lastIndex) × (next ≤ n + mostCheckpoints * entryRoom * t) × (length out ≡ length out₀) × (length slots ≡ length slots₀)
+    (t ≤ threads) × (threads ≤ most_threads) × (count ≤ most_checkpoints) × (n + block_room ≤ last_index) × (next ≤ n + most_checkpoints * entry_room * t) × (length out ≡ length out₀) × (length slots ≡ length slots₀)
     × ((S : Set) (cs members : List ℕ) → S.threads ≡ threads → length cs ≡ count → marked kind ≡ true → Ready S cs members table slots₀ n
     → (Ready S cs members table slots next) × (Writes (upto (line S cs step (kind_at kind)) t) out₀ slots₀ n out slots next))
 
@@ -31,27 +31,27 @@ decreases-loop table slots₀ out₀ threads count step kind n next₀ t₀ slot
 returns : tie.Need-returns invariant-loop decreases-loop
 returns c =
     let a = c.before.before.before.before.args in
-    ((λ S cs members row column is ready (room : a.n + blockRoom ≤ lastIndex). absurd (omega arith)), omega arith)
+    ((λ S cs members row column is ready (room : a.n + block_room ≤ last_index). absurd (omega arith)), omega arith)
 
 returns-2 : tie.Need-returns-2 invariant-loop decreases-loop
 returns-2 c =
     let a = c.before.before.before.before.before.args in
-    ((λ (S : Set) (cs members : List ℕ) row column is (ready : Ready S cs members (now a.table) (now a.slots) a.n) room. absurd (c.if2.true ready.allPlaces)), omega arith)
+    ((λ (S : Set) (cs members : List ℕ) row column is (ready : Ready S cs members (now a.table) (now a.slots) a.n) room. absurd (c.if2.true ready.all_places)), omega arith)
 
 returns-3 : tie.Need-returns-3 invariant-loop decreases-loop
 returns-3 c =
     let a = c.before.before.before.before.before.before.args in
-    ((λ (S : Set) (cs members : List ℕ) row column is (ready : Ready S cs members (now a.table) (now a.slots) a.n) room. absurd (c.if3.true ready.byName.whole)), omega arith)
+    ((λ (S : Set) (cs members : List ℕ) row column is (ready : Ready S cs members (now a.table) (now a.slots) a.n) room. absurd (c.if3.true ready.by_name.whole)), omega arith)
 
 returns-4 : tie.Need-returns-4 invariant-loop decreases-loop
 returns-4 c =
     let a = c.before.before.before.before.before.before.before.args in
-    ((λ (S : Set) (cs members : List ℕ) (row : S.threads ≡ a.threads) column is (ready : Ready S cs members a.table.now a.slots.now a.n) room. let four = ready.byName.fourThreads in absurd (omega arith)), omega arith)
+    ((λ (S : Set) (cs members : List ℕ) (row : S.threads ≡ a.threads) column is (ready : Ready S cs members a.table.now a.slots.now a.n) room. let four = ready.by_name.four_threads in absurd (omega arith)), omega arith)
 
 returns-5 : tie.Need-returns-5 invariant-loop decreases-loop
 returns-5 c =
     let a = c.before.before.before.before.before.before.before.before.args in
-    ((λ (S : Set) (cs members : List ℕ) row (column : length cs ≡ a.count) is (ready : Ready S cs members a.table.now a.slots.now a.n) room. let eight = ready.byName.eightPoints in absurd (omega arith)), omega arith)
+    ((λ (S : Set) (cs members : List ℕ) row (column : length cs ≡ a.count) is (ready : Ready S cs members a.table.now a.slots.now a.n) room. let eight = ready.by_name.eight_points in absurd (omega arith)), omega arith)
 
 loop-holds : tie.Need-loop-init invariant-loop decreases-loop
 loop-holds c =

@@ -52,7 +52,7 @@ returns c =
           r.ensures.0 S cs members (base S cs a.step opening 0 a.p) (now a.out) a.n row column (omega arith) ready
           (put_written g.result places a.n (base S cs a.step opening 0 a.p) (now a.out) _ put) in
           entry_kept S cs a.step opening 0 a.p (now a.out) (now a.slots) a.n _ _ r.result.next r.result.at refl w
-          (p.1 ready.allPlaces (omega arith) (omega arith) (omega arith) (ready-root ready w (omega arith))) p.0,
+          (p.1 ready.all_places (omega arith) (omega arith) (omega arith) (ready-root ready w (omega arith))) p.0,
       omega arith,
     )
 

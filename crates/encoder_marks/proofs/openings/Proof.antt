@@ -1,12 +1,12 @@
 -- `encoder_marks::openings` meets its contract. Assumes nothing.
-use Rattle.encoder_slots.specs.Pieces.{Writes, Ready, entryRoom, blockRoom}
+use Rattle.encoder_slots.specs.Pieces.{Writes, Ready, entry_room, block_room}
 use Rattle.encoder_slots.proofs.Ready.{ready-entry}
 use Rattle.encoder_slots.proofs.Pieces.{writes-row, writes_more}
-use Rattle.encoder_marks.proofs.Blocks.{openings-written}
+use Rattle.encoder_marks.proofs.Blocks.{openings_written}
 use Rattle.encoding.specs.Steps.{entry}
 use Rattle.encoding.specs.Slots.{opening}
 use Rattle.table.specs.Programs.{upto}
-use Rattle.records.specs.Sets.{Set, mostCheckpoints}
+use Rattle.records.specs.Sets.{Set, most_checkpoints}
 use Prim.Native.Nat.{ℕ, ◌+◌, ◌-◌, ◌*◌, ◌≤◌, ◌<◌}
 use mathlib.Core.Path.{◌≡◌, refl}
 use mathlib.Core.List.{List}
@@ -15,11 +15,11 @@ use lib.ListN.{length}
 use borrow.Author.Rules.{rules}
 use Rattle.encoder_marks.proofs.openings.Statement.{statement}
 use Rattle.encoder_marks.proofs.openings.Tie as tie
-use Rattle.table.specs.Repeats.{lastIndex}
+use Rattle.table.specs.Repeats.{last_index}
 
 abbrev invariant-loop : tie.invariant-loop
 invariant-loop table slots₀ out₀ threads count step n next₀ p₀ slots out next p =
-    (p ≤ count) × (count ≤ mostCheckpoints) × (n + blockRoom ≤ lastIndex) × (next ≤ n + entryRoom * p) × (length out ≡ length out₀) × (length slots ≡ length slots₀)
+    (p ≤ count) × (count ≤ most_checkpoints) × (n + block_room ≤ last_index) × (next ≤ n + entry_room * p) × (length out ≡ length out₀) × (length slots ≡ length slots₀)
     × ((S : Set) (cs members : List ℕ) → S.threads ≡ threads → length cs ≡ count → Ready S cs members table slots₀ n
     → (Ready S cs members table slots next) × (Writes (upto (entry S cs step opening 0) p) out₀ slots₀ n out slots next))
 
@@ -29,27 +29,27 @@ decreases-loop table slots₀ out₀ threads count step n next₀ p₀ slots out
 returns : tie.Need-returns invariant-loop decreases-loop
 returns c =
     let a = c.before.before.before.before.args in
-    ((λ S cs members row column ready (room : a.n + blockRoom ≤ lastIndex). absurd (omega arith)), omega arith)
+    ((λ S cs members row column ready (room : a.n + block_room ≤ last_index). absurd (omega arith)), omega arith)
 
 returns-2 : tie.Need-returns-2 invariant-loop decreases-loop
 returns-2 c =
     let a = c.before.before.before.before.before.args in
-    ((λ (S : Set) (cs members : List ℕ) row column (ready : Ready S cs members (now a.table) (now a.slots) a.n) room. absurd (c.if2.true ready.allPlaces)), omega arith)
+    ((λ (S : Set) (cs members : List ℕ) row column (ready : Ready S cs members (now a.table) (now a.slots) a.n) room. absurd (c.if2.true ready.all_places)), omega arith)
 
 returns-3 : tie.Need-returns-3 invariant-loop decreases-loop
 returns-3 c =
     let a = c.before.before.before.before.before.before.args in
-    ((λ (S : Set) (cs members : List ℕ) row column (ready : Ready S cs members (now a.table) (now a.slots) a.n) room. absurd (c.if3.true ready.byName.whole)), omega arith)
+    ((λ (S : Set) (cs members : List ℕ) row column (ready : Ready S cs members (now a.table) (now a.slots) a.n) room. absurd (c.if3.true ready.by_name.whole)), omega arith)
 
 returns-4 : tie.Need-returns-4 invariant-loop decreases-loop
 returns-4 c =
     let a = c.before.before.before.before.before.before.before.args in
-    ((λ (S : Set) (cs members : List ℕ) (row : S.threads ≡ a.threads) column (ready : Ready S cs members a.table.now a.slots.now a.n) room. let four = ready.byName.fourThreads in absurd (omega arith)), omega arith)
+    ((λ (S : Set) (cs members : List ℕ) (row : S.threads ≡ a.threads) column (ready : Ready S cs members a.table.now a.slots.now a.n) room. let four = ready.by_name.four_threads in absurd (omega arith)), omega arith)
 
 returns-5 : tie.Need-returns-5 invariant-loop decreases-loop
 returns-5 c =
     let a = c.before.before.before.before.before.before.before.before.args in
-    ((λ (S : Set) (cs members : List ℕ) row (column : length cs ≡ a.count) (ready : Ready S cs members a.table.now a.slots.now a.n) room. let eight = ready.byName.eightPoints in absurd (omega arith)), omega arith)
+    ((λ (S : Set) (cs members : List ℕ) row (column : length cs ≡ a.count) (ready : Ready S cs members a.table.now a.slots.now a.n) room. let eight = ready.by_name.eight_points in absurd (omega arith)), omega arith)
 
 loop-holds : tie.Need-loop-init invariant-loop decreases-loop
 loop-holds c =
@@ -110,7 +110,7 @@ returns-6 c =
     let l = c.before.loop in (
       (λ (S : Set) (cs members : List ℕ) (row : S.threads ≡ a.threads) (column : length cs ≡ a.count) ready room.
           let end : l.p ≡ length cs = omega arith in
-          openings-written S cs a.step a.out.now a.slots.now a.n _ _ _ l.p end (l.invariant.6 S cs members row column ready).1),
+          openings_written S cs a.step a.out.now a.slots.now a.n _ _ _ l.p end (l.invariant.6 S cs members row column ready).1),
       omega arith,
     )
 

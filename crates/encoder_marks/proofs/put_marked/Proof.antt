@@ -1,7 +1,7 @@
 -- `encoder_marks::put_marked` meets its contract. Assumes nothing.
 use Rattle.encoder_marks.proofs.Marked.{put-at, marked-last}
 use Rattle.encoder_slots.specs.Places.{place_of}
-use Rattle.encoding.specs.Slots.{kinds, kindNumber, held, raised, mark}
+use Rattle.encoding.specs.Slots.{kinds, kind_number, held, raised, mark}
 use Rattle.records.specs.Sets.{Set}
 use Prim.Native.Nat.{ℕ}
 use mathlib.Core.Path.{refl}
@@ -29,7 +29,7 @@ returns c =
     let a = c.before.before.before.before.before.before.before.args in
     let g = c.before.before.put-base in (
       λ (S : Set) (cs : List ℕ) threads is room.
-          put-at S cs a.step a.t a.p (place_of a.slots.now) a.out.now _ a.n g.result a.kind (kindNumber held) c.before.before.before.before.match.keys1 (g.ensures.0 S cs threads refl (λ e. absurd (omega arith)) room),
+          put-at S cs a.step a.t a.p (place_of a.slots.now) a.out.now _ a.n g.result a.kind (kind_number held) c.before.before.before.before.match.keys1 (g.ensures.0 S cs threads refl (λ e. absurd (omega arith)) room),
       g.ensures.1,
     )
 
@@ -42,7 +42,7 @@ returns-2 c =
     let a = c.before.before.before.before.before.before.before.args in
     let g = c.before.before.put-base2 in (
       λ (S : Set) (cs : List ℕ) threads is room.
-          put-at S cs a.step a.t a.p (place_of a.slots.now) a.out.now _ a.n g.result a.kind (kindNumber raised) c.before.before.before.before.match.keys2 (g.ensures.0 S cs threads refl (λ e. absurd (omega arith)) room),
+          put-at S cs a.step a.t a.p (place_of a.slots.now) a.out.now _ a.n g.result a.kind (kind_number raised) c.before.before.before.before.match.keys2 (g.ensures.0 S cs threads refl (λ e. absurd (omega arith)) room),
       g.ensures.1,
     )
 
@@ -55,7 +55,7 @@ returns-3 c =
     let a = c.before.before.before.before.before.before.before.args in
     let g = c.before.before.put-base3 in (
       λ (S : Set) (cs : List ℕ) threads is room.
-          put-at S cs a.step a.t a.p (place_of a.slots.now) a.out.now _ a.n g.result a.kind (kindNumber mark) (marked-last a.kind is c.before.before.before.before.match.rest) (g.ensures.0 S cs threads refl (λ e. absurd (omega arith)) room),
+          put-at S cs a.step a.t a.p (place_of a.slots.now) a.out.now _ a.n g.result a.kind (kind_number mark) (marked-last a.kind is c.before.before.before.before.match.rest) (g.ensures.0 S cs threads refl (λ e. absurd (omega arith)) room),
       g.ensures.1,
     )
 

@@ -47,7 +47,7 @@ returns c =
     let a = c.before.before.args in
     let l = c.before.loop in
     let t-is : l.t ≡ a.layout.threads = omega arith in
-    (l.invariant.1 ∙ ap (total (λ u. get_or a.layout.counts u 0)) t-is, λ limits. let four = limits.fourThreads in let i = l.invariant.3 limits.fewStatements in omega arith, omega arith)
+    (l.invariant.1 ∙ ap (total (λ u. get_or a.layout.counts u 0)) t-is, λ limits. let four = limits.four_threads in let i = l.invariant.3 limits.few_statements in omega arith, omega arith)
 
 pub all-statements-spec : {M : Type 1} → statement M
 all-statements-spec =

@@ -1,6 +1,6 @@
 -- `encoder_size::checks` meets its contract. Assumes nothing.
 use Rattle.set_index.proofs.Counted.{listed-most}
-use Rattle.encoder_size.proofs.Seen.{notes-none, notes-more, notes-same}
+use Rattle.encoder_size.proofs.Seen.{notes_none, notes_more, notes_same}
 use Rattle.encoder_size.specs.Seen.{Notes}
 use Rattle.set_index.specs.Points.{listed}
 use Rattle.base.proofs.Below.{number-none, number_more, number_same}
@@ -38,7 +38,7 @@ loop-holds c =
     let eight : length a.points.numbers ≡ 8 = search rules in
     let few = listed-most a.points eight in
     let e = c.points-count.ensures in
-    (omega arith, omega arith, omega arith, sym (number-none _ 0 (λ i l. absurd (omega arith))), refl, c.before.before.before.requires, notes-none _ _)
+    (omega arith, omega arith, omega arith, sym (number-none _ 0 (λ i l. absurd (omega arith))), refl, c.before.before.before.requires, notes_none _ _)
 
 checkpoint-requires : tie.Need-checkpoint-requires invariant-loop decreases-loop
 checkpoint-requires c κs = search rules
@@ -77,7 +77,7 @@ loop-again c =
       w.2 ∙ ap (λ (k : ℕ). k + 1) l.invariant.3 ∙ sym (number_more test l.p hit),
       same ∙ l.invariant.4,
       same ∙ room,
-      subst (Notes (l.p + 1) test a.seen.now) (sym w.1) (notes-more l.p test a.seen.now l.seen _ (omega arith) (omega arith) hit l.invariant.6),
+      subst (Notes (l.p + 1) test a.seen.now) (sym w.1) (notes_more l.p test a.seen.now l.seen _ (omega arith) (omega arith) hit l.invariant.6),
     ))
     (λ w.
     let other = ne_eqb _ _ (λ p. w.0.left (p ∙ sym e)) in (
@@ -87,7 +87,7 @@ loop-again c =
       w.2 ∙ l.invariant.3 ∙ sym (number_same test l.p other),
       ap length w.1 ∙ l.invariant.4,
       ap length w.1 ∙ room,
-      subst (Notes (l.p + 1) test a.seen.now) (sym w.1) (notes-same l.p test a.seen.now l.seen other l.invariant.6),
+      subst (Notes (l.p + 1) test a.seen.now) (sym w.1) (notes_same l.p test a.seen.now l.seen other l.invariant.6),
     ))
     c.if2.branch
 

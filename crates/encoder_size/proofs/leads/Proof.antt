@@ -1,7 +1,7 @@
 -- `encoder_size::leads` meets its contract. Assumes nothing.
-use Rattle.encoder_size.proofs.Parts.{leads-nowhere, leads-there, leads-both, leads-on}
+use Rattle.encoder_size.proofs.Parts.{leads_nowhere, leads-there, leads-both, leads-on}
 use Rattle.encoder_size.specs.Sizes.{within}
-use Rattle.encoding.specs.Steps.{isOneWay}
+use Rattle.encoding.specs.Steps.{is_one_way}
 use native.Mathlib.Omega.{arith}
 use native.Mathlib.Numerals.{add-one}
 use mathlib.Core.Path.{◌≡◌, ap, ap₂, sym, ◌∙◌}
@@ -14,13 +14,13 @@ use Rattle.encoder_size.proofs.leads.Tie as tie
 
 -- the code's test is the definition's
 one_way : (c : tie.After-is-conditional) → let a = c.before.before.args in
-    (eqb a.n 9 || c.is-conditional.result && eqb a.target (a.i + 1)) ≡ isOneWay a.n a.target a.i
+    (eqb a.n 9 || c.is-conditional.result && eqb a.target (a.i + 1)) ≡ is_one_way a.n a.target a.i
 one_way c =
     let a = c.before.before.args in
     λ z. eqb a.n 9 || c.is-conditional.ensures z && eqb a.target (add-one a.i z)
 
 returns : tie.Need-returns
-returns c = (sym (leads-nowhere _ _ _ _ c.if1.true), omega arith)
+returns c = (sym (leads_nowhere _ _ _ _ c.if1.true), omega arith)
 
 add-next : tie.Need-overflow-add-next
 add-next c = search rules

@@ -1,5 +1,5 @@
 -- `encoder_size::marks` meets its contract. Assumes nothing.
-use Rattle.encoder_size.specs.Seen.{isSeen}
+use Rattle.encoder_size.specs.Seen.{is_seen}
 use Rattle.base.proofs.Below.{number-none, number_more, number_same}
 use Rattle.base.specs.Below.{number}
 use Prim.Native.Nat.{ℕ, ◌+◌, ◌-◌, ◌≤◌}
@@ -13,7 +13,7 @@ use Rattle.encoder_size.proofs.marks.Statement.{statement}
 use Rattle.encoder_size.proofs.marks.Tie as tie
 
 abbrev invariant-loop : tie.invariant-loop
-invariant-loop seen found₀ p₀ found p = (p ≤ 8) × (found ≤ p) × (found ≡ number p (isSeen seen))
+invariant-loop seen found₀ p₀ found p = (p ≤ 8) × (found ≤ p) × (found ≡ number p (is_seen seen))
 
 abbrev decreases-loop : tie.decreases-loop
 decreases-loop seen found₀ p₀ found p = 8 - p
@@ -47,7 +47,7 @@ returns c =
     let a = c.before.before.before.args in
     let l = c.before.loop in
     let p-is : l.p ≡ 8 = omega arith in
-    (l.invariant.2 ∙ ap (λ (p : ℕ). number p (isSeen a.seen.now)) p-is, omega arith)
+    (l.invariant.2 ∙ ap (λ (p : ℕ). number p (is_seen a.seen.now)) p-is, omega arith)
 
 pub marks-spec : {M : Type 1} → statement M
 marks-spec =

@@ -1,9 +1,9 @@
 -- `encoder_size::raises` meets its contract. Assumes nothing.
-use Rattle.encoder_size.proofs.Seen.{notes-nothing, notes-ext}
-use Rattle.encoder_size.specs.Seen.{checksAt}
-use Rattle.encoder_size.specs.Sizes.{checkRecords}
+use Rattle.encoder_size.proofs.Seen.{notes_nothing, notes_ext}
+use Rattle.encoder_size.specs.Seen.{checks_at}
+use Rattle.encoder_size.specs.Sizes.{check_records}
 use Rattle.set_index.specs.Points.{listed}
-use Rattle.base.proofs.Choice.{chosen, passed, and-false}
+use Rattle.base.proofs.Choice.{chosen, passed, and_false}
 use native.Mathlib.Omega.{arith}
 use mathlib.Core.Bool.{Bool, ◌&&◌}
 use mathlib.Core.Path.{refl, ap, sym, ◌∙◌}
@@ -21,7 +21,7 @@ same_length : tie.Need-same-length
 same_length c = search rules
 
 returns : tie.Need-returns
-unfolding checkRecords
+unfolding check_records
 returns c =
     let a = c.before.before.before.before.before.before.args in
     let here = eq-eqb _ _ c.before.before.before.before.if1.true in
@@ -29,15 +29,15 @@ returns c =
       w.0 ∙ sym (chosen _ _ here),
       w.1,
       w.2,
-      notes-ext _ (λ p. eqb a.argument (get_or (listed a.points) p 0)) (checksAt (listed a.points) a.n a.argument) _ _
+      notes_ext _ (λ p. eqb a.argument (get_or (listed a.points) p 0)) (checks_at (listed a.points) a.n a.argument) _ _
           (λ p. sym (ap (λ (b : Bool). b && eqb a.argument (get_or (listed a.points) p 0)) here)) w.3,
     )
 
 returns-2 : tie.Need-returns-2
-unfolding checkRecords
+unfolding check_records
 returns-2 c =
     let other = ne_eqb _ _ c.if1.false in
-    (sym (passed _ _ other), omega arith, refl, notes-nothing _ _ _ (λ p. and-false _ other))
+    (sym (passed _ _ other), omega arith, refl, notes_nothing _ _ _ (λ p. and_false _ other))
 
 pub raises-spec : {M : Type 1} → statement M
 raises-spec = tie.close (tie.spec checks-requires same_length returns returns-2)

@@ -1,15 +1,15 @@
 -- `encoder_size::statements` meets its contract. Assumes nothing.
 use Rattle.encoder_size.proofs.Sums.{total-none, total-next, total_ext}
-use Rattle.encoder_size.proofs.Seen.{notes-nothing, notes-ext, notes-next}
-use Rattle.encoder_size.specs.Sizes.{total, statementRecords}
-use Rattle.encoder_size.specs.Seen.{checksAt, Notes}
-use Rattle.machine.specs.Machine.{isCheck, contains}
+use Rattle.encoder_size.proofs.Seen.{notes_nothing, notes_ext, notes_next}
+use Rattle.encoder_size.specs.Sizes.{total, statement_records}
+use Rattle.encoder_size.specs.Seen.{checks_at, Notes}
+use Rattle.machine.specs.Machine.{is_check, contains}
 use Rattle.machine.proofs.Groups.{some_same}
 use Rattle.base.specs.Below.{some}
 use Rattle.set_index.specs.Points.{listed}
 use Rattle.records.proofs.StatementRecords.{stands_by}
 use Rattle.records.specs.declared.Statement.{Statement}
-use Rattle.records.specs.Sets.{setBy, statementAt}
+use Rattle.records.specs.Sets.{set_by, statement_at}
 use Prim.Native.Nat.{ℕ, ◌+◌, ◌-◌, ◌*◌, ◌≤◌, ◌<◌}
 use mathlib.Core.List.{List}
 use mathlib.Core.Bool.{Bool}
@@ -21,14 +21,14 @@ use Rattle.encoder_size.proofs.statements.Statement.{statement}
 use Rattle.encoder_size.proofs.statements.Tie as tie
 
 -- a statement is a CHECK of checkpoint p
-abbrev checksIn : List ℕ → Statement → ℕ → Bool
-checksIn cs s p = checksAt cs s.number s.argument p
+abbrev checks_in : List ℕ → Statement → ℕ → Bool
+checks_in cs s p = checks_at cs s.number s.argument p
 
 abbrev invariant-loop : tie.invariant-loop
 invariant-loop set points t count seen₀ first n₀ i₀ seen n i =
-    (i ≤ count) × (first < 65536) × (n ≡ total (λ j. statementRecords (listed points) count j (statementAt set (first + j))) i) × (n ≤ 24 * i)
+    (i ≤ count) × (first < 65536) × (n ≡ total (λ j. statement_records (listed points) count j (statement_at set (first + j))) i) × (n ≤ 24 * i)
     × (length seen ≡ length seen₀) × (length seen ≡ 8)
-    × Notes (length (listed points)) (λ p. some i (λ j. checksIn (listed points) (statementAt set (first + j)) p)) seen₀ seen
+    × Notes (length (listed points)) (λ p. some i (λ j. checks_in (listed points) (statement_at set (first + j)) p)) seen₀ seen
 
 abbrev decreases-loop : tie.decreases-loop
 decreases-loop set points t count seen₀ first n₀ i₀ seen n i = count - i
@@ -38,7 +38,7 @@ first-requires c κs = search rules
 
 loop-holds : tie.Need-loop-init invariant-loop decreases-loop
 unfolding some
-loop-holds c = (omega arith, c.first.ensures.1, sym (total-none _), omega arith, refl, c.before.before.before.requires.1, notes-nothing _ _ _ (λ p. refl))
+loop-holds c = (omega arith, c.first.ensures.1, sym (total-none _), omega arith, refl, c.before.before.before.requires.1, notes_nothing _ _ _ (λ p. refl))
 
 cast-statement-at : tie.Need-overflow-cast-statement-at invariant-loop decreases-loop
 cast-statement-at c = search rules
@@ -71,16 +71,16 @@ loop-again c =
     let cs = listed a.points in
     let going = c.before.before.before.before.before.loop-test.true in
     let most = w.1 in
-    let e = w.0 ∙ ap (λ (s : Statement). statementRecords cs a.count l.i s) read in
-    let f = total-next (λ j. statementRecords cs a.count j (statementAt a.set.now (first + j))) l.i in (
+    let e = w.0 ∙ ap (λ (s : Statement). statement_records cs a.count l.i s) read in
+    let f = total-next (λ j. statement_records cs a.count j (statement_at a.set.now (first + j))) l.i in (
       omega arith,
       l.invariant.1,
       omega arith,
       omega arith,
       w.2 ∙ l.invariant.4,
       w.2 ∙ l.invariant.5,
-      notes-next (length cs) l.i (λ j. checksIn cs (statementAt a.set.now (first + j))) a.seen.now l.seen _ l.invariant.6
-          (notes-ext (length cs) _ (checksIn cs (statementAt a.set.now (first + l.i))) l.seen _ (λ p. ap (λ (s : Statement). checksIn cs s p) read) w.3),
+      notes_next (length cs) l.i (λ j. checks_in cs (statement_at a.set.now (first + j))) a.seen.now l.seen _ l.invariant.6
+          (notes_ext (length cs) _ (checks_in cs (statement_at a.set.now (first + l.i))) l.seen _ (λ p. ap (λ (s : Statement). checks_in cs s p) read) w.3),
     )
 
 same_length : tie.Need-same-length invariant-loop decreases-loop
@@ -92,19 +92,19 @@ returns c =
     let a = c.before.before.before.before.before.args in
     let l = c.before.loop in
     let read = c.before.before.first in
-    let S = setBy a.set.now a.layout in
+    let S = set_by a.set.now a.layout in
     let cs = listed a.points in
     let i-is : l.i ≡ a.count = omega arith in
     let all : a.count ≡ get_or a.layout.counts a.t 0 = c.before.before.before.before.before.requires.0 in (
-      l.invariant.2 ∙ ap (total (λ j. statementRecords cs a.count j (statementAt a.set.now (read.result + j)))) i-is
-          ∙ total_ext _ (λ j. statementRecords cs a.count j (S.statement a.t j)) a.count
-          (λ j h. ap (λ (s : Statement). statementRecords cs a.count j s) (sym ((stands_by a.set.now a.layout a.t read.result read.ensures.0).statementIs j (omega arith)))),
+      l.invariant.2 ∙ ap (total (λ j. statement_records cs a.count j (statement_at a.set.now (read.result + j)))) i-is
+          ∙ total_ext _ (λ j. statement_records cs a.count j (S.statement a.t j)) a.count
+          (λ j h. ap (λ (s : Statement). statement_records cs a.count j s) (sym ((stands_by a.set.now a.layout a.t read.result read.ensures.0).statement_is j (omega arith)))),
       omega arith,
       l.invariant.4,
-      notes-ext (length cs) (λ p. some l.i (λ j. checksIn cs (statementAt a.set.now (read.result + j)) p)) (λ p. contains S a.t (get_or cs p 0)) a.seen.now l.seen
-          (λ p. some_same (λ j. checksIn cs (statementAt a.set.now (read.result + j)) p) (isCheck S a.t (get_or cs p 0)) l.i
-          (λ j h. ap (λ (s : Statement). checksIn cs s p) (sym ((stands_by a.set.now a.layout a.t read.result read.ensures.0).statementIs j (omega arith))))
-          ∙ ap (λ (k : ℕ). some k (isCheck S a.t (get_or cs p 0))) (i-is ∙ all)) l.invariant.6,
+      notes_ext (length cs) (λ p. some l.i (λ j. checks_in cs (statement_at a.set.now (read.result + j)) p)) (λ p. contains S a.t (get_or cs p 0)) a.seen.now l.seen
+          (λ p. some_same (λ j. checks_in cs (statement_at a.set.now (read.result + j)) p) (is_check S a.t (get_or cs p 0)) l.i
+          (λ j h. ap (λ (s : Statement). checks_in cs s p) (sym ((stands_by a.set.now a.layout a.t read.result read.ensures.0).statement_is j (omega arith))))
+          ∙ ap (λ (k : ℕ). some k (is_check S a.t (get_or cs p 0))) (i-is ∙ all)) l.invariant.6,
     )
 
 pub statements-spec : {M : Type 1} → statement M

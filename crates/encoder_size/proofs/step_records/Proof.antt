@@ -2,9 +2,9 @@
 use Rattle.set_index.proofs.Counted.{listed-most}
 use Rattle.encoder_size.proofs.Steps.{step-size}
 use Rattle.encoder_size.proofs.Sums.{total-none, total-next}
-use Rattle.encoder_size.specs.Sizes.{total, threadRecords, stepRecords}
+use Rattle.encoder_size.specs.Sizes.{total, thread_records, step_records}
 use Rattle.set_index.specs.Points.{listed}
-use Rattle.records.specs.Sets.{setBy}
+use Rattle.records.specs.Sets.{set_by}
 use Prim.Native.Nat.{ℕ, ◌+◌, ◌-◌, ◌*◌, ◌≤◌}
 use mathlib.Core.Path.{◌≡◌, ap, sym, ◌∙◌}
 use lib.ListN.{length, get_or}
@@ -15,7 +15,7 @@ use Rattle.encoder_size.proofs.step_records.Tie as tie
 
 abbrev invariant-loop : tie.invariant-loop
 invariant-loop set layout points threads n₀ t₀ n t =
-    (t ≤ threads) × (n ≡ total (threadRecords (setBy set layout) (listed points)) t) × (n ≤ 1572887 * t) × (((u : ℕ) → get_or layout.counts u 0 ≤ 32) → n ≤ 815 * t)
+    (t ≤ threads) × (n ≡ total (thread_records (set_by set layout) (listed points)) t) × (n ≤ 1572887 * t) × (((u : ℕ) → get_or layout.counts u 0 ≤ 32) → n ≤ 815 * t)
 
 abbrev decreases-loop : tie.decreases-loop
 decreases-loop set layout points threads n₀ t₀ n t = threads - t
@@ -40,7 +40,7 @@ loop-again c =
     let a = c.before.before.before.before.args in
     let l = c.before.before.loop in
     let e = c.thread.ensures.0 in
-    let f = total-next (threadRecords (setBy a.set.now a.layout) (listed a.points)) l.t in
+    let f = total-next (thread_records (set_by a.set.now a.layout) (listed a.points)) l.t in
     (omega arith, omega arith, omega arith, λ h. let i = l.invariant.3 h in let j = h l.t in omega arith)
 
 points-count-requires : tie.Need-points-count-requires invariant-loop decreases-loop
@@ -56,19 +56,19 @@ add-result-2 : tie.Need-overflow-add-result-2 invariant-loop decreases-loop
 add-result-2 c = search rules
 
 returns : tie.Need-returns invariant-loop decreases-loop
-unfolding stepRecords
+unfolding step_records
 returns c =
     let a = c.before.before.before.before.args in
     let l = c.before.before.loop in
-    let S = setBy a.set.now a.layout in
+    let S = set_by a.set.now a.layout in
     let cs = listed a.points in
     let eight : length a.points.numbers ≡ 8 = search rules in
     let few = listed-most a.points eight in
     let t-is : l.t ≡ a.layout.threads = omega arith in
-    let e = l.invariant.1 ∙ ap (total (threadRecords S cs)) t-is in
+    let e = l.invariant.1 ∙ ap (total (thread_records S cs)) t-is in
     let p = c.points-count.ensures in
-    let r : l.n + c.points-count.result + 5 ≡ stepRecords S cs = omega arith in
-    (λ (m k : ℕ). step-size S cs k m ∙ ap (λ (n : ℕ). m + n) (sym r), λ limits. let four = limits.fourThreads in let i = l.invariant.3 limits.fewStatements in omega arith, omega arith)
+    let r : l.n + c.points-count.result + 5 ≡ step_records S cs = omega arith in
+    (λ (m k : ℕ). step-size S cs k m ∙ ap (λ (n : ℕ). m + n) (sym r), λ limits. let four = limits.four_threads in let i = l.invariant.3 limits.few_statements in omega arith, omega arith)
 
 pub step-records-spec : {M : Type 1} → statement M
 step-records-spec =

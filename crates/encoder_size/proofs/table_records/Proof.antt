@@ -1,9 +1,9 @@
 -- `encoder_size::table_records` meets its contract. Assumes nothing.
 use Rattle.encoder_size.proofs.Tables.{table-size}
 use Rattle.encoder_size.proofs.Steps.{step-size}
-use Rattle.encoder_size.specs.Sizes.{stepRecords, tableRecords}
+use Rattle.encoder_size.specs.Sizes.{step_records, table_records}
 use Rattle.set_index.specs.Points.{listed}
-use Rattle.records.specs.Sets.{setBy}
+use Rattle.records.specs.Sets.{set_by}
 use Prim.Native.Nat.{ℕ, ◌*◌, ◌≤◌}
 use mathlib.Core.Path.{◌≡◌, ap}
 use native.Mathlib.Omega.{arith}
@@ -41,14 +41,14 @@ add-result-2 : tie.Need-overflow-add-result-2
 add-result-2 c = let f = steps c in omega arith
 
 returns : tie.Need-returns
-unfolding tableRecords
+unfolding table_records
 returns c =
     let a = c.before.before.before.before.args in
-    let S = setBy a.set.now a.layout in
+    let S = set_by a.set.now a.layout in
     let cs = listed a.points in
     let map = a.map.now in
     let r = c.before.step-records.result in
-    let s : r ≡ stepRecords S cs = let e = c.before.step-records.ensures.0 0 0 in let f = step-size S cs 0 0 in omega arith in
+    let s : r ≡ step_records S cs = let e = c.before.step-records.ensures.0 0 0 in let f = step-size S cs 0 0 in omega arith in
     let product = ap (λ (n : ℕ). a.bound * n) s in
     let all = c.all-statements.ensures.0 in
     let size = table-size S cs map a.bound in (

@@ -32,7 +32,7 @@ read : (c : tie.After-begin) →
     let a = c.before.before.before.before.before.args in
     get_or a.slots.now (c.begin.result + (c.before.before.width.result * a.a + a.b)) 0 ≡ kept_at a.slots.now a.kind a.a a.b
 read c = let a = c.before.before.before.before.before.args in
-    ap (λ (i : ℕ). get_or a.slots.now i 0) (counted c).isIndex
+    ap (λ (i : ℕ). get_or a.slots.now i 0) (counted c).is_index
     ∙ sym (kept_in a.slots.now a.kind a.a a.b c.before.before.before.if1.true (counted c).column)
 
 unread : (c : tie.After-begin) →
@@ -42,10 +42,10 @@ unread c h = let a = c.before.before.before.before.before.args in
     sym (get_or-eq_default a.slots.now 0 h) ∙ read c
 
 mul-i : tie.Need-overflow-mul-i
-mul-i c = let r = (counted c).rowsSmall in omega arith
+mul-i c = let r = (counted c).rows_small in omega arith
 
 add-i : tie.Need-overflow-add-i
-add-i c = let r = (counted c).rowsSmall in omega arith
+add-i c = let r = (counted c).rows_small in omega arith
 
 add-i-2 : tie.Need-overflow-add-i-2
 add-i-2 c = let r = (counted c).small in omega arith

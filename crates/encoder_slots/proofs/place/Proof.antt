@@ -1,7 +1,7 @@
 -- `encoder_slots::place` meets its contract. Assumes nothing.
 use mathlib.Core.Path.{sym, ◌∙◌}
 use borrow.Author.Rules.{rules}
-use Rattle.encoder_slots.proofs.Stores.{place-unset, place_set}
+use Rattle.encoder_slots.proofs.Stores.{place_unset, place_set}
 use Rattle.encoder_slots.proofs.place.Statement.{statement}
 use Rattle.encoder_slots.proofs.place.Tie as tie
 
@@ -10,7 +10,7 @@ kept-requires c κs = search rules
 
 returns : tie.Need-returns
 returns c = let a = c.before.before.before.args in
-    sym (place-unset a.slots.now a.kind a.a a.b a.start (sym c.before.kept.ensures ∙ c.if1.true))
+    sym (place_unset a.slots.now a.kind a.a a.b a.start (sym c.before.kept.ensures ∙ c.if1.true))
 
 cast-result : tie.Need-overflow-cast-result
 cast-result c = search rules

@@ -9,7 +9,7 @@ use Rattle.encoder_slots.proofs.Stores.{place-put}
 use borrow.Author.Rules.{rules}
 use Rattle.encoder_slots.proofs.set_place.Statement.{statement}
 use Rattle.encoder_slots.proofs.set_place.Tie as tie
-use Rattle.encoding.specs.Slots.{kindCount}
+use Rattle.encoding.specs.Slots.{kind_count}
 
 width-requires : tie.Need-width-requires
 width-requires c κs = search rules
@@ -29,10 +29,10 @@ counted c = let a = c.before.before.before.before.before.args in
     counted-index a.kind a.a a.b _ _ c.before.before.width.ensures c.begin.ensures (omega arith) c.before.before.before.if1.true c.before.if2.true
 
 mul-i : tie.Need-overflow-mul-i
-mul-i c = let r = (counted c).rowsSmall in omega arith
+mul-i c = let r = (counted c).rows_small in omega arith
 
 add-i : tie.Need-overflow-add-i
-add-i c = let r = (counted c).rowsSmall in omega arith
+add-i c = let r = (counted c).rows_small in omega arith
 
 add-i-2 : tie.Need-overflow-add-i-2
 add-i-2 c = let r = (counted c).small in omega arith
@@ -56,17 +56,17 @@ returns : tie.Need-returns
 returns c = let d = counted c.before.before in
     let a = c.before.before.before.before.before.before.before.args in (
       length-set a.slots.now _ _,
-      λ (n : length a.slots.now ≡ size) (k : a.kind < kindCount) (p : a.a < 4) (q : a.b < width a.kind) (small : a.index < 4294967295).
+      λ (n : length a.slots.now ≡ size) (k : a.kind < kind_count) (p : a.a < 4) (q : a.b < width a.kind) (small : a.index < 4294967295).
           let whole : (a.index % 4294967296 + 1) % 4294967296 ≡ a.index + 1 = omega arith in
           let i = d.within k in
-          let e = d.isIndex in
+          let e = d.is_index in
           (λ z. place_of (set a.slots.now (e z) (whole z)))
           ∙ place-put a.slots.now a.kind a.a a.b a.index p q (omega arith) k,
     )
 
 returns-2 : tie.Need-returns-2
 returns-2 c = let a = c.before.before.before.before.before.before.before.args in
-    (refl, λ n (k : a.kind < kindCount) p q small. absurd (omega arith))
+    (refl, λ n (k : a.kind < kind_count) p q small. absurd (omega arith))
 
 returns-3 : tie.Need-returns-3
 returns-3 c = let a = c.before.before.before.before.before.before.args in

@@ -4,16 +4,16 @@ use mathlib.Core.Path.{◌≡◌, refl, ◌∙◌}
 use native.Mathlib.Omega.{arith}
 use lib.ListN.{length}
 use borrow.Author.Rules.{rules}
-use Rattle.encoding.specs.Slots.{kinds, choice, kindNumber, active}
+use Rattle.encoding.specs.Slots.{kinds, choice, kind_number, active}
 use Rattle.encoder_statements.proofs.Values.{Row, row-none, row_more, row_line}
 use Rattle.encoder_statements.proofs.actives.Statement.{statement}
 use Rattle.encoder_statements.proofs.actives.Tie as tie
-use Rattle.table.specs.Repeats.{lastIndex}
+use Rattle.table.specs.Repeats.{last_index}
 
 abbrev invariant-loop : tie.invariant-loop
 invariant-loop set first count slots₀ out₀ t n executes next₀ i₀ slots out next i =
     (i ≤ count) × (next ≤ n + 4 * i) × (length out ≡ length out₀) × (length slots ≡ length slots₀)
-    × (Row (kindNumber active) set first count t i out₀ slots₀ n out slots next)
+    × (Row (kind_number active) set first count t i out₀ slots₀ n out slots next)
 
 abbrev decreases-loop : tie.decreases-loop
 decreases-loop set first count slots₀ out₀ t n executes next₀ i₀ slots out next i = count - i
@@ -24,7 +24,7 @@ place-requires c κs = search rules
 loop-holds : tie.Need-loop-init invariant-loop decreases-loop
 loop-holds c =
     let a = c.before.before.before.before.before.args in
-    (omega arith, omega arith, refl, refl, row-none (kindNumber active) a.set.now a.first a.count a.t a.out.now a.slots.now a.n)
+    (omega arith, omega arith, refl, refl, row-none (kind_number active) a.set.now a.first a.count a.t a.out.now a.slots.now a.n)
 
 put-active-requires : tie.Need-put-active-requires invariant-loop decreases-loop
 put-active-requires c κs = search rules
@@ -48,12 +48,12 @@ loop-again c =
     let put = c.before.before.before.before.before.before.put-active in
     let settled = c.before.before.settle in
     let small : l.i < 32 = let few = q.0 in omega arith in
-    let room : l.next ≤ lastIndex = let few = q.0 in let h = q.2 in let m = l.invariant.1 in omega arith in (
+    let room : l.next ≤ last_index = let few = q.0 in let h = q.2 in let m = l.invariant.1 in omega arith in (
       omega arith,
       (let m = settled.ensures.2 in let h = l.invariant.1 in omega arith),
       search rules,
       search rules,
-      row_more (kindNumber active) a.set.now a.first a.count a.t a.out.now a.slots.now a.n l.i l.out l.slots l.next _ _ _ l.invariant.4
+      row_more (kind_number active) a.set.now a.first a.count a.t a.out.now a.slots.now a.n l.i l.out l.slots l.next _ _ _ l.invariant.4
           (λ S cs k stands below others. settled.ensures.0 S cs k l.out _ (omega arith) refl q.1 small (l.invariant.3 ∙ q.3) below
           (put.ensures.0 (lies ∙ others choice 0 a.t refl) room)),
     )
@@ -71,7 +71,7 @@ returns c =
     let few = c.before.before.before.before.before.before.before.requires.0 in
     let l = c.before.loop in
     let all : l.i ≡ a.count = omega arith in (
-      row_line (kindNumber active) a.set.now a.first a.count a.t a.out.now a.slots.now a.n (omega arith) refl l.i all l.out l.slots l.next l.invariant.4,
+      row_line (kind_number active) a.set.now a.first a.count a.t a.out.now a.slots.now a.n (omega arith) refl l.i all l.out l.slots l.next l.invariant.4,
       (let m = l.invariant.1 in omega arith),
     )
 

@@ -4,17 +4,17 @@ use mathlib.Core.Path.{◌≡◌, refl, sym, ◌∙◌}
 use native.Mathlib.Omega.{arith}
 use lib.ListN.{length}
 use borrow.Author.Rules.{rules}
-use Rattle.encoding.specs.Slots.{kinds, kindNumber, argument}
+use Rattle.encoding.specs.Slots.{kinds, kind_number, argument}
 use Rattle.encoder_slots.specs.Places.{place_of}
 use Rattle.encoder_statements.proofs.Values.{Row, row-none, row_more, row_line}
 use Rattle.encoder_statements.proofs.arguments.Statement.{statement}
 use Rattle.encoder_statements.proofs.arguments.Tie as tie
-use Rattle.table.specs.Repeats.{lastIndex}
+use Rattle.table.specs.Repeats.{last_index}
 
 abbrev invariant-loop : tie.invariant-loop
 invariant-loop set first count slots₀ out₀ t n next₀ i₀ slots out next i =
     (i ≤ count) × (next ≤ n + 4 * i) × (length out ≡ length out₀) × (length slots ≡ length slots₀)
-    × (Row (kindNumber argument) set first count t i out₀ slots₀ n out slots next)
+    × (Row (kind_number argument) set first count t i out₀ slots₀ n out slots next)
 
 abbrev decreases-loop : tie.decreases-loop
 decreases-loop set first count slots₀ out₀ t n next₀ i₀ slots out next i = count - i
@@ -22,7 +22,7 @@ decreases-loop set first count slots₀ out₀ t n next₀ i₀ slots out next i
 loop-holds : tie.Need-loop-init invariant-loop decreases-loop
 loop-holds c =
     let a = c.before.before.before.args in
-    (omega arith, omega arith, refl, refl, row-none (kindNumber argument) a.set.now a.first a.count a.t a.out.now a.slots.now a.n)
+    (omega arith, omega arith, refl, refl, row-none (kind_number argument) a.set.now a.first a.count a.t a.out.now a.slots.now a.n)
 
 cast-statement-at : tie.Need-overflow-cast-statement-at invariant-loop decreases-loop
 cast-statement-at c = search rules
@@ -55,14 +55,14 @@ loop-again c =
     let settled = c.before.before.settle in
     let less : l.i < a.count = omega arith in
     let small : l.i < 32 = let few = q.0 in omega arith in
-    let room : l.next ≤ lastIndex = let few = q.0 in let h = q.2 in let m = l.invariant.1 in omega arith in (
+    let room : l.next ≤ last_index = let few = q.0 in let h = q.2 in let m = l.invariant.1 in omega arith in (
       omega arith,
       (let m = settled.ensures.2 in let h = l.invariant.1 in omega arith),
       search rules,
       search rules,
-      row_more (kindNumber argument) a.set.now a.first a.count a.t a.out.now a.slots.now a.n l.i l.out l.slots l.next _ _ _ l.invariant.4
+      row_more (kind_number argument) a.set.now a.first a.count a.t a.out.now a.slots.now a.n l.i l.out l.slots l.next _ _ _ l.invariant.4
           (λ S cs k stands below others. settled.ensures.0 S cs k l.out _ (omega arith) refl q.1 small (l.invariant.3 ∙ q.3) below
-          (put.ensures.0 S (place_of l.slots) cs k a.t l.i (c.before.before.before.before.before.before.before.before.statement-at.ensures ∙ sym (stands.statementIs l.i less)))),
+          (put.ensures.0 S (place_of l.slots) cs k a.t l.i (c.before.before.before.before.before.before.before.before.statement-at.ensures ∙ sym (stands.statement_is l.i less)))),
     )
 
 same_length : tie.Need-same-length invariant-loop decreases-loop
@@ -78,7 +78,7 @@ returns c =
     let few = c.before.before.before.before.before.requires.0 in
     let l = c.before.loop in
     let all : l.i ≡ a.count = omega arith in (
-      row_line (kindNumber argument) a.set.now a.first a.count a.t a.out.now a.slots.now a.n (omega arith) refl l.i all l.out l.slots l.next l.invariant.4,
+      row_line (kind_number argument) a.set.now a.first a.count a.t a.out.now a.slots.now a.n (omega arith) refl l.i all l.out l.slots l.next l.invariant.4,
       (let m = l.invariant.1 in omega arith),
     )
 

@@ -32,9 +32,9 @@ returns c =
           let t = base S cs k (kind_at a.kind) a.t a.i in
           let small : a.tree.root < 4294967295 =
           let i = inside places t a.n below in
-          let e = put.rootPut in
-          let f = put.countPut in
-          let few = put.fewPut in
+          let e = put.root_put in
+          let f = put.count_put in
+          let few = put.few_put in
           let room = q.0 in
           omega arith in
           entry_kept S cs k (kind_at a.kind) a.t a.i out a.slots.now a.n after _ (a.n + a.tree.count) a.tree.root (statement-kept S cs a.t a.i a.kind h of)

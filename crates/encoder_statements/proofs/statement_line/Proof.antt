@@ -1,7 +1,7 @@
 -- `encoder_statements::statement_line` meets its contract. Assumes nothing.
 use native.Mathlib.Omega.{arith}
 use Rattle.base.proofs.Choice.{clash}
-use Rattle.encoding.specs.Slots.{kinds, kindNumber, active, address, argument, loaded, notTest, result, swaps, test}
+use Rattle.encoding.specs.Slots.{kinds, kind_number, active, address, argument, loaded, not_test, result, swaps, test}
 use Rattle.encoder_statements.proofs.Values.{line-by, statement-other}
 use Rattle.encoder_statements.proofs.Listed.{listed_by}
 use borrow.Author.Rules.{rules}
@@ -18,13 +18,13 @@ array-read-count : tie.Need-array-read-count
 array-read-count c = search rules
 
 returns-2 : tie.Need-returns-2
-returns-2 c = (λ cs lists k of h room ready. let e = c.if2.true in let few = ready.byClass.few _ h in absurd (omega arith), omega arith)
+returns-2 c = (λ cs lists k of h room ready. let e = c.if2.true in let few = ready.by_class.few _ h in absurd (omega arith), omega arith)
 
 returns-3 : tie.Need-returns-3
-returns-3 c = (λ cs lists k of h room ready. absurd (c.if3.true ready.allPlaces), omega arith)
+returns-3 c = (λ cs lists k of h room ready. absurd (c.if3.true ready.all_places), omega arith)
 
 returns-4 : tie.Need-returns-4
-returns-4 c = (λ cs lists k of h room ready. absurd (c.if4.true ready.byClass.whole), omega arith)
+returns-4 c = (λ cs lists k of h room ready. absurd (c.if4.true ready.by_class.whole), omega arith)
 
 returns-5 : tie.Need-returns-5
 returns-5 c = (λ cs lists k of h room ready. let e = c.if5.true in absurd (omega arith), omega arith)
@@ -70,7 +70,7 @@ unfolding kinds
 returns-6 c =
     let a = c.before.before.before.before.before.before.before.before.before.before.before.before.before.before.before.before.before.before.before.args in
     let line = c.before.before.before.before.actives in (
-      (λ cs lists k of h room ready. line-by a.set.now a.layout cs _ lists k a.kind (kindNumber active) a.t a.out.now a.slots.now a.n _ _ _ c.before.before.before.before.before.before.before.match.keys1 line.ensures.0 ready),
+      (λ cs lists k of h room ready. line-by a.set.now a.layout cs _ lists k a.kind (kind_number active) a.t a.out.now a.slots.now a.n _ _ _ c.before.before.before.before.before.before.before.match.keys1 line.ensures.0 ready),
       line.ensures.1,
     )
 
@@ -85,7 +85,7 @@ unfolding kinds
 returns-7 c =
     let a = c.before.before.before.before.before.before.before.before.before.before.before.before.before.before.before.before.before.before.before.args in
     let line = c.before.before.before.before.addresses in (
-      (λ cs lists k of h room ready. line-by a.set.now a.layout cs _ lists k a.kind (kindNumber address) a.t a.out.now a.slots.now a.n _ _ _ c.before.before.before.before.before.before.before.match.keys2 line.ensures.0 ready),
+      (λ cs lists k of h room ready. line-by a.set.now a.layout cs _ lists k a.kind (kind_number address) a.t a.out.now a.slots.now a.n _ _ _ c.before.before.before.before.before.before.before.match.keys2 line.ensures.0 ready),
       line.ensures.1,
     )
 
@@ -100,7 +100,7 @@ unfolding kinds
 returns-8 c =
     let a = c.before.before.before.before.before.before.before.before.before.before.before.before.before.before.before.before.before.before.before.args in
     let line = c.before.before.before.before.loads in (
-      (λ cs lists k of h room ready. listed_by a.set.now a.layout a.members.now cs lists k a.kind (kindNumber loaded) a.t a.out.now a.slots.now a.n _ _ _ c.before.before.before.before.before.before.before.match.keys3 line.ensures.0 ready),
+      (λ cs lists k of h room ready. listed_by a.set.now a.layout a.members.now cs lists k a.kind (kind_number loaded) a.t a.out.now a.slots.now a.n _ _ _ c.before.before.before.before.before.before.before.match.keys3 line.ensures.0 ready),
       line.ensures.1,
     )
 
@@ -115,7 +115,7 @@ unfolding kinds
 returns-9 c =
     let a = c.before.before.before.before.before.before.before.before.before.before.before.before.before.before.before.before.before.before.before.args in
     let line = c.before.before.before.before.swaps in (
-      (λ cs lists k of h room ready. listed_by a.set.now a.layout a.members.now cs lists k a.kind (kindNumber swaps) a.t a.out.now a.slots.now a.n _ _ _ c.before.before.before.before.before.before.before.match.keys4 line.ensures.0 ready),
+      (λ cs lists k of h room ready. listed_by a.set.now a.layout a.members.now cs lists k a.kind (kind_number swaps) a.t a.out.now a.slots.now a.n _ _ _ c.before.before.before.before.before.before.before.match.keys4 line.ensures.0 ready),
       line.ensures.1,
     )
 
@@ -130,7 +130,7 @@ unfolding kinds
 returns-10 c =
     let a = c.before.before.before.before.before.before.before.before.before.before.before.before.before.before.before.before.before.before.before.args in
     let line = c.before.before.before.before.results in (
-      (λ cs lists k of h room ready. listed_by a.set.now a.layout a.members.now cs lists k a.kind (kindNumber result) a.t a.out.now a.slots.now a.n _ _ _ c.before.before.before.before.before.before.before.match.keys5 line.ensures.0 ready),
+      (λ cs lists k of h room ready. listed_by a.set.now a.layout a.members.now cs lists k a.kind (kind_number result) a.t a.out.now a.slots.now a.n _ _ _ c.before.before.before.before.before.before.before.match.keys5 line.ensures.0 ready),
       line.ensures.1,
     )
 
@@ -145,7 +145,7 @@ unfolding kinds
 returns-11 c =
     let a = c.before.before.before.before.before.before.before.before.before.before.before.before.before.before.before.before.before.before.before.args in
     let line = c.before.before.before.before.tests in (
-      (λ cs lists k of h room ready. listed_by a.set.now a.layout a.members.now cs lists k a.kind (kindNumber test) a.t a.out.now a.slots.now a.n _ _ _ c.before.before.before.before.before.before.before.match.keys6 line.ensures.0 ready),
+      (λ cs lists k of h room ready. listed_by a.set.now a.layout a.members.now cs lists k a.kind (kind_number test) a.t a.out.now a.slots.now a.n _ _ _ c.before.before.before.before.before.before.before.match.keys6 line.ensures.0 ready),
       line.ensures.1,
     )
 
@@ -160,7 +160,7 @@ unfolding kinds
 returns-12 c =
     let a = c.before.before.before.before.before.before.before.before.before.before.before.before.before.before.before.before.before.before.before.args in
     let line = c.before.before.before.before.not-tests in (
-      (λ cs lists k of h room ready. listed_by a.set.now a.layout a.members.now cs lists k a.kind (kindNumber notTest) a.t a.out.now a.slots.now a.n _ _ _ c.before.before.before.before.before.before.before.match.keys7 (line.ensures.0 _ _) ready),
+      (λ cs lists k of h room ready. listed_by a.set.now a.layout a.members.now cs lists k a.kind (kind_number not_test) a.t a.out.now a.slots.now a.n _ _ _ c.before.before.before.before.before.before.before.match.keys7 (line.ensures.0 _ _) ready),
       line.ensures.1,
     )
 
@@ -175,7 +175,7 @@ unfolding kinds
 returns-13 c =
     let a = c.before.before.before.before.before.before.before.before.before.before.before.before.before.before.before.before.before.before.before.args in
     let line = c.before.before.before.before.arguments in (
-      (λ cs lists k of h room ready. line-by a.set.now a.layout cs _ lists k a.kind (kindNumber argument) a.t a.out.now a.slots.now a.n _ _ _ c.before.before.before.before.before.before.before.match.keys8 line.ensures.0 ready),
+      (λ cs lists k of h room ready. line-by a.set.now a.layout cs _ lists k a.kind (kind_number argument) a.t a.out.now a.slots.now a.n _ _ _ c.before.before.before.before.before.before.before.match.keys8 line.ensures.0 ready),
       line.ensures.1,
     )
 

@@ -4,17 +4,17 @@ use mathlib.Core.Path.{◌≡◌, refl, sym, ◌∙◌}
 use native.Mathlib.Omega.{arith}
 use lib.ListN.{length}
 use borrow.Author.Rules.{rules}
-use Rattle.encoding.specs.Slots.{kinds, bitZero, kindNumber, swaps}
-use Rattle.encoder_statements.proofs.Listed.{Some, some-none, some_more, some-line, rests-swap}
+use Rattle.encoding.specs.Slots.{kinds, bit_zero, kind_number, swaps}
+use Rattle.encoder_statements.proofs.Listed.{Some, some-none, some_more, some-line, rests_swap}
 use Rattle.encoder_statements.proofs.swaps.Statement.{statement}
 use Rattle.encoder_statements.proofs.swaps.Tie as tie
-use Rattle.set_index.specs.Members.{casClass}
-use Rattle.table.specs.Repeats.{lastIndex}
+use Rattle.set_index.specs.Members.{cas_class}
+use Rattle.table.specs.Repeats.{last_index}
 
 abbrev invariant-loop : tie.invariant-loop
 invariant-loop set members first slots₀ out₀ t n nothing next₀ swapping j₀ slots out next j =
     (j ≤ swapping) × (next ≤ n + 4 * j) × (length out ≡ length out₀) × (length slots ≡ length slots₀)
-    × (Some (kindNumber swaps) casClass set members first t j out₀ slots₀ n out slots next)
+    × (Some (kind_number swaps) cas_class set members first t j out₀ slots₀ n out slots next)
 
 abbrev decreases-loop : tie.decreases-loop
 decreases-loop set members first slots₀ out₀ t n nothing next₀ swapping j₀ slots out next j = swapping - j
@@ -29,7 +29,7 @@ loop-holds : tie.Need-loop-init invariant-loop decreases-loop
 loop-holds c =
     let a = c.before.before.before.before.before.before.before.args in
     let q = c.before.before.before.before.before.before.before.requires in
-    (omega arith, omega arith, refl, refl, some-none (kindNumber swaps) casClass rests-swap a.set.now a.members.now a.first a.t q.0 a.out.now a.slots.now a.n)
+    (omega arith, omega arith, refl, refl, some-none (kind_number swaps) cas_class rests_swap a.set.now a.members.now a.first a.t q.0 a.out.now a.slots.now a.n)
 
 member-requires : tie.Need-member-requires invariant-loop decreases-loop
 member-requires c κs = search rules
@@ -67,17 +67,17 @@ loop-again c =
     let read = c.before.before.before.before.before.before.before.before.before.statement-at.ensures in
     let put = c.before.before.before.before.before.before.put-swaps in
     let settled = c.before.before.settle in
-    let room : l.next ≤ lastIndex = let few = counted.1 in let h = q.1 in let m = l.invariant.1 in omega arith in (
+    let room : l.next ≤ last_index = let few = counted.1 in let h = q.1 in let m = l.invariant.1 in omega arith in (
       omega arith,
       (let m = settled.ensures.2 in let h = l.invariant.1 in omega arith),
       search rules,
       search rules,
-      some_more (kindNumber swaps) casClass rests-swap a.set.now a.members.now a.first a.t q.0 a.out.now a.slots.now a.n l.j _ l.out l.slots l.next _ _ _
+      some_more (kind_number swaps) cas_class rests_swap a.set.now a.members.now a.first a.t q.0 a.out.now a.slots.now a.n l.j _ l.out l.slots l.next _ _ _
           (λ S listed. let e = counted.0 S listed (omega arith) q.0 in omega arith)
           (λ S listed. named S listed (omega arith) q.0 (let e = counted.0 S listed (omega arith) q.0 in omega arith))
           l.invariant.4
           (λ S cs k count stands less small mine below others. settled.ensures.0 S cs k l.out _ (omega arith) refl q.0 small (l.invariant.3 ∙ q.2) below
-          (put.ensures.0 S cs k (read ∙ sym (stands.statementIs _ less)) (lies ∙ others bitZero 0 0 refl) room)),
+          (put.ensures.0 S cs k (read ∙ sym (stands.statement_is _ less)) (lies ∙ others bit_zero 0 0 refl) room)),
     )
 
 same_length : tie.Need-same-length invariant-loop decreases-loop
@@ -93,7 +93,7 @@ returns c =
     let q = c.before.before.before.before.before.before.before.before.before.requires in
     let counted = c.before.before.count_of.ensures in
     let l = c.before.loop in (
-      some-line (kindNumber swaps) casClass rests-swap a.set.now a.members.now a.first a.t q.0 a.out.now a.slots.now a.n (omega arith) refl l.j
+      some-line (kind_number swaps) cas_class rests_swap a.set.now a.members.now a.first a.t q.0 a.out.now a.slots.now a.n (omega arith) refl l.j
           (λ S listed. let e = counted.0 S listed (omega arith) q.0 in omega arith) l.out l.slots l.next l.invariant.4,
       (let few = counted.1 in let m = l.invariant.1 in omega arith),
     )

@@ -4,17 +4,17 @@ use mathlib.Core.Path.{◌≡◌, refl, sym, ◌∙◌}
 use native.Mathlib.Omega.{arith}
 use lib.ListN.{length}
 use borrow.Author.Rules.{rules}
-use Rattle.encoding.specs.Slots.{kinds, accu, bitZero, wordZero, kindNumber, test}
+use Rattle.encoding.specs.Slots.{kinds, accu, bit_zero, word_zero, kind_number, test}
 use Rattle.encoder_statements.proofs.Listed.{Some, some-none, some_more, some-line, rests-test}
 use Rattle.encoder_statements.proofs.tests.Statement.{statement}
 use Rattle.encoder_statements.proofs.tests.Tie as tie
-use Rattle.set_index.specs.Members.{conditionalClass}
-use Rattle.table.specs.Repeats.{lastIndex}
+use Rattle.set_index.specs.Members.{conditional_class}
+use Rattle.table.specs.Repeats.{last_index}
 
 abbrev invariant-loop : tie.invariant-loop
 invariant-loop set members first slots₀ out₀ t n stored zero nothing next₀ tested j₀ slots out next j =
     (j ≤ tested) × (next ≤ n + 4 * j) × (length out ≡ length out₀) × (length slots ≡ length slots₀)
-    × (Some (kindNumber test) conditionalClass set members first t j out₀ slots₀ n out slots next)
+    × (Some (kind_number test) conditional_class set members first t j out₀ slots₀ n out slots next)
 
 abbrev decreases-loop : tie.decreases-loop
 decreases-loop set members first slots₀ out₀ t n stored zero nothing next₀ tested j₀ slots out next j = tested - j
@@ -35,7 +35,7 @@ loop-holds : tie.Need-loop-init invariant-loop decreases-loop
 loop-holds c =
     let a = c.before.before.before.before.before.before.before.before.before.before.before.args in
     let q = c.before.before.before.before.before.before.before.before.before.before.before.requires in
-    (omega arith, omega arith, refl, refl, some-none (kindNumber test) conditionalClass rests-test a.set.now a.members.now a.first a.t q.0 a.out.now a.slots.now a.n)
+    (omega arith, omega arith, refl, refl, some-none (kind_number test) conditional_class rests-test a.set.now a.members.now a.first a.t q.0 a.out.now a.slots.now a.n)
 
 member-requires : tie.Need-member-requires invariant-loop decreases-loop
 member-requires c κs = search rules
@@ -75,17 +75,17 @@ loop-again c =
     let read = c.before.before.before.before.before.before.before.before.statement-at.ensures in
     let put = c.before.before.before.before.before.before.put-test in
     let settled = c.before.before.settle in
-    let room : l.next ≤ lastIndex = let few = counted.1 in let h = q.1 in let m = l.invariant.1 in omega arith in (
+    let room : l.next ≤ last_index = let few = counted.1 in let h = q.1 in let m = l.invariant.1 in omega arith in (
       omega arith,
       (let m = settled.ensures.2 in let h = l.invariant.1 in omega arith),
       search rules,
       search rules,
-      some_more (kindNumber test) conditionalClass rests-test a.set.now a.members.now a.first a.t q.0 a.out.now a.slots.now a.n l.j _ l.out l.slots l.next _ _ _
+      some_more (kind_number test) conditional_class rests-test a.set.now a.members.now a.first a.t q.0 a.out.now a.slots.now a.n l.j _ l.out l.slots l.next _ _ _
           (λ S listed. let e = counted.0 S listed (omega arith) q.0 in omega arith)
           (λ S listed. named S listed (omega arith) q.0 (let e = counted.0 S listed (omega arith) q.0 in omega arith))
           l.invariant.4
           (λ S cs k count stands less small mine below others. settled.ensures.0 S cs k l.out _ (omega arith) refl q.0 small (l.invariant.3 ∙ q.2) below
-          (put.ensures.0 S cs k a.t _ _ (read ∙ sym (stands.statementIs _ less)) (stored ∙ others accu a.t 0 refl) (zero ∙ others wordZero 0 0 refl) (lies ∙ others bitZero 0 0 refl) room)),
+          (put.ensures.0 S cs k a.t _ _ (read ∙ sym (stands.statement_is _ less)) (stored ∙ others accu a.t 0 refl) (zero ∙ others word_zero 0 0 refl) (lies ∙ others bit_zero 0 0 refl) room)),
     )
 
 same_length : tie.Need-same-length invariant-loop decreases-loop
@@ -101,7 +101,7 @@ returns c =
     let q = c.before.before.before.before.before.before.before.before.before.before.before.before.before.requires in
     let counted = c.before.before.count_of.ensures in
     let l = c.before.loop in (
-      some-line (kindNumber test) conditionalClass rests-test a.set.now a.members.now a.first a.t q.0 a.out.now a.slots.now a.n (omega arith) refl l.j
+      some-line (kind_number test) conditional_class rests-test a.set.now a.members.now a.first a.t q.0 a.out.now a.slots.now a.n (omega arith) refl l.j
           (λ S listed. let e = counted.0 S listed (omega arith) q.0 in omega arith) l.out l.slots l.next l.invariant.4,
       (let few = counted.1 in let m = l.invariant.1 in omega arith),
     )

@@ -7,7 +7,7 @@ use Rattle.encoder_step.proofs.Sequence.{blocks_more}
 use borrow.Author.Rules.{rules}
 use Rattle.encoder_step.proofs.acting_kinds.Statement.{statement}
 use Rattle.encoder_step.proofs.acting_kinds.Tie as tie
-use Rattle.records.specs.Sets.{setBy}
+use Rattle.records.specs.Sets.{set_by}
 use Rattle.set_index.specs.Points.{listed}
 
 statement-kinds-requires : tie.Need-statement-kinds-requires
@@ -74,7 +74,7 @@ returns c =
     let m3 = r3.ensures.1 in
     let m4 = r4.ensures.1 in
     let m5 = r5.ensures.1 in
-    let S = setBy a.set.now a.layout in
+    let S = set_by a.set.now a.layout in
     let cs = listed a.points in
     let k = a.step in (
       λ s0.

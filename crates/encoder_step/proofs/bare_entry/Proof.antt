@@ -14,7 +14,7 @@ use Rattle.encoder_step.proofs.Loops.{bare-written}
 use borrow.Author.Rules.{rules}
 use Rattle.encoder_step.proofs.bare_entry.Statement.{statement}
 use Rattle.encoder_step.proofs.bare_entry.Tie as tie
-use Rattle.table.specs.Repeats.{lastIndex}
+use Rattle.table.specs.Repeats.{last_index}
 
 put-base-requires : tie.Need-put-base-requires
 put-base-requires c κs = search rules
@@ -37,17 +37,17 @@ returns c =
     let q = c.before.before.before.before.before.before.before.before.before.before.before.before.requires in
     let g = c.before.before.before.before.before.before.before.put-base in
     let p = c.before.before.before.set-place.ensures in
-    let room : a.n ≤ lastIndex = let m = q.0 in omega arith in
+    let room : a.n ≤ last_index = let m = q.0 in omega arith in
     let most = g.ensures.1 in
     let column : a.b < width a.kind = let most = q.2 in let least = width-least a.kind in omega arith in (
       λ (S : Set) (cs members lists : List ℕ) threads bare ready.
           let places = place_of a.slots.now in
           let t = base S cs a.step (kind_at a.kind) a.a a.b in
-          let put = g.ensures.0 S cs threads bare.plain bare.noFlag room in
+          let put = g.ensures.0 S cs threads bare.plain bare.no_flag room in
           let w = put_written g.result places a.n t a.out.now _ put in
           entry_kept S cs a.step (kind_at a.kind) a.a a.b a.out.now a.slots.now a.n _ _ (a.n + g.result.count) g.result.root bare.there
           (bare-written S cs a.step a.kind a.a a.b bare places a.out.now a.n _ _ _ w)
-          (p.1 ready.allPlaces bare.known q.1 column (ready-root ready w (omega arith))) p.0,
+          (p.1 ready.all_places bare.known q.1 column (ready-root ready w (omega arith))) p.0,
       omega arith,
     )
 

@@ -8,7 +8,7 @@ use Rattle.records.specs.Sets.{Set}
 use Rattle.table.specs.Programs.{upto}
 use Rattle.encoding.specs.Slots.{kind_at}
 use Rattle.encoding.specs.Steps.{entry}
-use Rattle.encoder_slots.specs.Pieces.{Writes, Ready, treeRoom}
+use Rattle.encoder_slots.specs.Pieces.{Writes, Ready, tree_room}
 use Rattle.encoder_slots.proofs.Ready.{ready-entry}
 use Rattle.encoder_slots.proofs.Pieces.{writes-row, writes_more}
 use Rattle.encoder_step.specs.Entries.{BareEntry}
@@ -19,7 +19,7 @@ use Rattle.encoder_step.proofs.bare_line.Tie as tie
 
 abbrev invariant-loop : tie.invariant-loop
 invariant-loop slots₀ out₀ threads step kind columns n next₀ b₀ slots out next b =
-    (b ≤ columns) × (next ≤ n + treeRoom * b) × (length out ≡ length out₀) × (length slots ≡ length slots₀)
+    (b ≤ columns) × (next ≤ n + tree_room * b) × (length out ≡ length out₀) × (length slots ≡ length slots₀)
     × ((S : Set) (cs members lists : List ℕ) → S.threads ≡ threads → ((j : ℕ) → BareEntry S cs kind 0 j) → Ready S cs members lists slots₀ n
     → (Writes (upto (entry S cs step (kind_at kind) 0) b) out₀ slots₀ n out slots next) × (Ready S cs members lists slots next))
 

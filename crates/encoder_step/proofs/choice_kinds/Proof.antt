@@ -2,19 +2,19 @@
 use native.Mathlib.Omega.{arith}
 use mathlib.Core.Path.{◌≡◌, refl, sym, ◌∙◌}
 use Prim.Native.Nat.{ℕ, ◌≤◌, ◌+◌}
-use Rattle.records.specs.Sets.{setBy}
+use Rattle.records.specs.Sets.{set_by}
 use lib.ListN.{length}
-use Rattle.encoding.specs.Slots.{kinds, kindNumber, choice, active, opening, shut}
+use Rattle.encoding.specs.Slots.{kinds, kind_number, choice, active, opening, shut}
 use Rattle.set_index.specs.Points.{listed}
-use Rattle.encoder_step.proofs.Given.{of-barred}
+use Rattle.encoder_step.proofs.Given.{of_barred}
 use Rattle.encoder_step.proofs.Loops.{lone-at}
 use Rattle.encoder_slots.proofs.Ready.{ready-block}
 use Rattle.encoder_step.proofs.Sequence.{five}
 use borrow.Author.Rules.{rules}
 use Rattle.encoder_step.proofs.choice_kinds.Statement.{statement}
 use Rattle.encoder_step.proofs.choice_kinds.Tie as tie
-use Rattle.encoder_slots.specs.Pieces.{blockRoom}
-use Rattle.table.specs.Repeats.{lastIndex}
+use Rattle.encoder_slots.specs.Pieces.{block_room}
+use Rattle.table.specs.Repeats.{last_index}
 
 cast-choices : tie.Need-overflow-cast-choices
 cast-choices c = search rules
@@ -99,23 +99,23 @@ returns c =
     let r5 = c.before.before.before.before.register-block in
     let m1 = r1.ensures.1 in
     let m2 = r2.ensures.1 in
-    let room3 : r2.result + blockRoom ≤ lastIndex = omega arith in
+    let room3 : r2.result + block_room ≤ last_index = omega arith in
     let m3 = r3.ensures.1 in
     let m4 = r4.ensures.1 in
     let m5 = r5.ensures.1 in
     let many = c.before.before.before.before.before.before.before.before.before.before.before.before.before.before.before.before.before.before.before.before.before.before.before.before.before.before.before.before.before.before.before.before.before.before.before.points-count.ensures in (
       λ s0.
-          let S = setBy a.set.now a.layout in
+          let S = set_by a.set.now a.layout in
           let cs = listed a.points in
-          let w1 = r1.ensures.0 S cs _ _ refl (λ (b : ℕ). lone-at S cs 0 b (kindNumber choice) (omega arith) refl) refl (omega arith) s0 in
+          let w1 = r1.ensures.0 S cs _ _ refl (λ (b : ℕ). lone-at S cs 0 b (kind_number choice) (omega arith) refl) refl (omega arith) s0 in
           let s1 = ready-block a.step choice w1 s0 in
           let w2 = r2.ensures.0 cs _ a.step s1 in
           let s2 = ready-block a.step active w2 s1 in
           let w3 = r3.ensures.0 S cs _ refl (sym many) s2 room3 in
           let s3 = ready-block a.step opening w3 s2 in
-          let w4 = r4.ensures.0 S cs _ _ refl (λ (b : ℕ). lone-at S cs 0 b (kindNumber shut) (omega arith) refl) refl (many) s3 in
+          let w4 = r4.ensures.0 S cs _ _ refl (λ (b : ℕ). lone-at S cs 0 b (kind_number shut) (omega arith) refl) refl (many) s3 in
           let s4 = ready-block a.step shut w4 s3 in
-          let w5 = r5.ensures.0 S cs _ refl (of-barred S cs) s4 in
+          let w5 = r5.ensures.0 S cs _ refl (of_barred S cs) s4 in
           five S cs a.step 0 w1 w2 w3 w4 w5,
       omega arith,
     )

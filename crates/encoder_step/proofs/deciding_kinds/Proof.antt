@@ -1,7 +1,7 @@
 -- `encoder_step::deciding_kinds` meets its contract. Assumes nothing.
 use native.Mathlib.Omega.{arith}
 use mathlib.Core.Path.{refl}
-use Rattle.records.specs.Sets.{setBy}
+use Rattle.records.specs.Sets.{set_by}
 use Rattle.encoding.specs.Slots.{kinds}
 use Rattle.set_index.specs.Points.{listed}
 use Rattle.encoder_slots.proofs.Ready.{ready-blocks}
@@ -35,7 +35,7 @@ returns c =
     let m1 = r1.ensures.1 in
     let m2 = r2.ensures.1 in
     let m3 = r3.ensures.1 in
-    let S = setBy a.set.now a.layout in
+    let S = set_by a.set.now a.layout in
     let cs = listed a.points in
     let k = a.step in (
       λ s0.

@@ -2,9 +2,9 @@
 use native.Mathlib.Omega.{arith}
 use mathlib.Core.Path.{◌≡◌, refl, sym, ◌∙◌}
 use Prim.Native.Nat.{◌≤◌, ◌+◌}
-use Rattle.records.specs.Sets.{setBy}
+use Rattle.records.specs.Sets.{set_by}
 use lib.ListN.{length}
-use Rattle.encoding.specs.Slots.{kinds, kindNumber, flag, mark, halts, ended, code}
+use Rattle.encoding.specs.Slots.{kinds, kind_number, flag, mark, halts, ended, code}
 use Rattle.set_index.specs.Points.{listed}
 use Rattle.encoder_step.proofs.Loops.{lone-at, one_value}
 use Rattle.encoder_slots.proofs.Ready.{ready-block}
@@ -12,8 +12,8 @@ use Rattle.encoder_step.proofs.Sequence.{five}
 use borrow.Author.Rules.{rules}
 use Rattle.encoder_step.proofs.end_kinds.Statement.{statement}
 use Rattle.encoder_step.proofs.end_kinds.Tie as tie
-use Rattle.encoder_slots.specs.Pieces.{blockRoom}
-use Rattle.table.specs.Repeats.{lastIndex}
+use Rattle.encoder_slots.specs.Pieces.{block_room}
+use Rattle.table.specs.Repeats.{last_index}
 
 points-count-requires : tie.Need-points-count-requires
 points-count-requires c κs = search rules
@@ -95,14 +95,14 @@ returns c =
     let r4 = c.before.before.before.before.before.before.before.before.before.before.before.bare-entry in
     let r5 = c.before.before.before.before.bare-entry2 in
     let m1 = r1.ensures.1 in
-    let room2 : r1.result + blockRoom ≤ lastIndex = omega arith in
+    let room2 : r1.result + block_room ≤ last_index = omega arith in
     let m2 = r2.ensures.1 in
     let m3 = r3.ensures.1 in
     let m4 = r4.ensures.1 in
     let m5 = r5.ensures.1 in
     let many = c.before.before.before.before.before.before.before.before.before.before.before.before.before.before.before.before.before.before.before.before.before.before.before.before.before.before.before.before.before.before.before.before.before.before.before.points-count.ensures in (
       λ members s0.
-          let S = setBy a.set.now a.layout in
+          let S = set_by a.set.now a.layout in
           let cs = listed a.points in
           let w1 = r1.ensures.0 cs _ a.step s0 in
           let s1 = ready-block a.step flag w1 s0 in
@@ -110,9 +110,9 @@ returns c =
           let s2 = ready-block a.step mark w2 s1 in
           let w3 = r3.ensures.0 S cs _ _ refl refl refl s2 in
           let s3 = ready-block a.step halts w3 s2 in
-          let w4 = one_value S cs a.step (kindNumber ended) _ _ _ _ _ _ refl refl (r4.ensures.0 S cs _ _ refl (lone-at S cs 0 0 (kindNumber ended) (omega arith) refl) s3) in
+          let w4 = one_value S cs a.step (kind_number ended) _ _ _ _ _ _ refl refl (r4.ensures.0 S cs _ _ refl (lone-at S cs 0 0 (kind_number ended) (omega arith) refl) s3) in
           let s4 = ready-block a.step ended w4 s3 in
-          let w5 = one_value S cs a.step (kindNumber code) _ _ _ _ _ _ refl refl (r5.ensures.0 S cs _ _ refl (lone-at S cs 0 0 (kindNumber code) (omega arith) refl) s4) in
+          let w5 = one_value S cs a.step (kind_number code) _ _ _ _ _ _ refl refl (r5.ensures.0 S cs _ _ refl (lone-at S cs 0 0 (kind_number code) (omega arith) refl) s4) in
           five S cs a.step 31 w1 w2 w3 w4 w5,
       omega arith,
     )

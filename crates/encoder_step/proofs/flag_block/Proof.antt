@@ -7,23 +7,23 @@ use Prim.Native.Nat.{ℕ, ◌+◌, ◌-◌, ◌*◌, ◌≤◌}
 use Rattle.encoding.specs.Steps.{line}
 use Rattle.encoding.specs.Slots.{kinds, flag}
 use Rattle.table.specs.Programs.{upto}
-use Rattle.records.specs.Sets.{setBy, mostThreads}
+use Rattle.records.specs.Sets.{set_by, most_threads}
 use mathlib.Core.List.{List}
 use Rattle.encoder_slots.proofs.Ready.{ready-line}
 use Rattle.encoder_slots.proofs.Pieces.{writes-row, writes_more}
-use Rattle.encoder_slots.specs.Pieces.{Writes, Ready, lineRoom}
+use Rattle.encoder_slots.specs.Pieces.{Writes, Ready, line_room}
 use Rattle.encoder_step.proofs.flag_block.Statement.{statement}
 use Rattle.encoder_step.proofs.flag_block.Tie as tie
 use Rattle.encoder_step.proofs.flag_block.Reads as reads
 use Rattle.encoder_step.proofs.flag_block.Lts as lts
 use Rattle.encoder_flags.proofs.flags.Reads as flags-reads
-use Rattle.table.specs.Repeats.{lastIndex}
+use Rattle.table.specs.Repeats.{last_index}
 
 abbrev invariant-loop : tie.invariant-loop
 invariant-loop set layout lists slots₀ out₀ n threads next₀ t₀ slots out next t =
-    (t ≤ threads) × (threads ≤ mostThreads) × (next ≤ n + lineRoom * t) × (length out ≡ length out₀) × (length slots ≡ length slots₀)
-    × ((cs members : List ℕ) (step : ℕ) → Ready (setBy set layout) cs members lists slots₀ n
-    → (Writes (upto (line (setBy set layout) cs step flag) t) out₀ slots₀ n out slots next) × (Ready (setBy set layout) cs members lists slots next))
+    (t ≤ threads) × (threads ≤ most_threads) × (next ≤ n + line_room * t) × (length out ≡ length out₀) × (length slots ≡ length slots₀)
+    × ((cs members : List ℕ) (step : ℕ) → Ready (set_by set layout) cs members lists slots₀ n
+    → (Writes (upto (line (set_by set layout) cs step flag) t) out₀ slots₀ n out slots next) × (Ready (set_by set layout) cs members lists slots next))
 
 abbrev decreases-loop : tie.decreases-loop
 decreases-loop set layout lists slots₀ out₀ n threads next₀ t₀ slots out next t = threads - t
@@ -37,7 +37,7 @@ loop-holds c =
       omega arith,
       refl,
       refl,
-      λ (cs members : List ℕ) (step : ℕ) ready. (writes-row (line (setBy a.set.now a.layout) cs step flag) a.out.now a.slots.now a.n, ready),
+      λ (cs members : List ℕ) (step : ℕ) ready. (writes-row (line (set_by a.set.now a.layout) cs step flag) a.out.now a.slots.now a.n, ready),
     )
 
 flags-requires : tie.Need-flags-requires invariant-loop decreases-loop
@@ -55,9 +55,9 @@ loop-again c =
     let q = c.before.before.before.before.before.before.before.before.before.before.before.before.before.requires in
     let l = c.before.before.before.before.before.before.before.before.loop in
     let r = c.before.before.before.before.flags in
-    let S = setBy a.set.now a.layout in
+    let S = set_by a.set.now a.layout in
     let little = q.0 in
-    let few : l.next + lineRoom ≤ lastIndex = omega arith in
+    let few : l.next + line_room ≤ last_index = omega arith in
     let last = r.ensures.1 in (
       omega arith,
       l.invariant.1,
@@ -82,7 +82,7 @@ unfolding kinds
 returns c =
     let a = c.before.before.before.before.before.before.args in
     let l = c.before.loop in
-    let S = setBy a.set.now a.layout in
+    let S = set_by a.set.now a.layout in
     let t-is : l.t ≡ a.layout.threads = omega arith in (
       λ (cs members : List ℕ) (step : ℕ) ready.
           subst (λ (j : ℕ). Writes (upto (line S cs step flag) j) a.out.now a.slots.now a.n l.out l.slots l.next)

@@ -9,13 +9,13 @@ use Rattle.encoding.specs.Slots.{Term, kind_at}
 use Rattle.encoding.specs.Steps.{chain, base}
 use Rattle.encoder_slots.specs.Places.{place_of, width}
 use Rattle.encoder_slots.proofs.Rows.{width-least}
-use Rattle.encoder_slots.specs.Pieces.{WritesTree, chainRoom}
+use Rattle.encoder_slots.specs.Pieces.{WritesTree, chain_room}
 use Rattle.encoder_slots.proofs.Entries.{entry_kept, tree_of}
 use Rattle.encoder_bases.proofs.Given.{put_written}
 use borrow.Author.Rules.{rules}
 use Rattle.encoder_step.proofs.given_entry.Statement.{statement}
 use Rattle.encoder_step.proofs.given_entry.Tie as tie
-use Rattle.table.specs.Repeats.{lastIndex}
+use Rattle.table.specs.Repeats.{last_index}
 
 put-base-requires : tie.Need-put-base-requires
 put-base-requires c κs = search rules
@@ -45,18 +45,18 @@ returns c =
     let most = b.ensures.1 in
     let last = r.ensures.1 in
     let little = q.0 in
-    let room : a.n ≤ lastIndex = omega arith in
-    let few : a.n + b.result.count + chainRoom ≤ lastIndex = omega arith in
+    let room : a.n ≤ last_index = omega arith in
+    let few : a.n + b.result.count + chain_room ≤ last_index = omega arith in
     let column : a.b < width a.kind = let most = q.2 in let least = width-least a.kind in omega arith in (
       λ (S : Set) (cs lists : List ℕ) threads row e ready.
           let places = place_of a.slots.now in
           let root = base S cs a.step (kind_at a.kind) a.a a.b in
-          let g = b.ensures.0 S cs threads e.plain e.noFlag room in
+          let g = b.ensures.0 S cs threads e.plain e.no_flag room in
           let w : WritesTree places (tree_of S cs a.step (kind_at a.kind) a.a a.b) a.out.now a.n _ r.result.next r.result.at =
           subst (λ (t : Term). WritesTree places t a.out.now a.n r.new.1.1.0 r.result.next r.result.at) (λ z. chain (sym e.linked z) (sym e.counted z) root)
           (r.ensures.0 S cs lists root a.out.now a.n row few ready (put_written b.result places a.n root a.out.now _ g)) in
           entry_kept S cs a.step (kind_at a.kind) a.a a.b a.out.now a.slots.now a.n _ _ r.result.next r.result.at e.there w
-          (p.1 ready.allPlaces e.known q.1 column (ready-root ready w (omega arith))) p.0,
+          (p.1 ready.all_places e.known q.1 column (ready-root ready w (omega arith))) p.0,
       omega arith,
     )
 

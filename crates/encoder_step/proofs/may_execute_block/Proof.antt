@@ -6,9 +6,9 @@ use mathlib.Core.Path.{◌≡◌, refl, sym, ◌∙◌}
 use Prim.Native.Nat.{ℕ, ◌+◌, ◌-◌, ◌*◌, ◌≤◌}
 use Rattle.records.specs.Sets.{Set}
 use Rattle.table.specs.Programs.{upto}
-use Rattle.encoding.specs.Slots.{kinds, kindNumber, mayExecute}
+use Rattle.encoding.specs.Slots.{kinds, kind_number, may_execute}
 use Rattle.encoding.specs.Steps.{line}
-use Rattle.encoder_slots.specs.Pieces.{Writes, Ready, treeRoom}
+use Rattle.encoder_slots.specs.Pieces.{Writes, Ready, tree_room}
 use Rattle.encoder_slots.proofs.Ready.{ready-line}
 use Rattle.encoder_slots.proofs.Pieces.{writes-row, writes_more}
 use Rattle.encoder_step.proofs.Loops.{line-one, registers, lone-at}
@@ -18,9 +18,9 @@ use Rattle.encoder_step.proofs.may_execute_block.Tie as tie
 
 abbrev invariant-loop : tie.invariant-loop
 invariant-loop slots₀ out₀ threads step n next₀ t₀ slots out next t =
-    (t ≤ threads) × (next ≤ n + treeRoom * t) × (length out ≡ length out₀) × (length slots ≡ length slots₀)
+    (t ≤ threads) × (next ≤ n + tree_room * t) × (length out ≡ length out₀) × (length slots ≡ length slots₀)
     × ((S : Set) (cs members lists : List ℕ) → S.threads ≡ threads → Ready S cs members lists slots₀ n
-    → (Writes (upto (line S cs step mayExecute) t) out₀ slots₀ n out slots next) × (Ready S cs members lists slots next))
+    → (Writes (upto (line S cs step may_execute) t) out₀ slots₀ n out slots next) × (Ready S cs members lists slots next))
 
 abbrev decreases-loop : tie.decreases-loop
 decreases-loop slots₀ out₀ threads step n next₀ t₀ slots out next t = threads - t
@@ -32,7 +32,7 @@ loop-holds c =
       omega arith,
       refl,
       refl,
-      λ (S : Set) (cs members lists : List ℕ) threads ready. (writes-row (line S cs a.step mayExecute) a.out.now a.slots.now a.n, ready),
+      λ (S : Set) (cs members lists : List ℕ) threads ready. (writes-row (line S cs a.step may_execute) a.out.now a.slots.now a.n, ready),
     )
 
 bare-entry-requires : tie.Need-bare-entry-requires invariant-loop decreases-loop
@@ -63,10 +63,10 @@ loop-again c =
       search rules,
       search rules,
       λ (S : Set) (cs members lists : List ℕ) threads ready.
-          let f = line S cs a.step mayExecute in
+          let f = line S cs a.step may_execute in
           let done = l.invariant.4 S cs members lists threads ready in
-          let w = line-one S cs a.step (kindNumber mayExecute) _ _ _ _ _ _ refl l.t (r.ensures.0 S cs members lists threads (lone-at S cs l.t 0 (kindNumber mayExecute) (omega arith) refl) done.1) in
-          (writes_more f l.t a.out.now a.slots.now a.n _ _ _ _ _ _ done.0 w, ready-line a.step mayExecute l.t w done.1),
+          let w = line-one S cs a.step (kind_number may_execute) _ _ _ _ _ _ refl l.t (r.ensures.0 S cs members lists threads (lone-at S cs l.t 0 (kind_number may_execute) (omega arith) refl) done.1) in
+          (writes_more f l.t a.out.now a.slots.now a.n _ _ _ _ _ _ done.0 w, ready-line a.step may_execute l.t w done.1),
     )
 
 same_length : tie.Need-same-length invariant-loop decreases-loop
@@ -85,7 +85,7 @@ returns c =
     let so_far = l.invariant.1 in
     let t-is : l.t ≡ a.threads = omega arith in (
       λ (S : Set) (cs members lists : List ℕ) threads ready.
-          registers S cs a.step (kindNumber mayExecute) _ _ _ _ _ _ refl l.t (t-is ∙ sym threads) (l.invariant.4 S cs members lists threads ready).0,
+          registers S cs a.step (kind_number may_execute) _ _ _ _ _ _ refl l.t (t-is ∙ sym threads) (l.invariant.4 S cs members lists threads ready).0,
       omega arith,
     )
 

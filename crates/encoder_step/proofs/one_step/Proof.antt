@@ -4,7 +4,7 @@ use lib.ListN.{length}
 use mathlib.Core.List.{[], ◌∷◌}
 use mathlib.Core.Path.{◌≡◌}
 use Prim.Native.Nat.{◌+◌, ◌≤◌}
-use Rattle.records.specs.Sets.{setBy, mostCheckpoints}
+use Rattle.records.specs.Sets.{set_by, most_checkpoints}
 use Rattle.table.specs.Programs.{rules as demanded}
 use Rattle.encoding.specs.Steps.{blocks, ruled, step}
 use Rattle.set_index.specs.Points.{listed}
@@ -12,33 +12,33 @@ use Rattle.encoder_slots.proofs.Pieces.{writes-++}
 use Rattle.encoder_slots.proofs.Idle.{idle-none, idle-needs}
 use Rattle.set_index.proofs.Counted.{listed-most}
 use Rattle.encoder_slots.proofs.Ready.{ready-after, ready-blocks}
-use Rattle.encoder_step.specs.Entries.{stepRoom}
+use Rattle.encoder_step.specs.Entries.{step_room}
 use borrow.Author.Rules.{rules}
 use Rattle.encoder_step.proofs.one_step.Statement.{statement}
 use Rattle.encoder_step.proofs.one_step.Tie as tie
-use Rattle.table.specs.Repeats.{lastIndex}
+use Rattle.table.specs.Repeats.{last_index}
 
 returns : tie.Need-returns
 returns c =
     let a = c.before.before.before.before.before.before.args in
-    (λ ready room. absurd (c.if1.true ready.allPlaces), omega arith)
+    (λ ready room. absurd (c.if1.true ready.all_places), omega arith)
 
 returns-2 : tie.Need-returns-2
 returns-2 c =
     let a = c.before.before.before.before.before.before.before.args in
     let past = c.if2.true in
-    (λ ready (room : a.n + stepRoom ≤ lastIndex). absurd (omega arith), omega arith)
+    (λ ready (room : a.n + step_room ≤ last_index). absurd (omega arith), omega arith)
 
 returns-3 : tie.Need-returns-3
 returns-3 c =
     let a = c.before.before.before.before.before.before.before.before.before.args in
     let past = c.if3.true in
-    (λ ready room. absurd (let four = ready.byName.fourThreads in omega arith), omega arith)
+    (λ ready room. absurd (let four = ready.by_name.four_threads in omega arith), omega arith)
 
 deciding-kinds-requires : tie.Need-deciding-kinds-requires
 deciding-kinds-requires c κs =
     let a = c.before.before.before.before.before.before.before.before.before.before.before.args in
-    let eight : length a.points.numbers ≡ mostCheckpoints = search rules in
+    let eight : length a.points.numbers ≡ most_checkpoints = search rules in
     (omega arith, omega arith, listed-most a.points eight)
 
 rule-requires : tie.Need-rule-requires
@@ -63,7 +63,7 @@ returns-4 c =
     let m1 = r1.ensures.1 in
     let m2 = r2.ensures.1 in
     let m3 = r3.ensures.1 in
-    let S = setBy a.set.now a.layout in
+    let S = set_by a.set.now a.layout in
     let cs = listed a.points in
     let k = a.step in
     let rules = demanded (ruled S cs k) ∷ [] in (

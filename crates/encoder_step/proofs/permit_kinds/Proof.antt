@@ -2,9 +2,9 @@
 use native.Mathlib.Omega.{arith}
 use mathlib.Core.Path.{◌≡◌, refl, sym, ◌∙◌}
 use Prim.Native.Nat.{ℕ, ◌≤◌, ◌+◌}
-use Rattle.records.specs.Sets.{setBy}
+use Rattle.records.specs.Sets.{set_by}
 use lib.ListN.{length}
-use Rattle.encoding.specs.Slots.{kinds, kindNumber, held, waits, mayExecute, none, permittedFirst}
+use Rattle.encoding.specs.Slots.{kinds, kind_number, held, waits, may_execute, none, permitted_first}
 use Rattle.set_index.specs.Points.{listed}
 use Rattle.encoder_step.proofs.Loops.{lone-at}
 use Rattle.encoder_slots.proofs.Ready.{ready-block}
@@ -12,8 +12,8 @@ use Rattle.encoder_step.proofs.Sequence.{five}
 use borrow.Author.Rules.{rules}
 use Rattle.encoder_step.proofs.permit_kinds.Statement.{statement}
 use Rattle.encoder_step.proofs.permit_kinds.Tie as tie
-use Rattle.encoder_slots.specs.Pieces.{blockRoom}
-use Rattle.table.specs.Repeats.{lastIndex}
+use Rattle.encoder_slots.specs.Pieces.{block_room}
+use Rattle.table.specs.Repeats.{last_index}
 
 cast-choices : tie.Need-overflow-cast-choices
 cast-choices c = search rules
@@ -103,26 +103,26 @@ returns c =
     let r3 = c.before.before.before.before.before.before.before.before.before.before.before.before.before.before.before.before.before.before.may-execute-block in
     let r4 = c.before.before.before.before.before.before.before.before.before.before.before.bare-line in
     let r5 = c.before.before.before.before.bare-line2 in
-    let room1 : a.n + blockRoom ≤ lastIndex = omega arith in
+    let room1 : a.n + block_room ≤ last_index = omega arith in
     let m1 = r1.ensures.1 in
-    let room2 : r1.result + blockRoom ≤ lastIndex = omega arith in
+    let room2 : r1.result + block_room ≤ last_index = omega arith in
     let m2 = r2.ensures.1 in
     let m3 = r3.ensures.1 in
     let m4 = r4.ensures.1 in
     let m5 = r5.ensures.1 in
     let many = c.before.before.before.before.before.before.before.before.before.before.before.before.before.before.before.before.before.before.before.before.before.before.before.before.before.before.before.before.before.before.before.before.before.before.before.points-count.ensures in (
       λ bytes members s0.
-          let S = setBy bytes a.layout in
+          let S = set_by bytes a.layout in
           let cs = listed a.points in
           let w1 = r1.ensures.0 S cs _ refl (sym many) refl s0 room1 in
           let s1 = ready-block a.step held w1 s0 in
           let w2 = r2.ensures.0 S cs _ refl (sym many) s1 room2 in
           let s2 = ready-block a.step waits w2 s1 in
           let w3 = r3.ensures.0 S cs _ _ refl s2 in
-          let s3 = ready-block a.step mayExecute w3 s2 in
-          let w4 = r4.ensures.0 S cs _ _ refl (λ (b : ℕ). lone-at S cs 0 b (kindNumber none) (omega arith) refl) refl (omega arith) s3 in
+          let s3 = ready-block a.step may_execute w3 s2 in
+          let w4 = r4.ensures.0 S cs _ _ refl (λ (b : ℕ). lone-at S cs 0 b (kind_number none) (omega arith) refl) refl (omega arith) s3 in
           let s4 = ready-block a.step none w4 s3 in
-          let w5 = r5.ensures.0 S cs _ _ refl (λ (b : ℕ). lone-at S cs 0 b (kindNumber permittedFirst) (omega arith) refl) refl (omega arith) s4 in
+          let w5 = r5.ensures.0 S cs _ _ refl (λ (b : ℕ). lone-at S cs 0 b (kind_number permitted_first) (omega arith) refl) refl (omega arith) s4 in
           five S cs a.step 5 w1 w2 w3 w4 w5,
       omega arith,
     )

@@ -8,7 +8,7 @@ use Rattle.records.specs.Sets.{Set}
 use Rattle.table.specs.Programs.{upto}
 use Rattle.encoding.specs.Slots.{kind_at}
 use Rattle.encoding.specs.Steps.{line}
-use Rattle.encoder_slots.specs.Pieces.{Writes, Ready, entryRoom}
+use Rattle.encoder_slots.specs.Pieces.{Writes, Ready, entry_room}
 use Rattle.encoder_slots.proofs.Ready.{ready-line}
 use Rattle.encoder_slots.proofs.Pieces.{writes-row, writes_more}
 use Rattle.encoder_step.specs.Entries.{ByThread}
@@ -19,7 +19,7 @@ use Rattle.encoder_step.proofs.register_block.Tie as tie
 
 abbrev invariant-loop : tie.invariant-loop
 invariant-loop members slots₀ out₀ threads step kind n next₀ t₀ slots out next t =
-    (t ≤ threads) × (next ≤ n + entryRoom * t) × (length out ≡ length out₀) × (length slots ≡ length slots₀)
+    (t ≤ threads) × (next ≤ n + entry_room * t) × (length out ≡ length out₀) × (length slots ≡ length slots₀)
     × ((S : Set) (cs lists : List ℕ) → S.threads ≡ threads → ByThread S cs kind → Ready S cs members lists slots₀ n
     → (Writes (upto (line S cs step (kind_at kind)) t) out₀ slots₀ n out slots next) × (Ready S cs members lists slots next))
 

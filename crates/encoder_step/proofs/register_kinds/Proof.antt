@@ -3,7 +3,7 @@ use native.Mathlib.Omega.{arith}
 use mathlib.Core.Path.{◌≡◌, ◌∙◌}
 use lib.ListN.{length}
 use Rattle.encoding.specs.Slots.{kinds, adr, mem, accu, full}
-use Rattle.encoder_step.proofs.Given.{of-accu, of-adr, of-full, of-halted, of_mem}
+use Rattle.encoder_step.proofs.Given.{of_accu, of_adr, of_full, of_halted, of_mem}
 use Rattle.encoder_slots.proofs.Ready.{ready-block}
 use Rattle.encoder_step.proofs.Sequence.{five}
 use borrow.Author.Rules.{rules}
@@ -79,15 +79,15 @@ returns c =
     let m4 = r4.ensures.1 in
     let m5 = r5.ensures.1 in (
       λ S cs lists threads s0.
-          let w1 = r1.ensures.0 S cs _ threads (of-adr S cs) s0 in
+          let w1 = r1.ensures.0 S cs _ threads (of_adr S cs) s0 in
           let s1 = ready-block a.step adr w1 s0 in
           let w2 = r2.ensures.0 S cs _ threads (of_mem S cs) s1 in
           let s2 = ready-block a.step mem w2 s1 in
-          let w3 = r3.ensures.0 S cs _ threads (of-accu S cs) s2 in
+          let w3 = r3.ensures.0 S cs _ threads (of_accu S cs) s2 in
           let s3 = ready-block a.step accu w3 s2 in
-          let w4 = r4.ensures.0 S cs _ threads (of-full S cs) s3 in
+          let w4 = r4.ensures.0 S cs _ threads (of_full S cs) s3 in
           let s4 = ready-block a.step full w4 s3 in
-          let w5 = r5.ensures.0 S cs _ threads (of-halted S cs) s4 in
+          let w5 = r5.ensures.0 S cs _ threads (of_halted S cs) s4 in
           five S cs a.step 26 w1 w2 w3 w4 w5,
       omega arith,
     )

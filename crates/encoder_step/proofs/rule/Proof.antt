@@ -4,13 +4,13 @@ use mathlib.Core.List.{List}
 use mathlib.Core.Path.{◌≡◌, refl, ap, ◌∙◌}
 use Prim.Native.Nat.{ℕ, ◌+◌, ◌*◌}
 use borrow.Author.Rules.{rules}
-use Rattle.encoding.specs.Slots.{kindNumber, none}
-use Rattle.encoder_slots.specs.Places.{placeFrom}
-use Rattle.table.specs.Formulas.{bitSort}
-use Rattle.table.specs.Programs.{constraint, ternaryFormula, if3}
-use Rattle.records.specs.Sets.{setBy}
+use Rattle.encoding.specs.Slots.{kind_number, none}
+use Rattle.encoder_slots.specs.Places.{place_from}
+use Rattle.table.specs.Formulas.{bit_sort}
+use Rattle.table.specs.Programs.{constraint, ternary_formula, if3}
+use Rattle.records.specs.Sets.{set_by}
 use Rattle.encoder_step.proofs.Constraint.{rule-writes}
-use Rattle.encoder_bases.proofs.Records.{recordAt}
+use Rattle.encoder_bases.proofs.Records.{record_at}
 use Rattle.encoder_step.proofs.rule.Statement.{statement}
 use Rattle.encoder_step.proofs.rule.Tie as tie
 
@@ -48,11 +48,11 @@ returns : tie.Need-returns
 returns c =
     let a = c.before.before.before.before.before.before.before.before.before.before.before.before.before.before.args in
     let twice : 2 * a.layout.threads ≡ a.layout.threads + a.layout.threads = omega arith in (
-      λ (bytes cs : List ℕ) (step : ℕ). rule-writes a.out.now a.slots.now a.n (setBy bytes a.layout) cs step _
-          (c.before.before.put2.ensures ∙ ap (recordAt (a.n + 1) (constraint a.n))
+      λ (bytes cs : List ℕ) (step : ℕ). rule-writes a.out.now a.slots.now a.n (set_by bytes a.layout) cs step _
+          (c.before.before.put2.ensures ∙ ap (record_at (a.n + 1) (constraint a.n))
           (c.before.before.before.before.before.before.put.ensures
-          ∙ λ i. recordAt a.n (ternaryFormula (if3 bitSort) (c.before.before.before.before.before.before.before.before.before.before.place.ensures i)
-          ((c.before.before.before.before.before.before.before.before.before.place2.ensures ∙ ap (λ (b : ℕ). placeFrom a.slots.now (kindNumber none) 0 b 0) twice) i) (c.before.before.before.before.before.before.before.before.place3.ensures i)) a.out.now)),
+          ∙ λ i. record_at a.n (ternary_formula (if3 bit_sort) (c.before.before.before.before.before.before.before.before.before.before.place.ensures i)
+          ((c.before.before.before.before.before.before.before.before.before.place2.ensures ∙ ap (λ (b : ℕ). place_from a.slots.now (kind_number none) 0 b 0) twice) i) (c.before.before.before.before.before.before.before.before.place3.ensures i)) a.out.now)),
       refl,
     )
 

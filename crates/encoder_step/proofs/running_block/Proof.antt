@@ -8,7 +8,7 @@ use Rattle.records.specs.Sets.{Set}
 use Rattle.table.specs.Programs.{upto}
 use Rattle.encoding.specs.Slots.{kind_at}
 use Rattle.encoding.specs.Steps.{entry}
-use Rattle.encoder_slots.specs.Pieces.{Writes, Ready, entryRoom}
+use Rattle.encoder_slots.specs.Pieces.{Writes, Ready, entry_room}
 use Rattle.encoder_slots.proofs.Ready.{ready-entry}
 use Rattle.encoder_slots.proofs.Pieces.{writes-row, writes_more}
 use Rattle.encoder_step.specs.Entries.{AfterThread}
@@ -19,10 +19,10 @@ use Rattle.encoder_step.proofs.running_block.Tie as tie
 
 abbrev invariant-loop : tie.invariant-loop
 invariant-loop members slots₀ out₀ threads step kind n next₀ t₀ slots out next t =
-    (t ≤ threads) × (next ≤ next₀ + entryRoom * t) × (length out ≡ length out₀) × (length slots ≡ length slots₀)
-    × ((S : Set) (cs lists begun begunSlots : List ℕ) (m : ℕ) → S.threads ≡ threads → AfterThread S cs kind → Ready S cs members lists slots₀ next₀
-    → Writes (upto (entry S cs step (kind_at kind) 0) 1) begun begunSlots m out₀ slots₀ next₀
-    → (Writes (upto (entry S cs step (kind_at kind) 0) (t + 1)) begun begunSlots m out slots next) × (Ready S cs members lists slots next))
+    (t ≤ threads) × (next ≤ next₀ + entry_room * t) × (length out ≡ length out₀) × (length slots ≡ length slots₀)
+    × ((S : Set) (cs lists begun begun_slots : List ℕ) (m : ℕ) → S.threads ≡ threads → AfterThread S cs kind → Ready S cs members lists slots₀ next₀
+    → Writes (upto (entry S cs step (kind_at kind) 0) 1) begun begun_slots m out₀ slots₀ next₀
+    → (Writes (upto (entry S cs step (kind_at kind) 0) (t + 1)) begun begun_slots m out slots next) × (Ready S cs members lists slots next))
 
 abbrev decreases-loop : tie.decreases-loop
 decreases-loop members slots₀ out₀ threads step kind n next₀ t₀ slots out next t = threads - t
@@ -34,7 +34,7 @@ bare-entry-requires c κs =
     (omega arith, omega arith, omega arith)
 
 loop-holds : tie.Need-loop-init invariant-loop decreases-loop
-loop-holds c = (omega arith, omega arith, refl, refl, λ S cs lists begun begunSlots m threads after ready w. (w, ready))
+loop-holds c = (omega arith, omega arith, refl, refl, λ S cs lists begun begun_slots m threads after ready w. (w, ready))
 
 cast-b : tie.Need-overflow-cast-b invariant-loop decreases-loop
 cast-b c = search rules
@@ -69,12 +69,12 @@ loop-again c =
       omega arith,
       search rules,
       search rules,
-      λ (S : Set) (cs lists begun begunSlots : List ℕ) (m : ℕ) (threads : S.threads ≡ a.threads) after ready first.
+      λ (S : Set) (cs lists begun begun_slots : List ℕ) (m : ℕ) (threads : S.threads ≡ a.threads) after ready first.
           let f = entry S cs a.step (kind_at a.kind) 0 in
-          let done = l.invariant.4 S cs lists begun begunSlots m threads after ready first in
+          let done = l.invariant.4 S cs lists begun begun_slots m threads after ready first in
           let row : l.t < S.threads = omega arith in
           let w = r.ensures.0 S cs lists threads row (after.next (l.t + 1) l.t refl) done.1 in
-          (writes_more f (l.t + 1) begun begunSlots m _ _ _ _ _ _ done.0 w, ready-entry a.step (kind_at a.kind) 0 (l.t + 1) w done.1),
+          (writes_more f (l.t + 1) begun begun_slots m _ _ _ _ _ _ done.0 w, ready-entry a.step (kind_at a.kind) 0 (l.t + 1) w done.1),
     )
 
 same_length : tie.Need-same-length invariant-loop decreases-loop

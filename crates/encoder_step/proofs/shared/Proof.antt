@@ -2,29 +2,29 @@
 use native.Mathlib.Omega.{arith}
 use mathlib.Core.Path.{refl}
 use Prim.Native.Nat.{◌≤◌, ◌+◌}
-use Rattle.records.specs.Sets.{setBy}
-use Rattle.encoding.specs.Slots.{kinds, wordOne, argument, kindNumber}
+use Rattle.records.specs.Sets.{set_by}
+use Rattle.encoding.specs.Slots.{kinds, word_one, argument, kind_number}
 use Rattle.encoding.specs.Steps.{block}
 use Rattle.encoder_slots.proofs.Pieces.{writes-++}
 use Rattle.encoder_step.proofs.Loops.{lone-at, one_value}
 use Rattle.encoder_slots.proofs.Ready.{ready-block}
-use Rattle.encoder_step.specs.Entries.{stepRoom}
+use Rattle.encoder_step.specs.Entries.{step_room}
 use borrow.Author.Rules.{rules}
 use Rattle.encoder_step.proofs.shared.Statement.{statement}
 use Rattle.encoder_step.proofs.shared.Tie as tie
-use Rattle.table.specs.Repeats.{lastIndex}
+use Rattle.table.specs.Repeats.{last_index}
 
 returns : tie.Need-returns
 returns c =
     let a = c.before.before.before.before.before.args in
     let past = c.if1.true in
-    (λ cs lists ready (room : a.n + stepRoom ≤ lastIndex). absurd (omega arith), omega arith)
+    (λ cs lists ready (room : a.n + step_room ≤ last_index). absurd (omega arith), omega arith)
 
 returns-2 : tie.Need-returns-2
 returns-2 c =
     let a = c.before.before.before.before.before.before.before.args in
     let past = c.if2.true in
-    (λ cs lists ready room. absurd (let four = ready.byName.fourThreads in omega arith), omega arith)
+    (λ cs lists ready room. absurd (let four = ready.by_name.four_threads in omega arith), omega arith)
 
 bare-entry-requires : tie.Need-bare-entry-requires
 bare-entry-requires c κs = search rules
@@ -46,11 +46,11 @@ returns-3 c =
     let r2 = c.before.before.before.before.statement-block in
     let m1 = r1.ensures.1 in
     let m2 = r2.ensures.1 in
-    let S = setBy a.set.now a.layout in (
+    let S = set_by a.set.now a.layout in (
       λ cs lists ready room.
-          let w1 = one_value S cs 0 (kindNumber wordOne) _ _ _ _ _ _ refl refl (r1.ensures.0 S cs _ _ refl (lone-at S cs 0 0 (kindNumber wordOne) (omega arith) refl) ready) in
-          let s1 = ready-block 0 wordOne w1 ready in
-          writes-++ (block S cs 0 wordOne) (block S cs 0 argument) a.out.now a.slots.now a.n _ _ _ _ _ _ w1 (r2.ensures.0 cs _ 0 s1),
+          let w1 = one_value S cs 0 (kind_number word_one) _ _ _ _ _ _ refl refl (r1.ensures.0 S cs _ _ refl (lone-at S cs 0 0 (kind_number word_one) (omega arith) refl) ready) in
+          let s1 = ready-block 0 word_one w1 ready in
+          writes-++ (block S cs 0 word_one) (block S cs 0 argument) a.out.now a.slots.now a.n _ _ _ _ _ _ w1 (r2.ensures.0 cs _ 0 s1),
       omega arith,
     )
 

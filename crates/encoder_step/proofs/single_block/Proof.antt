@@ -9,7 +9,7 @@ use Rattle.encoder_slots.proofs.Ready.{ready-root}
 use Rattle.encoding.specs.Slots.{kind_at}
 use Rattle.encoding.specs.Steps.{Shape, shape, base, rows, columns, kept}
 use Rattle.encoder_slots.specs.Places.{place_of, width}
-use Rattle.encoder_slots.specs.Pieces.{WritesTree, chainRoom}
+use Rattle.encoder_slots.specs.Pieces.{WritesTree, chain_room}
 use Rattle.encoder_slots.proofs.Entries.{entry_kept, tree_of}
 use Rattle.encoder_slots.proofs.Rows.{width-least}
 use Rattle.encoder_bases.proofs.Given.{put_written}
@@ -17,7 +17,7 @@ use Rattle.encoder_step.proofs.Loops.{one_value}
 use borrow.Author.Rules.{rules}
 use Rattle.encoder_step.proofs.single_block.Statement.{statement}
 use Rattle.encoder_step.proofs.single_block.Tie as tie
-use Rattle.table.specs.Repeats.{lastIndex}
+use Rattle.table.specs.Repeats.{last_index}
 
 put-base-requires : tie.Need-put-base-requires
 put-base-requires c κs = search rules
@@ -47,8 +47,8 @@ returns c =
     let most = b.ensures.1 in
     let last = r.ensures.1 in
     let little = q.0 in
-    let room : a.n ≤ lastIndex = omega arith in
-    let few : a.n + b.result.count + chainRoom ≤ lastIndex = omega arith in
+    let room : a.n ≤ last_index = omega arith in
+    let few : a.n + b.result.count + chain_room ≤ last_index = omega arith in
     let column : 0 < width a.kind = let least = width-least a.kind in omega arith in (
       λ (S : Set) (cs members lists : List ℕ) threads chained single ready.
           let places = place_of a.slots.now in
@@ -59,7 +59,7 @@ returns c =
           let there : kept S cs 0 (shape (kind_at a.kind)) 0 0 ≡ true = ap (λ (s : Shape). kept S cs 0 s 0 0) single in
           one_value S cs a.step a.kind _ _ _ _ _ _ (ap (rows S cs a.step) single) (ap (λ (s : Shape). columns S cs a.step s 0) single)
           (entry_kept S cs a.step (kind_at a.kind) 0 0 a.out.now a.slots.now a.n _ _ r.result.next r.result.at there w
-          (p.1 ready.allPlaces q.1 (omega arith) column (ready-root ready w (omega arith))) p.0),
+          (p.1 ready.all_places q.1 (omega arith) column (ready-root ready w (omega arith))) p.0),
       omega arith,
     )
 

@@ -7,24 +7,24 @@ use Prim.Native.Nat.{ℕ, ◌+◌, ◌-◌, ◌*◌, ◌≤◌}
 use Rattle.encoding.specs.Steps.{line}
 use Rattle.encoding.specs.Slots.{kind_at}
 use Rattle.table.specs.Programs.{upto}
-use Rattle.records.specs.Sets.{setBy, mostThreads}
+use Rattle.records.specs.Sets.{set_by, most_threads}
 use mathlib.Core.List.{List}
 use Rattle.encoder_slots.proofs.Ready.{ready-line}
 use Rattle.encoder_slots.proofs.Pieces.{writes-row, writes_more}
-use Rattle.encoder_slots.specs.Pieces.{Writes, Ready, lineRoom}
+use Rattle.encoder_slots.specs.Pieces.{Writes, Ready, line_room}
 use Rattle.encoder_step.proofs.Loops.{statement-rows}
 use Rattle.encoder_step.proofs.statement_block.Statement.{statement}
 use Rattle.encoder_step.proofs.statement_block.Tie as tie
 use Rattle.encoder_step.proofs.statement_block.Reads as reads
 use Rattle.encoder_step.proofs.statement_block.Lts as lts
 use Rattle.encoder_statements.proofs.statement_line.Reads as statement-line-reads
-use Rattle.table.specs.Repeats.{lastIndex}
+use Rattle.table.specs.Repeats.{last_index}
 
 abbrev invariant-loop : tie.invariant-loop
 invariant-loop set layout members slots₀ out₀ kind n threads next₀ t₀ slots out next t =
-    (t ≤ threads) × (threads ≤ mostThreads) × (next ≤ n + lineRoom * t) × (length out ≡ length out₀) × (length slots ≡ length slots₀)
-    × ((cs lists : List ℕ) (step : ℕ) → Ready (setBy set layout) cs members lists slots₀ n
-    → (Writes (upto (line (setBy set layout) cs step (kind_at kind)) t) out₀ slots₀ n out slots next) × (Ready (setBy set layout) cs members lists slots next))
+    (t ≤ threads) × (threads ≤ most_threads) × (next ≤ n + line_room * t) × (length out ≡ length out₀) × (length slots ≡ length slots₀)
+    × ((cs lists : List ℕ) (step : ℕ) → Ready (set_by set layout) cs members lists slots₀ n
+    → (Writes (upto (line (set_by set layout) cs step (kind_at kind)) t) out₀ slots₀ n out slots next) × (Ready (set_by set layout) cs members lists slots next))
 
 abbrev decreases-loop : tie.decreases-loop
 decreases-loop set layout members slots₀ out₀ kind n threads next₀ t₀ slots out next t = threads - t
@@ -39,7 +39,7 @@ loop-holds c =
       refl,
       refl,
       λ (cs lists : List ℕ) (step : ℕ) ready.
-          (writes-row (line (setBy a.set.now a.layout) cs step (kind_at a.kind)) a.out.now a.slots.now a.n, ready),
+          (writes-row (line (set_by a.set.now a.layout) cs step (kind_at a.kind)) a.out.now a.slots.now a.n, ready),
     )
 
 statement-line-requires : tie.Need-statement-line-requires invariant-loop decreases-loop
@@ -57,9 +57,9 @@ loop-again c =
     let q = c.before.before.before.before.before.before.before.before.before.before.before.before.before.requires in
     let l = c.before.before.before.before.before.before.before.before.loop in
     let r = c.before.before.before.before.statement-line in
-    let S = setBy a.set.now a.layout in
+    let S = set_by a.set.now a.layout in
     let little = q.0 in
-    let few : l.next + lineRoom ≤ lastIndex = omega arith in
+    let few : l.next + line_room ≤ last_index = omega arith in
     let last = r.ensures.1 in (
       omega arith,
       l.invariant.1,
@@ -86,7 +86,7 @@ returns c =
     let a = c.before.before.before.before.before.before.args in
     let q = c.before.before.before.before.before.before.requires in
     let l = c.before.loop in
-    let S = setBy a.set.now a.layout in
+    let S = set_by a.set.now a.layout in
     let t-is : l.t ≡ a.layout.threads = omega arith in (
       λ (cs lists : List ℕ) (step : ℕ) ready.
           subst (λ (j : ℕ). Writes (upto (line S cs step (kind_at a.kind)) j) a.out.now a.slots.now a.n l.out l.slots l.next)

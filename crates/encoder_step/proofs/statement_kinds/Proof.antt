@@ -1,7 +1,7 @@
 -- `encoder_step::statement_kinds` meets its contract. Assumes nothing.
 use native.Mathlib.Omega.{arith}
 use mathlib.Core.Path.{◌≡◌, refl, ◌∙◌}
-use Rattle.records.specs.Sets.{setBy}
+use Rattle.records.specs.Sets.{set_by}
 use lib.ListN.{length}
 use Rattle.encoding.specs.Slots.{kinds, address, loaded, swaps, result}
 use Rattle.encoder_slots.proofs.Ready.{ready-block}
@@ -79,7 +79,7 @@ returns c =
     let m4 = r4.ensures.1 in
     let m5 = r5.ensures.1 in (
       λ cs lists step s0.
-          let S = setBy a.set.now a.layout in
+          let S = set_by a.set.now a.layout in
           let w1 = r1.ensures.0 cs _ step s0 in
           let s1 = ready-block step address w1 s0 in
           let w2 = r2.ensures.0 cs _ step s1 in

@@ -1,6 +1,6 @@
 -- `evaluation::evaluate` meets its contract. Assumes nothing.
 use Rattle.evaluation.proofs.Turns.{false-here, false-later, turned-next}
-use Rattle.evaluation.specs.Evaluations.{givenBy, turned, falseFrom, falseIn}
+use Rattle.evaluation.specs.Evaluations.{given_by, turned, false_from, false_in}
 use Rattle.base.proofs.Choice.{chosen, passed}
 use lib.ListN.{length, set, length-set}
 use borrow.Author.Tests.{lt-ltb, le-ltb}
@@ -17,8 +17,8 @@ invariant-loop work₀ n model cells threads bound ordered i₀ work i =
     (i ≤ n)
     × ((32 * n ≤ length work)
     × ((length work ≡ length work₀)
-    × ((falseFrom (givenBy threads bound model cells) n 0 n work₀ ≡ falseFrom (givenBy threads bound model cells) n i (n - i) work)
-    × (work ≡ turned (givenBy threads bound model cells) n i work₀))))
+    × ((false_from (given_by threads bound model cells) n 0 n work₀ ≡ false_from (given_by threads bound model cells) n i (n - i) work)
+    × (work ≡ turned (given_by threads bound model cells) n i work₀))))
 
 abbrev decreases-loop : tie.decreases-loop
 decreases-loop work₀ n model cells threads bound ordered i₀ work i = n - i
@@ -27,7 +27,7 @@ mul-if1 : tie.Need-overflow-mul-if1 invariant-loop decreases-loop
 mul-if1 c = search rules
 
 returns : tie.Need-returns invariant-loop decreases-loop
-unfolding falseIn
+unfolding false_in
 returns c = sym (chosen _ _ (lt-ltb _ _ c.if1.true))
 
 map-accepted-requires : tie.Need-map-accepted-requires invariant-loop decreases-loop
@@ -36,7 +36,7 @@ map-accepted-requires c κs = search rules
 loop-holds : tie.Need-loop-init invariant-loop decreases-loop
 unfolding turned
 loop-holds c = let a = c.before.before.before.before.before.args in let e : a.n ≡ a.n - 0 = omega arith in
-    (search rules, (search rules, (refl, (ap (λ (k : ℕ). falseFrom (givenBy a.threads a.bound a.model.now a.cells.now) a.n 0 k a.work.now) e, refl))))
+    (search rules, (search rules, (refl, (ap (λ (k : ℕ). false_from (given_by a.threads a.bound a.model.now a.cells.now) a.n 0 k a.work.now) e, refl))))
 
 cast-formula : tie.Need-overflow-cast-formula invariant-loop decreases-loop
 cast-formula c = search rules
@@ -51,10 +51,10 @@ same_length : tie.Need-same-length invariant-loop decreases-loop
 same_length c = search rules
 
 returns-2 : tie.Need-returns-2 invariant-loop decreases-loop
-unfolding falseIn
+unfolding false_in
 returns-2 c = let l = c.before.before.before.before.before.before in let a = l.before.before.before.before.before.before.args in
     sym (passed _ _ (le-ltb _ _ l.before.before.if1.false) ∙ (l.loop.invariant.1.1.1.0
-    ∙ false-here (givenBy a.threads a.bound a.model.now a.cells.now) a.n l.loop.i l.loop.work c.before.before.before.formula.result c.before.before.before.formula.ensures c.before.before.before.before.before.loop-test.true (sym c.before.is_false.ensures ∙ c.if2.true)))
+    ∙ false-here (given_by a.threads a.bound a.model.now a.cells.now) a.n l.loop.i l.loop.work c.before.before.before.formula.result c.before.before.before.formula.ensures c.before.before.before.before.before.loop-test.true (sym c.before.is_false.ensures ∙ c.if2.true)))
 
 word-of-requires : tie.Need-word-of-requires invariant-loop decreases-loop
 word-of-requires c κs = let l = c.before.before.before.before.before.before.before in (search rules, λ e. sym l.before.map-accepted.ensures ∙ e)
@@ -83,8 +83,8 @@ loop-again c = let l = c.before.before.before.before.before.before.before.before
         (
           omega arith,
           (
-            q.1.1.1.0 ∙ false-later (givenBy a.threads a.bound a.model.now a.cells.now) a.n l.loop.i l.loop.work c.before.before.before.before.before.before.before.before.before.formula.result c.before.before.before.before.before.before.before.before.before.formula.ensures c.before.before.before.before.before.before.before.before.before.before.before.loop-test.true w _ (sym c.before.before.before.before.before.before.before.is_false.ensures ∙ c.before.before.before.before.before.before.if2.false) c.before.before.before.before.word_of.ensures k,
-            turned-next (givenBy a.threads a.bound a.model.now a.cells.now) a.n l.loop.i a.work.now l.loop.work c.before.before.before.before.before.before.before.before.before.formula.result w _ q.1.1.1.1 c.before.before.before.before.before.before.before.before.before.formula.ensures c.before.before.before.before.word_of.ensures k,
+            q.1.1.1.0 ∙ false-later (given_by a.threads a.bound a.model.now a.cells.now) a.n l.loop.i l.loop.work c.before.before.before.before.before.before.before.before.before.formula.result c.before.before.before.before.before.before.before.before.before.formula.ensures c.before.before.before.before.before.before.before.before.before.before.before.loop-test.true w _ (sym c.before.before.before.before.before.before.before.is_false.ensures ∙ c.before.before.before.before.before.before.if2.false) c.before.before.before.before.word_of.ensures k,
+            turned-next (given_by a.threads a.bound a.model.now a.cells.now) a.n l.loop.i a.work.now l.loop.work c.before.before.before.before.before.before.before.before.before.formula.result w _ q.1.1.1.1 c.before.before.before.before.before.before.before.before.before.formula.ensures c.before.before.before.before.word_of.ensures k,
           ),
         ),
       ),
@@ -94,11 +94,11 @@ same-length-2 : tie.Need-same-length-2 invariant-loop decreases-loop
 same-length-2 c = search rules
 
 returns-3 : tie.Need-returns-3 invariant-loop decreases-loop
-unfolding falseIn falseFrom
+unfolding false_in false_from
 returns-3 c = let l = c.before in let a = l.before.before.before.before.before.before.args in
     let e : a.n - l.loop.i ≡ 0 = omega arith in
     let d : l.loop.i ≡ a.n = omega (arith, l.loop.invariant.0) in
-    sym (passed _ _ (le-ltb _ _ l.before.before.if1.false) ∙ (l.loop.invariant.1.1.1.0 ∙ (ap (λ (k : ℕ). falseFrom (givenBy a.threads a.bound a.model.now a.cells.now) a.n l.loop.i k l.loop.work) e ∙ d)))
+    sym (passed _ _ (le-ltb _ _ l.before.before.if1.false) ∙ (l.loop.invariant.1.1.1.0 ∙ (ap (λ (k : ℕ). false_from (given_by a.threads a.bound a.model.now a.cells.now) a.n l.loop.i k l.loop.work) e ∙ d)))
 
 pub evaluate-spec : {M : Type 1} → statement M
 evaluate-spec =

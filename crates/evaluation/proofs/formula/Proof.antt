@@ -1,8 +1,8 @@
 -- `evaluation::formula` meets its contract. Assumes nothing.
 use Prim.Native.Nat.{◌+◌, ◌*◌}
 use lib.ListN.{get_or}
-use Rattle.table.specs.Formulas.{formulaAt}
-use Rattle.evaluation.specs.Evaluations.{noFormula}
+use Rattle.table.specs.Formulas.{formula_at}
+use Rattle.evaluation.specs.Evaluations.{no_formula}
 use Rattle.base.proofs.Choice.{chosen, passed}
 use borrow.Author.Tests.{lt-ltb, le-ltb}
 use mathlib.Core.Path.{sym, ◌∙◌}
@@ -47,10 +47,10 @@ operand-requires-3 : tie.Need-operand-requires-3
 operand-requires-3 c κs = search rules
 
 returns : tie.Need-returns
-unfolding formulaAt
+unfolding formula_at
 returns c = let b = c.before.before.before.before.before.before in let s = b.before.before.args.work.now in let i = b.before.before.args.i in
     (λ z. record { operation = get_or s (16 * i) 0; sort = get_or s (16 * i + 1) 0; constant = c.before.before.before.word_at.ensures z; a = c.before.before.operand.ensures z; b = c.before.operand2.ensures z; c = c.operand3.ensures z })
-    ∙ sym (chosen (formulaAt s i) noFormula (lt-ltb _ _ b.if1.true))
+    ∙ sym (chosen (formula_at s i) no_formula (lt-ltb _ _ b.if1.true))
 
 returns-2 : tie.Need-returns-2
 returns-2 c = sym (passed _ _ (le-ltb _ _ c.if1.false))

@@ -1,7 +1,7 @@
 -- `evaluation::read_back` meets its contract. Assumes nothing.
-use Rattle.evaluation.proofs.Backwards.{back-hit, back-first, back_on, visits-on}
-use Rattle.evaluation.specs.Evaluations.{formulaIn, valueIn, cellBack, memoriesBack}
-use Rattle.records.specs.Maps.{mapValue}
+use Rattle.evaluation.proofs.Backwards.{back-hit, back-first, back_on, visits_on}
+use Rattle.evaluation.specs.Evaluations.{formula_in, value_in, cell_back, memories_back}
+use Rattle.records.specs.Maps.{map_value}
 use borrow.Author.Tests.{not-true, not-false}
 use native.Mathlib.Omega.{arith}
 use mathlib.Core.Path.{◌≡◌, refl, sym, ap, ◌∙◌}
@@ -16,15 +16,15 @@ use Rattle.evaluation.proofs.read_back.Tie as tie
 abbrev invariant-loop : tie.invariant-loop
 invariant-loop work n cells ordered m x left₀ memory₀ left memory =
     (left ≤ n)
-    × ((cellBack (mapValue cells) (formulaIn work n) (valueIn work n) n m x ≡ cellBack (mapValue cells) (formulaIn work n) (valueIn work n) left memory x)
-    × (drop (n - left) (memoriesBack (formulaIn work n) (valueIn work n) n m x) ≡ memoriesBack (formulaIn work n) (valueIn work n) left memory x))
+    × ((cell_back (map_value cells) (formula_in work n) (value_in work n) n m x ≡ cell_back (map_value cells) (formula_in work n) (value_in work n) left memory x)
+    × (drop (n - left) (memories_back (formula_in work n) (value_in work n) n m x) ≡ memories_back (formula_in work n) (value_in work n) left memory x))
 
 abbrev decreases-loop : tie.decreases-loop
 decreases-loop work n cells ordered m x left₀ memory₀ left memory = left
 
 loop-holds : tie.Need-loop-init invariant-loop decreases-loop
 loop-holds c = let a = c.before.before.args in let s = a.work.now in let none : a.n - a.n ≡ 0 = omega arith in
-    (search rules, (refl, ap (λ (k : ℕ). drop k (memoriesBack (formulaIn s a.n) (valueIn s a.n) a.n a.m a.x)) none))
+    (search rules, (refl, ap (λ (k : ℕ). drop k (memories_back (formula_in s a.n) (value_in s a.n) a.n a.m a.x)) none))
 
 formula-requires : tie.Need-formula-requires invariant-loop decreases-loop
 formula-requires c κs = search rules
@@ -37,14 +37,14 @@ value-requires-2 c κs = search rules
 
 returns : tie.Need-returns invariant-loop decreases-loop
 returns c = let v = c.before.before in let l = v.before.before.before in let a = l.before.before.before.args in let s = a.work.now in
-    sym (l.loop.invariant.1.0 ∙ (back-hit (mapValue a.cells.now) (formulaIn s a.n) (valueIn s a.n) l.loop.memory a.x v.before.formula.result v.before.formula.ensures l.loop.left v.value.result v.before.before.loop-test.true v.value.ensures c.before.if1.true ∙ sym c.value2.ensures))
+    sym (l.loop.invariant.1.0 ∙ (back-hit (map_value a.cells.now) (formula_in s a.n) (value_in s a.n) l.loop.memory a.x v.before.formula.result v.before.formula.ensures l.loop.left v.value.result v.before.before.loop-test.true v.value.ensures c.before.if1.true ∙ sym c.value2.ensures))
 
 first-requires : tie.Need-first-requires invariant-loop decreases-loop
 first-requires c κs = c.before.before.before.before.before.before.before.before.requires.1
 
 returns-2 : tie.Need-returns-2 invariant-loop decreases-loop
 returns-2 c = let v = c.before.before.before in let l = v.before.before.before in let a = l.before.before.before.args in let s = a.work.now in
-    sym (l.loop.invariant.1.0 ∙ (back-first (mapValue a.cells.now) (formulaIn s a.n) (valueIn s a.n) l.loop.memory a.x v.before.formula.result v.before.formula.ensures l.loop.left v.value.result v.before.before.loop-test.true v.value.ensures c.before.before.if1.false (not-true _ c.before.if2.true) ∙ sym c.first.ensures))
+    sym (l.loop.invariant.1.0 ∙ (back-first (map_value a.cells.now) (formula_in s a.n) (value_in s a.n) l.loop.memory a.x v.before.formula.result v.before.formula.ensures l.loop.left v.value.result v.before.before.loop-test.true v.value.ensures c.before.before.if1.false (not-true _ c.before.if2.true) ∙ sym c.first.ensures))
 
 behind-requires : tie.Need-behind-requires invariant-loop decreases-loop
 behind-requires c κs = search rules
@@ -57,22 +57,22 @@ loop-less c = search rules
 
 loop-again : tie.Need-loop-preserved invariant-loop decreases-loop
 loop-again c = let v = c.before.before.before in let l = v.before.before.before in let a = l.before.before.before.args in let s = a.work.now in
-    let all = memoriesBack (formulaIn s a.n) (valueIn s a.n) a.n a.m a.x in
+    let all = memories_back (formula_in s a.n) (value_in s a.n) a.n a.m a.x in
     let one_more : a.n - (l.loop.left - 1) ≡ a.n - l.loop.left + 1 = omega (arith, l.loop.invariant.0, v.before.before.loop-test.true) in (
       search rules,
       (
-        l.loop.invariant.1.0 ∙ (back_on (mapValue a.cells.now) (formulaIn s a.n) (valueIn s a.n) l.loop.memory a.x v.before.formula.result v.before.formula.ensures l.loop.left v.value.result v.before.before.loop-test.true v.value.ensures c.before.before.if1.false (not-false _ c.before.if2.false)
-            ∙ ap (λ (k : ℕ). cellBack (mapValue a.cells.now) (formulaIn s a.n) (valueIn s a.n) (l.loop.left - 1) k a.x) (sym c.behind.ensures)),
+        l.loop.invariant.1.0 ∙ (back_on (map_value a.cells.now) (formula_in s a.n) (value_in s a.n) l.loop.memory a.x v.before.formula.result v.before.formula.ensures l.loop.left v.value.result v.before.before.loop-test.true v.value.ensures c.before.before.if1.false (not-false _ c.before.if2.false)
+            ∙ ap (λ (k : ℕ). cell_back (map_value a.cells.now) (formula_in s a.n) (value_in s a.n) (l.loop.left - 1) k a.x) (sym c.behind.ensures)),
         ap (λ (k : ℕ). drop k all) one_more ∙ (sym (drop-drop 1 (a.n - l.loop.left) all) ∙ (ap (drop 1) (l.loop.invariant.1.1
-            ∙ visits-on (mapValue a.cells.now) (formulaIn s a.n) (valueIn s a.n) l.loop.memory a.x v.before.formula.result v.before.formula.ensures l.loop.left v.value.result v.before.before.loop-test.true v.value.ensures c.before.before.if1.false (not-false _ c.before.if2.false))
-            ∙ ap (λ (k : ℕ). memoriesBack (formulaIn s a.n) (valueIn s a.n) (l.loop.left - 1) k a.x) (sym c.behind.ensures))),
+            ∙ visits_on (map_value a.cells.now) (formula_in s a.n) (value_in s a.n) l.loop.memory a.x v.before.formula.result v.before.formula.ensures l.loop.left v.value.result v.before.before.loop-test.true v.value.ensures c.before.before.if1.false (not-false _ c.before.if2.false))
+            ∙ ap (λ (k : ℕ). memories_back (formula_in s a.n) (value_in s a.n) (l.loop.left - 1) k a.x) (sym c.behind.ensures))),
       ),
     )
 
 returns-3 : tie.Need-returns-3 invariant-loop decreases-loop
-unfolding cellBack
+unfolding cell_back
 returns-3 c = let l = c.before in let a = l.before.before.before.args in let s = a.work.now in let e : l.loop.left ≡ 0 = omega arith in
-    sym (l.loop.invariant.1.0 ∙ ap (λ (k : ℕ). cellBack (mapValue a.cells.now) (formulaIn s a.n) (valueIn s a.n) k l.loop.memory a.x) e)
+    sym (l.loop.invariant.1.0 ∙ ap (λ (k : ℕ). cell_back (map_value a.cells.now) (formula_in s a.n) (value_in s a.n) k l.loop.memory a.x) e)
 
 pub read-back-spec : {M : Type 1} → statement M
 read-back-spec =

@@ -1,6 +1,6 @@
 -- `evaluation::search` meets its contract. Assumes nothing.
 use Rattle.evaluation.proofs.Halves.{missing, found, lower, higher}
-use Rattle.records.specs.Maps.{cells as cellCount, addressAt}
+use Rattle.records.specs.Maps.{cells as cell_count, address_at}
 use native.Mathlib.Decide.{dec_lt}
 use native.Mathlib.Omega.{arith}
 use mathlib.Core.Path.{sym, ◌∙◌}
@@ -11,7 +11,7 @@ use Rattle.evaluation.proofs.search.Tie as tie
 
 -- address x is at none of the cells below low and from high on
 abbrev invariant-loop : tie.invariant-loop
-invariant-loop cells x low₀ high₀ low high = (low ≤ high) × ((high ≤ cellCount cells) × (((j : ℕ) → j < low → addressAt cells j < x) × ((j : ℕ) → high ≤ j → j < cellCount cells → x < addressAt cells j)))
+invariant-loop cells x low₀ high₀ low high = (low ≤ high) × ((high ≤ cell_count cells) × (((j : ℕ) → j < low → address_at cells j < x) × ((j : ℕ) → high ≤ j → j < cell_count cells → x < address_at cells j)))
 
 abbrev decreases-loop : tie.decreases-loop
 decreases-loop cells x low₀ high₀ low high = high - low
@@ -53,7 +53,7 @@ loop-less c = search rules
 loop-again : tie.Need-loop-preserved invariant-loop decreases-loop
 loop-again c = let l = c.before.before.before.before in let s = l.before.before in let a = s.args in let v = l.loop.invariant in
     let middle = l.loop.low + (l.loop.high - l.loop.low) / 2 in
-    let e : addressAt a.cells.now middle < a.x = omega (arith, c.before.before.word_at.ensures, c.if2.true) in
+    let e : address_at a.cells.now middle < a.x = omega (arith, c.before.before.word_at.ensures, c.if2.true) in
     (search rules, (v.1.0, (lower a.cells.now a.x s.requires middle (omega arith) e, v.1.1.1)))
 
 loop-less-2 : tie.Need-loop-smaller-2 invariant-loop decreases-loop
@@ -62,7 +62,7 @@ loop-less-2 c = search rules
 loop-again-2 : tie.Need-loop-preserved-2 invariant-loop decreases-loop
 loop-again-2 c = let l = c.before.before.before.before in let s = l.before.before in let a = s.args in let v = l.loop.invariant in
     let middle = l.loop.low + (l.loop.high - l.loop.low) / 2 in
-    let e : a.x < addressAt a.cells.now middle = omega (arith, c.before.before.word_at.ensures, c.before.if1.false, c.if2.false) in
+    let e : a.x < address_at a.cells.now middle = omega (arith, c.before.before.word_at.ensures, c.before.if1.false, c.if2.false) in
     (search rules, (search rules, (v.1.1.0, higher a.cells.now a.x s.requires middle (omega arith) e)))
 
 returns-2 : tie.Need-returns-2 invariant-loop decreases-loop

@@ -1,5 +1,5 @@
 -- `listing::list_text` meets its contract. Assumes nothing.
-use Rattle.listing.specs.Texts.{listingBy, listingOf}
+use Rattle.listing.specs.Texts.{listing_by, listing_of}
 use Rattle.listing.proofs.Records.{set-taken, map-taken}
 use Rattle.listing_output.specs.Printed.{count, printed}
 use Rattle.listing_output.specs.Listings.{listing}
@@ -77,25 +77,25 @@ same_length : tie.Need-same-length
 same_length c = search rules
 
 returns : tie.Need-returns
-unfolding listingOf
+unfolding listing_of
 returns c = let text = c.before.before.before.before.before.before.before.before.before.before.before.before.before.before.before.before.args.text.now in let g = c.before.before.before.before.before.before.before.answer.given in let w = c.before.before.before.before.before.before.before.before.before.before.before.read.ensures in
     let k = read-counts text 1024 512 g.0.0 g.0.1.0 (sym w.0 ∙ g.1) in
     let out = c.before.before.before.before.before.before.before.before.before.before.before.before.before.before.before.before.args.out.now in
     let l = c.before.before.list.ensures in
     let set = ap (take (8 * g.0.0)) w.1 ∙ set-taken c.before.before.before.before.before.before.before.before.before.before.before.read.result g.0.0 g.0.1.0 g.1 text _ k.0 in
     let map = ap (take (4 * g.0.1.0)) w.2 ∙ map-taken c.before.before.before.before.before.before.before.before.before.before.before.read.result g.0.0 g.0.1.0 g.1 text _ k.1 in
-    let e = ap₂ listing set map ∙ sym (ap (λ (r : ReadAnswer). listingBy r text) (sym w.0 ∙ g.1)) in
+    let e = ap₂ listing set map ∙ sym (ap (λ (r : ReadAnswer). listing_by r text) (sym w.0 ∙ g.1)) in
     (l.0 ∙ ap (λ (bytes : List ℕ). count bytes out) e, l.1 ∙ ap (λ (bytes : List ℕ). printed bytes out) e)
 
 same-length-2 : tie.Need-same-length-2
 same-length-2 c = search rules
 
 returns-2 : tie.Need-returns-2
-unfolding listingOf
+unfolding listing_of
 returns-2 c = let text = c.before.before.before.before.before.before.before.before.before.before.before.before.before.before.args.text.now in let out = c.before.before.before.before.before.before.before.before.before.before.before.before.before.before.args.out.now in
     let g = c.before.before.before.before.before.answer2.given in let w = c.before.before.before.before.before.before.before.before.before.read.ensures in
     let l = c.before.before.refused.ensures in
-    let e = sym (ap (λ (r : ReadAnswer). listingBy r text) (sym w.0 ∙ g.1)) in
+    let e = sym (ap (λ (r : ReadAnswer). listing_by r text) (sym w.0 ∙ g.1)) in
     (l.0 ∙ ap (λ (bytes : List ℕ). count bytes out) e, l.1 ∙ ap (λ (bytes : List ℕ). printed bytes out) e)
 
 pub list-text-spec : {M : Type 1} → statement M

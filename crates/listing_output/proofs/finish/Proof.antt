@@ -2,7 +2,7 @@
 use mathlib.Core.Path.{ap, sym, ◌∙◌}
 use borrow.Author.Rules.{rules}
 use Rattle.listing_output.specs.Outputs.{last_of}
-use Rattle.listing_output.proofs.Texts.{prints-as}
+use Rattle.listing_output.proofs.Texts.{prints_as}
 use Rattle.listing_output.proofs.finish.Statement.{statement}
 use Rattle.listing_output.proofs.finish.Tie as tie
 
@@ -29,14 +29,14 @@ same_length c = search rules
 
 returns : tie.Need-returns
 unfolding last_of
-returns c = prints-as (ap last_of (sym c.before.before.before.before.before.answer.given.1 ∙ c.before.before.before.before.before.before.before.before.simulate.ensures.0)) c.before.before.last.ensures
+returns c = prints_as (ap last_of (sym c.before.before.before.before.before.answer.given.1 ∙ c.before.before.before.before.before.before.before.before.simulate.ensures.0)) c.before.before.last.ensures
 
 same-length-2 : tie.Need-same-length-2
 same-length-2 c = search rules
 
 returns-2 : tie.Need-returns-2
 unfolding last_of
-returns-2 c = prints-as (ap last_of (sym c.before.before.before.before.before.answer2.given.1 ∙ c.before.before.before.before.before.before.before.before.simulate.ensures.0)) c.before.before.refusal.ensures
+returns-2 c = prints_as (ap last_of (sym c.before.before.before.before.before.answer2.given.1 ∙ c.before.before.before.before.before.before.before.before.simulate.ensures.0)) c.before.before.refusal.ensures
 
 pub finish_spec : {M : Type 1} → statement M
 finish_spec =

@@ -3,7 +3,7 @@ use mathlib.Core.List.{[]}
 use mathlib.Core.Path.{sym, ◌∙◌}
 use borrow.Author.Rules.{rules}
 use Rattle.listing_output.proofs.Listed.{ran-accepts, refused-listing, accepted-listing}
-use Rattle.listing_output.proofs.Texts.{stands-none, stands-as}
+use Rattle.listing_output.proofs.Texts.{stands-none, stands_as}
 use Rattle.listing_output.proofs.list.Statement.{statement}
 use Rattle.listing_output.proofs.list.Tie as tie
 
@@ -34,7 +34,7 @@ same_length c = search rules
 returns : tie.Need-returns
 returns c =
     let a = c.before.before.before.before.before.before.before.before.before.before.before.before.before.before.args in
-    let s = stands-as c.before.before.run.ensures (accepted-listing a.set.now a.map.now (ran-accepts _ _ (sym c.before.before.before.before.before.before.before.before.simulate.ensures.0 ∙ c.before.before.before.before.before.answer.given.1))) in
+    let s = stands_as c.before.before.run.ensures (accepted-listing a.set.now a.map.now (ran-accepts _ _ (sym c.before.before.before.before.before.before.before.before.simulate.ensures.0 ∙ c.before.before.before.before.before.answer.given.1))) in
     (s.place, s.bytes)
 
 same-length-2 : tie.Need-same-length-2
@@ -43,7 +43,7 @@ same-length-2 c = search rules
 returns-2 : tie.Need-returns-2
 returns-2 c =
     let a = c.before.before.before.before.before.before.before.before.before.before.before.before.before.before.args in
-    let s = stands-as (c.before.before.refusal.ensures [] a.out.now (stands-none a.out.now)) (refused-listing a.set.now a.map.now _ _ (sym c.before.before.before.before.before.before.before.before.simulate.ensures.0 ∙ c.before.before.before.before.before.answer2.given.1)) in
+    let s = stands_as (c.before.before.refusal.ensures [] a.out.now (stands-none a.out.now)) (refused-listing a.set.now a.map.now _ _ (sym c.before.before.before.before.before.before.before.before.simulate.ensures.0 ∙ c.before.before.before.before.before.answer2.given.1)) in
     (s.place, s.bytes)
 
 pub list-spec : {M : Type 1} → statement M

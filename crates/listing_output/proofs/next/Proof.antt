@@ -10,11 +10,11 @@ use borrow.Author.Rules.{rules}
 use Rattle.base.proofs.Below.{least_more, least-hit}
 use Rattle.base.specs.Below.{least}
 use Rattle.simulation.specs.Simulation.{simulated}
-use Rattle.listing_output.specs.Schedules.{candidate, denies, allows, nextByte}
+use Rattle.listing_output.specs.Schedules.{candidate, denies, allows, next_byte}
 use Rattle.listing_output.proofs.Runs.{stored}
 use Rattle.listing_output.proofs.next.Statement.{statement}
 use Rattle.listing_output.proofs.next.Tie as tie
-use Rattle.machine.specs.Traces.{longestTrace}
+use Rattle.machine.specs.Traces.{longest_trace}
 
 abbrev invariant-loop : tie.invariant-loop
 invariant-loop set map k tried₀ j₀ tried j = (k < 64) × (length tried ≡ 64) × (take k tried ≡ take k tried₀) × (j ≤ 7) × (least j (allows set map (take k tried₀)) ≡ j)
@@ -29,7 +29,7 @@ allowed : (x : tie.After-denied invariant-loop decreases-loop) →
 allowed x =
     let a = x.before.before.before.before.before.before.before.args in
     let l = x.before.before.before.before.loop in
-    ap (λ (run : List ℕ). not (denies (simulated a.set.now a.map.now run longestTrace)))
+    ap (λ (run : List ℕ). not (denies (simulated a.set.now a.map.now run longest_trace)))
     (sym (stored (take a.k a.schedule) l.tried a.k (candidate l.j) l.invariant.2 (omega (arith, l.invariant.0, l.invariant.1)))
     ∙ ap (λ (b : ℕ). take (a.k + 1) (set l.tried a.k b)) (sym x.before.before.candidate.ensures))
     ∙ sym (ap not x.denied.ensures)
@@ -60,7 +60,7 @@ denied-requires : tie.Need-denied-requires invariant-loop decreases-loop
 denied-requires c κs = search rules
 
 returns : tie.Need-returns invariant-loop decreases-loop
-unfolding nextByte
+unfolding next_byte
 returns c =
     let a = c.before.before.before.before.before.before.before.before.args in
     let l = c.before.before.before.before.before.loop in
@@ -87,7 +87,7 @@ candidate-requires-2 : tie.Need-candidate-requires-2 invariant-loop decreases-lo
 candidate-requires-2 c κs = search rules
 
 returns-2 : tie.Need-returns-2 invariant-loop decreases-loop
-unfolding nextByte
+unfolding next_byte
 returns-2 c =
     let a = c.before.before.before.before.before.args in
     let l = c.before.before.loop in

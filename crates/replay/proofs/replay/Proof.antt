@@ -1,12 +1,12 @@
 -- `replay::replay` meets its contract. Assumes nothing.
-use Rattle.replay.specs.Replay.{limitedTrace, replayed}
+use Rattle.replay.specs.Replay.{limited_trace, replayed}
 use mathlib.Core.Path.{◌≡◌, sym, ap, ◌∙◌}
 use mathlib.Core.Bool.{true}
-use Rattle.records.proofs.Layouts.{no_threads, some-threads, few-threads, set-read}
+use Rattle.records.proofs.Layouts.{no_threads_lem, some-threads, few-threads, set-read}
 use Rattle.records.proofs.Maps.{few-cells}
-use Rattle.records.specs.Sets.{Set, setAccepted}
-use Rattle.records.specs.Maps.{mapAccepted, runCells}
-use Rattle.base.proofs.Choice.{chosen, passed, and-true, and-false, and-right-false}
+use Rattle.records.specs.Sets.{Set, set_accepted}
+use Rattle.records.specs.Maps.{map_accepted, run_cells}
+use Rattle.base.proofs.Choice.{chosen, passed, and_true, and_false, and_right_false}
 use borrow.Author.Rules.{rules}
 use Rattle.replay.proofs.replay.Statement.{statement}
 use Rattle.replay.proofs.replay.Tie as tie
@@ -18,7 +18,7 @@ use Rattle.replay.proofs.accepted.Reads as accepted-reads
 use Rattle.replay.proofs.refused.Reads as refused-reads
 
 -- past the first test the set is accepted
-good : (c : tie.After-map-accepted) → setAccepted c.before.before.before.before.before.before.before.args.set.now ≡ true
+good : (c : tie.After-map-accepted) → set_accepted c.before.before.before.before.before.before.before.args.set.now ≡ true
 good c = some-threads c.before.before.before.before.before.before.before.args.set.now c.before.before.before.layout.result c.before.before.before.layout.ensures c.before.if1.false
 
 layout-requires : tie.Need-layout-requires
@@ -32,7 +32,7 @@ unfolding replayed
 returns c =
     let l = c.before.before.before in
     let a = l.before.before.before.before.args in
-    c.refused.ensures ∙ sym (passed _ _ (and-false (mapAccepted runCells a.map.now) (no_threads a.set.now l.layout.result l.layout.ensures c.before.if1.true)))
+    c.refused.ensures ∙ sym (passed _ _ (and_false (map_accepted run_cells a.map.now) (no_threads_lem a.set.now l.layout.result l.layout.ensures c.before.if1.true)))
 
 map-accepted-requires : tie.Need-map-accepted-requires
 map-accepted-requires c κs = search rules
@@ -41,7 +41,7 @@ accepted-requires : tie.Need-accepted-requires
 accepted-requires c κs =
     let m = c.before in
     let a = m.before.before.before.before.before.before.before.args in
-    (few-threads a.set.now _ m.before.before.before.layout.ensures (good m), few-cells runCells a.map.now (sym m.map-accepted.ensures ∙ c.if2.true))
+    (few-threads a.set.now _ m.before.before.before.layout.ensures (good m), few-cells run_cells a.map.now (sym m.map-accepted.ensures ∙ c.if2.true))
 
 returns-2 : tie.Need-returns-2
 unfolding replayed
@@ -49,8 +49,8 @@ returns-2 c =
     let m = c.before.before in
     let a = m.before.before.before.before.before.before.before.args in
     c.accepted.ensures
-    ∙ ap (λ (S : Set). limitedTrace S a.map.now a.trace.now) (set-read a.set.now m.before.before.before.layout.result m.before.before.before.layout.ensures (good m))
-    ∙ sym (chosen _ _ (and-true (good m) (sym m.map-accepted.ensures ∙ c.before.if2.true)))
+    ∙ ap (λ (S : Set). limited_trace S a.map.now a.trace.now) (set-read a.set.now m.before.before.before.layout.result m.before.before.before.layout.ensures (good m))
+    ∙ sym (chosen _ _ (and_true (good m) (sym m.map-accepted.ensures ∙ c.before.if2.true)))
 
 refused-requires-2 : tie.Need-refused-requires-2
 refused-requires-2 c κs = search rules
@@ -60,7 +60,7 @@ unfolding replayed
 returns-3 c =
     let m = c.before.before in
     let a = m.before.before.before.before.before.before.before.args in
-    c.refused2.ensures ∙ sym (passed _ _ (and-right-false (setAccepted a.set.now) (sym m.map-accepted.ensures ∙ c.before.if2.false)))
+    c.refused2.ensures ∙ sym (passed _ _ (and_right_false (set_accepted a.set.now) (sym m.map-accepted.ensures ∙ c.before.if2.false)))
 
 pub replay-spec : {M : Type 1} → statement M
 replay-spec =

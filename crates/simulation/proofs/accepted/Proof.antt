@@ -9,13 +9,13 @@ use borrow.Author.Rules.{rules}
 use borrow.Author.Tests.{lt-ltb, le-ltb}
 use Rattle.simulation.proofs.Written.{out-most, put-out}
 use Rattle.simulation.specs.Simulation.{limited}
-use Rattle.machine.specs.Traces.{trace, longestTrace, stepLength}
+use Rattle.machine.specs.Traces.{trace, longest_trace, step_length}
 use Rattle.machine.specs.Runs.{choices}
-use Rattle.machine.specs.Machine.{start, noWrite}
+use Rattle.machine.specs.Machine.{start, no_write}
 use Rattle.machine.proofs.Runs.{length-trace, length-choices}
 use Rattle.step.proofs.Runs.{followed-within}
-use Rattle.records.specs.Sets.{Set, setBy}
-use Rattle.records.specs.Maps.{mapValue}
+use Rattle.records.specs.Sets.{Set, set_by}
+use Rattle.records.specs.Maps.{map_value}
 use Rattle.base.proofs.Choice.{chosen, passed}
 use Rattle.base.specs.Bytes.{placed}
 use Rattle.simulation.proofs.accepted.Statement.{statement}
@@ -32,7 +32,7 @@ abbrev start_of : tie.After-follow → tie.Start
 start_of r = r.before.before.before.before.before.before.before.before
 
 abbrev set-of : tie.After-follow → Set
-set-of r = setBy (start_of r).args.set.now (start_of r).args.layout
+set-of r = set_by (start_of r).args.set.now (start_of r).args.layout
 
 abbrev map_of : tie.After-follow → List ℕ
 map_of r = (start_of r).args.map.now
@@ -55,17 +55,17 @@ unfolding limited
 decided r =
     passed _ _ (le-ltb _ _ (short r)) ∙ passed _ _ (le-ltb _ _ r.before.before.if2.false)
     ∙ sym (r.follow.ensures.0
-    ∙ followed-within (set-of r) (map_of r) (start_of r).requires.0 (start_of r).requires.1 (schedule-of r) longestTrace (short r) (short r))
+    ∙ followed-within (set-of r) (map_of r) (start_of r).requires.0 (start_of r).requires.1 (schedule-of r) longest_trace (short r) (short r))
 
 abbrev output-of : tie.After-follow → List ℕ
-output-of r = trace (set-of r) (start (mapValue (map_of r))) noWrite (choices (schedule-of r))
+output-of r = trace (set-of r) (start (map_value (map_of r))) no_write (choices (schedule-of r))
 
-output-length : (r : tie.After-follow) → length (output-of r) ≡ stepLength * length (schedule-of r)
-output-length r = length-trace (set-of r) _ noWrite (choices (schedule-of r)) ∙ ap (λ (n : ℕ). stepLength * n) (length-choices (schedule-of r))
+output_length : (r : tie.After-follow) → length (output-of r) ≡ step_length * length (schedule-of r)
+output_length r = length-trace (set-of r) _ no_write (choices (schedule-of r)) ∙ ap (λ (n : ℕ). step_length * n) (length-choices (schedule-of r))
 
 -- what is written lies within the bytes
-sized : (c : tie.After-bytes-out) → let r = c.before.before in c.bytes-out.result ≤ stepLength * length (schedule-of r)
-sized c = let r = c.before.before in omega (arith, c.bytes-out.ensures, out-most r.follow.result.answer (stepLength * length (schedule-of r)))
+sized : (c : tie.After-bytes-out) → let r = c.before.before in c.bytes-out.result ≤ step_length * length (schedule-of r)
+sized c = let r = c.before.before in omega (arith, c.bytes-out.ensures, out-most r.follow.result.answer (step_length * length (schedule-of r)))
 
 returns : tie.Need-returns
 unfolding limited
@@ -112,7 +112,7 @@ returns-3 c =
       sym (decided r),
       c.before.before.place.ensures
           ∙ ap (λ (k : ℕ). placed (out_of r) 0 (take k (bytes_of r))) o.bytes-out.ensures
-          ∙ put-out r.follow.result.answer (bytes_of r) (output-of r) (out_of r) (stepLength * length (schedule-of r)) (output-length r) r.before.before.if2.false r.follow.ensures.2,
+          ∙ put-out r.follow.result.answer (bytes_of r) (output-of r) (out_of r) (step_length * length (schedule-of r)) (output_length r) r.before.before.if2.false r.follow.ensures.2,
     )
 
 pub accepted-spec : {M : Type 1} → statement M

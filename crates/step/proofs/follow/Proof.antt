@@ -2,7 +2,7 @@
 use mathlib.Core.Path.{◌∙◌}
 use lib.ListN.{length}
 use borrow.Author.Rules.{rules}
-use Rattle.records.specs.Sets.{setBy}
+use Rattle.records.specs.Sets.{set_by}
 use Rattle.machine.specs.Maps.{begin}
 use native.Mathlib.Omega.{arith}
 use Rattle.step.proofs.Runs.{over-followed, walked-lacked}
@@ -23,7 +23,7 @@ returns c =
     let w = c.before.before in
     let a = w.before.before.before.before.before.before.args in
     let e = w.walk.ensures in
-    let S = setBy a.set.now a.layout in (
+    let S = set_by a.set.now a.layout in (
       e.0 ∙ over-followed S a.map.now a.schedule.now (length a.trace.now),
       λ place refused. e.1 place refused ∙ walked-lacked S a.schedule.now (begin a.map.now) 0 (length a.schedule.now) (omega arith),
       e.2,

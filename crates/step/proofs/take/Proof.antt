@@ -8,10 +8,10 @@ use native.Mathlib.Omega.{arith}
 use lib.Dec.{ltb}
 use lib.ListN.{length, get_or, set}
 use borrow.Author.Tests.{not-false, lt-leb}
-use Rattle.base.proofs.Choice.{passed, and-false}
-use Rattle.records.specs.Sets.{Set, setBy}
+use Rattle.base.proofs.Choice.{passed, and_false}
+use Rattle.records.specs.Sets.{Set, set_by}
 use Rattle.records.specs.declared.Layout.{Layout}
-use Rattle.machine.specs.Held.{memoryOf, known_of, held_of}
+use Rattle.machine.specs.Held.{memory_of, known_of, held_of}
 use Rattle.machine.specs.Machine.{actor, unmarked}
 use Rattle.machine.specs.Maps.{Held, outcome, advanced}
 use Rattle.machine.specs.declared.Choice.{Choice}
@@ -19,11 +19,11 @@ use Rattle.machine.specs.declared.Machine.{Machine}
 use Rattle.machine.specs.declared.Mark.{Mark}
 use Rattle.machine.specs.declared.Outcome.{Outcome}
 use Rattle.machine.specs.declared.Outcome.TheVariants.{Taken, NotPermitted}
-use Rattle.step.specs.Acting.{marksSettled}
-use Rattle.step.specs.Step.{hasRoom, onTaken}
+use Rattle.step.specs.Acting.{marks_settled}
+use Rattle.step.specs.Step.{has_room, on_taken}
 use Rattle.step.proofs.Arrays.{four-threads, four-marks}
-use Rattle.step.proofs.Steps.{Told, quiet-held, loud-held}
-use Rattle.step.proofs.Taken.{taken-so, left, can, came-so, had-room, stays}
+use Rattle.step.proofs.Steps.{Told, quiet-held, loud_held}
+use Rattle.step.proofs.Taken.{taken_so, left, can, came_so, had_room, stays}
 use Rattle.step.proofs.take.Statement.{statement}
 use Rattle.step.proofs.take.Tie as tie
 use Rattle.step.proofs.take.Reads as reads
@@ -50,14 +50,14 @@ bytes_of x = (start_of x).args.set.now
 abbrev layout_of : At → Layout
 layout_of x = (start_of x).args.layout
 
-abbrev set-of : At → Set
-set-of x = setBy (bytes_of x) (layout_of x)
+abbrev set_of_lem : At → Set
+set_of_lem x = set_by (bytes_of x) (layout_of x)
 
-abbrev machine-of : At → Machine
-machine-of x = (start_of x).args.t3
+abbrev machine_of : At → Machine
+machine_of x = (start_of x).args.t3
 
-abbrev addresses-of : At → List ℕ
-addresses-of x = (start_of x).args.addresses.now
+abbrev addresses_of : At → List ℕ
+addresses_of x = (start_of x).args.addresses.now
 
 abbrev values_of : At → List ℕ
 values_of x = (start_of x).args.values.now
@@ -65,51 +65,51 @@ values_of x = (start_of x).args.values.now
 abbrev filled_of : At → ℕ
 filled_of x = (start_of x).args.filled
 
-abbrev choice-of : At → Choice
-choice-of x = (start_of x).args.choice
+abbrev choice_of : At → Choice
+choice_of x = (start_of x).args.choice
 
-abbrev held-of : At → Held
-held-of x = held_of (machine-of x) (addresses-of x) (values_of x) (filled_of x)
+abbrev held_of_lem : At → Held
+held_of_lem x = held_of (machine_of x) (addresses_of x) (values_of x) (filled_of x)
 
 few : (x : At) → (layout_of x).threads ≤ 4
 few x = omega (arith, x.before.before.before.before.before.before.before.if1.false)
 
-abbrev memory-of : At → ℕ → ℕ
-memory-of x = memoryOf (addresses-of x) (values_of x) (filled_of x)
+abbrev memory_of_lem : At → ℕ → ℕ
+memory_of_lem x = memory_of (addresses_of x) (values_of x) (filled_of x)
 
-abbrev known-of : At → ℕ → Bool
-known-of x = known_of (addresses-of x) (filled_of x)
+abbrev known_of_lem : At → ℕ → Bool
+known_of_lem x = known_of (addresses_of x) (filled_of x)
 
 abbrev later_of : At → ℕ → ℕ
-later_of x = memoryOf x.advance.last.1.1.1.1.1.1.0 x.advance.last.1.1.1.1.1.1.1.0 x.advance.result.filled
+later_of x = memory_of x.advance.last.1.1.1.1.1.1.0 x.advance.last.1.1.1.1.1.1.1.0 x.advance.result.filled
 
-abbrev knows-of : At → ℕ → Bool
-knows-of x = known_of x.advance.last.1.1.1.1.1.1.0 x.advance.result.filled
+abbrev knows_of : At → ℕ → Bool
+knows_of x = known_of x.advance.last.1.1.1.1.1.1.0 x.advance.result.filled
 
-told : (x : At) → Told (set-of x) (machine-of x) (memory-of x) (known-of x) (choice-of x) (few x)
-    (can (bytes_of x) (layout_of x) (machine-of x) (addresses-of x) (values_of x) (filled_of x) (choice-of x) (few x)) (actor (choice-of x) % 4) (filled_of x) x.advance.result (later_of x) (knows-of x)
+told : (x : At) → Told (set_of_lem x) (machine_of x) (memory_of_lem x) (known_of_lem x) (choice_of x) (few x)
+    (can (bytes_of x) (layout_of x) (machine_of x) (addresses_of x) (values_of x) (filled_of x) (choice_of x) (few x)) (actor (choice_of x) % 4) (filled_of x) x.advance.result (later_of x) (knows_of x)
 told x =
-    subst (λ (u : ℕ). Told (set-of x) (machine-of x) (memory-of x) (known-of x) (choice-of x) (few x)
-    (can (bytes_of x) (layout_of x) (machine-of x) (addresses-of x) (values_of x) (filled_of x) (choice-of x) (few x)) (u % 4) (filled_of x) x.advance.result (later_of x) (knows-of x))
+    subst (λ (u : ℕ). Told (set_of_lem x) (machine_of x) (memory_of_lem x) (known_of_lem x) (choice_of x) (few x)
+    (can (bytes_of x) (layout_of x) (machine_of x) (addresses_of x) (values_of x) (filled_of x) (choice_of x) (few x)) (u % 4) (filled_of x) x.advance.result (later_of x) (knows_of x))
     x.before.before.before.before.before.before.actor.ensures x.advance.ensures
 
-came : (x : At) → x.advance.result.outcome ≡ cond (hasRoom (layout_of x).threads (length (addresses-of x)) (length (values_of x)) (filled_of x)) (outcome (set-of x) (held-of x) (choice-of x)) NotPermitted
-came x = came-so (bytes_of x) (layout_of x) (machine-of x) (addresses-of x) (values_of x) (filled_of x) (choice-of x) (few x) x.advance.result (later_of x) (knows-of x) (told x)
+came : (x : At) → x.advance.result.outcome ≡ cond (has_room (layout_of x).threads (length (addresses_of x)) (length (values_of x)) (filled_of x)) (outcome (set_of_lem x) (held_of_lem x) (choice_of x)) NotPermitted
+came x = came_so (bytes_of x) (layout_of x) (machine_of x) (addresses_of x) (values_of x) (filled_of x) (choice_of x) (few x) x.advance.result (later_of x) (knows_of x) (told x)
 
 -- where it was taken
 module _ (x : At) (t : x.advance.result.outcome ≡ Taken) where
-  roomed : can (bytes_of x) (layout_of x) (machine-of x) (addresses-of x) (values_of x) (filled_of x) (choice-of x) (few x) ≡ (ltb (actor (choice-of x)) (layout_of x).threads && not (machine-of x).ended)
-  roomed = had-room (bytes_of x) (layout_of x) (machine-of x) (addresses-of x) (values_of x) (filled_of x) (choice-of x) (few x) x.advance.result (later_of x) (knows-of x) (told x) t
+  roomed : can (bytes_of x) (layout_of x) (machine_of x) (addresses_of x) (values_of x) (filled_of x) (choice_of x) (few x) ≡ (ltb (actor (choice_of x)) (layout_of x).threads && not (machine_of x).ended)
+  roomed = had_room (bytes_of x) (layout_of x) (machine_of x) (addresses_of x) (values_of x) (filled_of x) (choice_of x) (few x) x.advance.result (later_of x) (knows_of x) (told x) t
 
-  goes : (h : Held) → h ≡ advanced (set-of x) (held-of x) (choice-of x) →
-      h ≡ onTaken x.advance.result.outcome (advanced (set-of x) (held-of x) (choice-of x)) (held-of x)
-  goes h e = e ∙ sym (ap (λ (o : Outcome). onTaken o (advanced (set-of x) (held-of x) (choice-of x)) (held-of x)) t)
+  goes : (h : Held) → h ≡ advanced (set_of_lem x) (held_of_lem x) (choice_of x) →
+      h ≡ on_taken x.advance.result.outcome (advanced (set_of_lem x) (held_of_lem x) (choice_of x)) (held_of_lem x)
+  goes h e = e ∙ sym (ap (λ (o : Outcome). on_taken o (advanced (set_of_lem x) (held_of_lem x) (choice_of x)) (held_of_lem x)) t)
 
 returns : tie.Need-returns
 returns c =
     let a = c.before.before.before.before.before.args in
     record {
-      came = sym (passed _ _ (and-false (ltb a.filled (length a.values.now)) (and-false (ltb a.filled (length a.addresses.now)) (lt-leb _ _ c.if1.true))));
+      came = sym (passed _ _ (and_false (ltb a.filled (length a.values.now)) (and_false (ltb a.filled (length a.addresses.now)) (lt-leb _ _ c.if1.true))));
       holds = refl;
       more = omega arith;
     }
@@ -165,16 +165,16 @@ same-length-2 c = search rules
 returns-2 : tie.Need-returns-2
 returns-2 c =
     let x = c.before.before.before.before.before.before.before.before.before.before.before.before.before.before in
-    let t = taken-so c.before.before.before.before.before.before.before.is-taken.ensures c.before.before.before.before.before.before.if2.true in
-    let m = machine-of x in
+    let t = taken_so c.before.before.before.before.before.before.before.is-taken.ensures c.before.before.before.before.before.before.if2.true in
+    let m = machine_of x in
     let u = x.before.before.before.before.before.before.actor in
     let marks = c.before.before.marks-after in
     let n : Machine = record { threads = set m.threads (u.result % 4) x.advance.result.thread; marks = marks.result; ended = c.before.ended-after.result; code = c.code-after.result } in
     record {
       came = came x;
-      holds = goes x t _ (loud-held (set-of x) m (memory-of x) (known-of x) (choice-of x) (few x) (told x) (roomed x t) t n
+      holds = goes x t _ (loud_held (set_of_lem x) m (memory_of_lem x) (known_of_lem x) (choice_of x) (few x) (told x) (roomed x t) t n
           (ap (λ (k : ℕ). set m.threads (k % 4) x.advance.result.thread) u.ensures) (four-threads m (start_of x).well-formed.1.1.0)
-          (marks.ensures ∙ ap {B = ℕ → Mark} (λ (k : ℕ). cond (ltb k 4) (marksSettled (set-of x) (λ v. get_or m.marks v unmarked) k x.advance.result.statement) (λ v. get_or m.marks v unmarked)) u.ensures)
+          (marks.ensures ∙ ap {B = ℕ → Mark} (λ (k : ℕ). cond (ltb k 4) (marks_settled (set_of_lem x) (λ v. get_or m.marks v unmarked) k x.advance.result.statement) (λ v. get_or m.marks v unmarked)) u.ensures)
           c.before.ended-after.ensures
           c.code-after.ensures);
       more = x.advance.ensures.more;
@@ -189,13 +189,13 @@ same-length-4 c = search rules
 returns-3 : tie.Need-returns-3
 returns-3 c =
     let x = c.before.before.before.before.before.before.before.before.before.before in
-    let t = taken-so c.before.before.before.is-taken.ensures c.before.before.if2.true in
-    let m = machine-of x in
+    let t = taken_so c.before.before.before.is-taken.ensures c.before.before.if2.true in
+    let m = machine_of x in
     let u = x.before.before.before.before.before.before.actor in
     let n : Machine = record { threads = set m.threads (u.result % 4) x.advance.result.thread; marks = m.marks; ended = m.ended; code = m.code } in
     record {
       came = came x;
-      holds = goes x t _ (quiet-held (set-of x) m (memory-of x) (known-of x) (choice-of x) (few x) (told x) (roomed x t) t n
+      holds = goes x t _ (quiet-held (set_of_lem x) m (memory_of_lem x) (known_of_lem x) (choice_of x) (few x) (told x) (roomed x t) t n
           (ap (λ (k : ℕ). set m.threads (k % 4) x.advance.result.thread) u.ensures) (four-threads m (start_of x).well-formed.1.1.0) refl refl refl (four-marks m (start_of x).well-formed.1.1.0) (sym c.before.quiet.ensures ∙ not-false _ c.if3.false));
       more = x.advance.ensures.more;
     }
@@ -212,7 +212,7 @@ returns-4 c =
     let no = sym c.before.is-taken.ensures ∙ c.if2.false in
     record {
       came = came x;
-      holds = stays (bytes_of x) (layout_of x) (machine-of x) (addresses-of x) (values_of x) (filled_of x) (choice-of x) (few x) x.advance.result (later_of x) (knows-of x) (told x) no ∙ sym (left x.advance.result.outcome _ _ no);
+      holds = stays (bytes_of x) (layout_of x) (machine_of x) (addresses_of x) (values_of x) (filled_of x) (choice_of x) (few x) x.advance.result (later_of x) (knows_of x) (told x) no ∙ sym (left x.advance.result.outcome _ _ no);
       more = x.advance.ensures.more;
     }
 

@@ -4,7 +4,7 @@ use mathlib.Core.Path.{◌≡◌, ap, ◌∙◌}
 use mathlib.Core.List.{[], ◌∷◌}
 use native.Mathlib.Omega.{arith}
 use Rattle.base.specs.Bytes.{placed}
-use Rattle.table.specs.Formulas.{long, formulaBytes}
+use Rattle.table.specs.Formulas.{long, formula_bytes}
 use borrow.Author.Rules.{rules}
 use Rattle.table.proofs.put.Statement.{statement}
 use Rattle.table.proofs.put.Tie as tie
@@ -37,7 +37,7 @@ same_length : tie.Need-same-length
 same_length c = search rules
 
 returns : tie.Need-returns
-unfolding formulaBytes
+unfolding formula_bytes
 returns c =
     let a = c.before.before.before.before.before.before.before.before.args in
     let f = a.formula in

@@ -1,7 +1,7 @@
 -- `text::finish` meets its contract. Assumes nothing.
 use Rattle.text.specs.declared.ReadAnswer.{ReadAnswer}
-use Rattle.text.specs.Readings.{Few, roomed, setPart, mapPart}
-use Rattle.text.specs.Answers.{outputBy}
+use Rattle.text.specs.Readings.{Few, roomed, set_part, map_part}
+use Rattle.text.specs.Answers.{output_by}
 use Rattle.base.proofs.Bytes.{placed-over}
 use Rattle.base.proofs.Choice.{chosen, passed, and_left, and_right}
 use Rattle.base.specs.Bytes.{over}
@@ -62,8 +62,8 @@ returns c = let s = c.before.before.before.before.before.before.before.before.be
     let p = leb-true (8 * n) (length a.set.now) (and_left (leb (8 * n) (length a.set.now)) (leb (4 * m) (length a.map.now)) test) in
     let q = leb-true (4 * m) (length a.map.now) (and_right (leb (8 * n) (length a.set.now)) (leb (4 * m) (length a.map.now)) test) in (
       sym (ap (roomed (length a.set.now) (length a.map.now)) e.1 ∙ chosen _ _ test),
-      c.before.before.before.before.before.before.before.place.ensures ∙ placed-over a.set.now (take (8 * n) a.records.now) (omega (arith, x, p)) ∙ ap (λ (r : ReadAnswer). over (setPart r a.records.now) a.set.now) (sym e.1),
-      c.before.before.place2.ensures ∙ placed-over a.map.now (take (4 * m) a.cells.now) (omega (arith, y, q)) ∙ ap (λ (r : ReadAnswer). over (mapPart r a.cells.now) a.map.now) (sym e.1),
+      c.before.before.before.before.before.before.before.place.ensures ∙ placed-over a.set.now (take (8 * n) a.records.now) (omega (arith, x, p)) ∙ ap (λ (r : ReadAnswer). over (set_part r a.records.now) a.set.now) (sym e.1),
+      c.before.before.place2.ensures ∙ placed-over a.map.now (take (4 * m) a.cells.now) (omega (arith, y, q)) ∙ ap (λ (r : ReadAnswer). over (map_part r a.cells.now) a.map.now) (sym e.1),
     )
 
 refused-requires : tie.Need-refused-requires
@@ -75,8 +75,8 @@ enum-known-answer-2 c = search rules
 returns-2 : tie.Need-returns-2
 returns-2 c = let s = c.before.before.before.before.before.before.before.before.before in let a = s.args in let e = c.before.before.before.answer.given in (
   c.refused.ensures ∙ sym (ap (roomed (length a.set.now) (length a.map.now)) e.1 ∙ passed _ _ c.before.if1.false),
-  sym (ap (λ (r : ReadAnswer). outputBy r (setPart a.answer a.records.now) a.set.now) c.refused.ensures),
-  sym (ap (λ (r : ReadAnswer). outputBy r (mapPart a.answer a.cells.now) a.map.now) c.refused.ensures),
+  sym (ap (λ (r : ReadAnswer). output_by r (set_part a.answer a.records.now) a.set.now) c.refused.ensures),
+  sym (ap (λ (r : ReadAnswer). output_by r (map_part a.answer a.cells.now) a.map.now) c.refused.ensures),
 )
 
 returns-3 : tie.Need-returns-3

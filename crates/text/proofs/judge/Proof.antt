@@ -1,10 +1,10 @@
 -- `text::judge` meets its contract. Assumes nothing.
 use Rattle.text.specs.declared.ReadAnswer.TheVariants.{Read, Refused}
 use Rattle.text.specs.Sections.{Threads}
-use Rattle.text.specs.Records.{setBytes, statements}
+use Rattle.text.specs.Records.{set_bytes, statements}
 use Rattle.text.specs.Readings.{ThreadsStand}
-use Rattle.text.specs.Answers.{checkpointsFit, mapFits}
-use Rattle.text.proofs.Fitting.{checked-early, checked-seven, checked-eight, checked-read, assembled, none_written, fits-eight, fits_read}
+use Rattle.text.specs.Answers.{checkpoints_fit, map_fits}
+use Rattle.text.proofs.Fitting.{checked-early, checked_seven, checked_eight, checked-read, assembled, none_written, fits_eight, fits_read}
 use lib.ListN.{take}
 use borrow.Author.Tests.{not-true, not-false}
 use native.Mathlib.Omega.{arith}
@@ -52,10 +52,10 @@ returns-2 c = let s = c.before.before.before.before.before.before.before.before.
     let zero = c.before.before.before.before.before.before.before.before.before.if1.false in
     let fit = tr.1 zero in
     let put = c.before.before.before.before.before.before.assemble.ensures in
-    let one : (T : Threads) → ThreadsStand s.args.r s.args.draft.now T → (checkpointsFit (setBytes T) ≡ c.before.before.checkpoints-fit.result) × (take (8 * c.before.before.before.before.before.before.assemble.result) c.before.before.before.before.before.before.assemble.new.1.1.1.0 ≡ setBytes T) × (c.before.before.before.before.before.before.assemble.result ≡ statements T)
+    let one : (T : Threads) → ThreadsStand s.args.r s.args.draft.now T → (checkpoints_fit (set_bytes T) ≡ c.before.before.checkpoints-fit.result) × (take (8 * c.before.before.before.before.before.before.assemble.result) c.before.before.before.before.before.before.assemble.new.1.1.1.0 ≡ set_bytes T) × (c.before.before.before.before.before.before.assemble.result ≡ statements T)
     = λ T ts. assembled s.args.r s.args.draft.now T c.before.before.before.before.before.before.assemble.new.1.1.1.0 c.before.before.before.before.before.before.assemble.result c.before.before.checkpoints-fit.result ts fit.0 (put.0 fit.1 s.requires.0.0 (omega (arith, s.requires.2))) (put.1 ∙ s.requires.2) c.before.before.checkpoints-fit.ensures in
     record {
-      answer = λ T cs ts st. c.refused2.ensures ∙ checked-seven T cs (sym (tr.0 T ts) ∙ zero) ((one T ts).0 ∙ not-true _ c.before.if2.true);
+      answer = λ T cs ts st. c.refused2.ensures ∙ checked_seven T cs (sym (tr.0 T ts) ∙ zero) ((one T ts).0 ∙ not-true _ c.before.if2.true);
       written = λ T cs ts st. none_written _ _ _ T cs _ _ c.refused2.ensures;
     }
 
@@ -77,11 +77,11 @@ returns-3 c = let s = c.before.before.before.before.before.before.before.before.
     let zero = c.before.before.before.before.before.before.before.before.before.before.before.before.before.before.if1.false in
     let fit = tr.1 zero in
     let put = c.before.before.before.before.before.before.before.before.before.before.before.assemble.ensures in
-    let one : (T : Threads) → ThreadsStand s.args.r s.args.draft.now T → (checkpointsFit (setBytes T) ≡ c.before.before.before.before.before.before.before.checkpoints-fit.result) × (take (8 * c.before.before.before.before.before.before.before.before.before.before.before.assemble.result) c.before.before.before.before.before.before.before.before.before.before.before.assemble.new.1.1.1.0 ≡ setBytes T) × (c.before.before.before.before.before.before.before.before.before.before.before.assemble.result ≡ statements T)
+    let one : (T : Threads) → ThreadsStand s.args.r s.args.draft.now T → (checkpoints_fit (set_bytes T) ≡ c.before.before.before.before.before.before.before.checkpoints-fit.result) × (take (8 * c.before.before.before.before.before.before.before.before.before.before.before.assemble.result) c.before.before.before.before.before.before.before.before.before.before.before.assemble.new.1.1.1.0 ≡ set_bytes T) × (c.before.before.before.before.before.before.before.before.before.before.before.assemble.result ≡ statements T)
     = λ T ts. assembled s.args.r s.args.draft.now T c.before.before.before.before.before.before.before.before.before.before.before.assemble.new.1.1.1.0 c.before.before.before.before.before.before.before.before.before.before.before.assemble.result c.before.before.before.before.before.before.before.checkpoints-fit.result ts fit.0 (put.0 fit.1 s.requires.0.0 (omega (arith, s.requires.2))) (put.1 ∙ s.requires.2) c.before.before.before.before.before.before.before.checkpoints-fit.ensures in
     let mr = c.before.before.before.before.map-refusal.ensures in
     record {
-      answer = λ T cs ts st. let e = (mr.0 cs st).0 in c.refused3.ensures ∙ ap (λ (n : ℕ). Refused n 0) (fits-eight (mapFits cs) _ e c.before.if3.true).0 ∙ checked-eight T cs (sym (tr.0 T ts) ∙ zero) ((one T ts).0 ∙ not-false _ c.before.before.before.before.before.before.if2.false) (fits-eight (mapFits cs) _ e c.before.if3.true).1;
+      answer = λ T cs ts st. let e = (mr.0 cs st).0 in c.refused3.ensures ∙ ap (λ (n : ℕ). Refused n 0) (fits_eight (map_fits cs) _ e c.before.if3.true).0 ∙ checked_eight T cs (sym (tr.0 T ts) ∙ zero) ((one T ts).0 ∙ not-false _ c.before.before.before.before.before.before.if2.false) (fits_eight (map_fits cs) _ e c.before.if3.true).1;
       written = λ T cs ts st. none_written _ _ _ T cs _ _ c.refused3.ensures;
     }
 
@@ -97,11 +97,11 @@ returns-4 c = let s = c.before.before.before.before.before.before.before.before.
     let zero = c.before.before.before.before.before.before.before.before.before.before.before.before.before.if1.false in
     let fit = tr.1 zero in
     let put = c.before.before.before.before.before.before.before.before.before.before.assemble.ensures in
-    let one : (T : Threads) → ThreadsStand s.args.r s.args.draft.now T → (checkpointsFit (setBytes T) ≡ c.before.before.before.before.before.before.checkpoints-fit.result) × (take (8 * c.before.before.before.before.before.before.before.before.before.before.assemble.result) c.before.before.before.before.before.before.before.before.before.before.assemble.new.1.1.1.0 ≡ setBytes T) × (c.before.before.before.before.before.before.before.before.before.before.assemble.result ≡ statements T)
+    let one : (T : Threads) → ThreadsStand s.args.r s.args.draft.now T → (checkpoints_fit (set_bytes T) ≡ c.before.before.before.before.before.before.checkpoints-fit.result) × (take (8 * c.before.before.before.before.before.before.before.before.before.before.assemble.result) c.before.before.before.before.before.before.before.before.before.before.assemble.new.1.1.1.0 ≡ set_bytes T) × (c.before.before.before.before.before.before.before.before.before.before.assemble.result ≡ statements T)
     = λ T ts. assembled s.args.r s.args.draft.now T c.before.before.before.before.before.before.before.before.before.before.assemble.new.1.1.1.0 c.before.before.before.before.before.before.before.before.before.before.assemble.result c.before.before.before.before.before.before.checkpoints-fit.result ts fit.0 (put.0 fit.1 s.requires.0.0 (omega (arith, s.requires.2))) (put.1 ∙ s.requires.2) c.before.before.before.before.before.before.checkpoints-fit.ensures in
     let mr = c.before.before.before.map-refusal.ensures in
     record {
-      answer = λ T cs ts st. let e = mr.0 cs st in ap₂ Read (one T ts).2 (sym (e.1 c.if3.false).2) ∙ checked-read T cs (sym (tr.0 T ts) ∙ zero) ((one T ts).0 ∙ not-false _ c.before.before.before.before.before.if2.false) (fits_read (mapFits cs) _ e.0 c.if3.false);
+      answer = λ T cs ts st. let e = mr.0 cs st in ap₂ Read (one T ts).2 (sym (e.1 c.if3.false).2) ∙ checked-read T cs (sym (tr.0 T ts) ∙ zero) ((one T ts).0 ∙ not-false _ c.before.before.before.before.before.if2.false) (fits_read (map_fits cs) _ e.0 c.if3.false);
       written = λ T cs ts st. let e = (mr.0 cs st).1 c.if3.false in ((one T ts).1, e.0, (put.0 fit.1 s.requires.0.0 (omega (arith, s.requires.2))).1, e.1);
     }
 

@@ -1,6 +1,6 @@
 -- `text_reader::line_at` meets its contract. Assumes nothing.
 use Rattle.text_reader.proofs.Pieces.{run-below, line-here, line-past}
-use Rattle.text_lines.specs.Characters.{isInLine, run}
+use Rattle.text_lines.specs.Characters.{is_in_line, run}
 use Rattle.text_lines.proofs.Runs.{rest}
 use lib.ListN.{drop, length-drop}
 use native.Mathlib.Omega.{arith}
@@ -26,17 +26,17 @@ line-length-requires c κs = search rules
 
 add-end : tie.Need-overflow-add-end
 add-end c = let s = c.before.before.before.before in let t = s.args.text.now in let i = s.args.at in
-    let e : c.line-length.result ≡ run isInLine (drop i t) = c.line-length.ensures ∙ ap (run isInLine) (rest i t) in
-    let h = run-below isInLine (drop i t) in omega (arith, e, h, length-drop i t, s.well-formed.0.1, c.before.before.if1.true)
+    let e : c.line-length.result ≡ run is_in_line (drop i t) = c.line-length.ensures ∙ ap (run is_in_line) (rest i t) in
+    let h = run-below is_in_line (drop i t) in omega (arith, e, h, length-drop i t, s.well-formed.0.1, c.before.before.if1.true)
 
 add-t6 : tie.Need-overflow-add-t6
 add-t6 c = let s = c.before.before.before.before in let t = s.args.text.now in let i = s.args.at in
-    let e : c.line-length.result ≡ run isInLine (drop i t) = c.line-length.ensures ∙ ap (run isInLine) (rest i t) in
-    let h = run-below isInLine (drop i t) in omega (arith, e, h, length-drop i t, s.well-formed.0.1, c.before.before.if1.true)
+    let e : c.line-length.result ≡ run is_in_line (drop i t) = c.line-length.ensures ∙ ap (run is_in_line) (rest i t) in
+    let h = run-below is_in_line (drop i t) in omega (arith, e, h, length-drop i t, s.well-formed.0.1, c.before.before.if1.true)
 
 returns : tie.Need-returns
 returns c = let s = c.before.before.before.before in let t = s.args.text.now in let i = s.args.at in
-    let e : c.line-length.result ≡ run isInLine (drop i t) = c.line-length.ensures ∙ ap (run isInLine) (rest i t) in
+    let e : c.line-length.result ≡ run is_in_line (drop i t) = c.line-length.ensures ∙ ap (run is_in_line) (rest i t) in
     sym (line-here t i c.line-length.result c.before.before.if1.true e)
 
 returns-2 : tie.Need-returns-2

@@ -45,9 +45,9 @@ use denote.Triple.Table.{entered, cited}
 use denote.Triple.Walked.{says, Stays, stay_none, stay_none_slice, walk_of, Goes-none, Goes-none_slice, Walks, ends_at, walked, walk_Meets}
 use denote.Exit.{yes}
 use denote.Triple.Clauses.{ensured, lasts}
-use Rattle.text_reader.specs.Readers.{line_at, nextStart}
-use Rattle.text_reader.proofs.Local.{R, lies-of, of-lies}
-use Rattle.text_reader.proofs.Meet.{Way, lend-tok, end-tok}
+use Rattle.text_reader.specs.Readers.{line_at, next_start}
+use Rattle.text_reader.proofs.Local.{R, lies_of, of_lies}
+use Rattle.text_reader.proofs.Meet.{Way, lend_tok, end_tok}
 use Rattle.text_reader.specs.declared.Reader.{Reader}
 use Rattle.text_reader.specs.declared.Line.{Line}
 use Rattle.text_reader.specs.contracts.Reader as T
@@ -105,7 +105,7 @@ module _ {M : Type 1} {𝓤 : Ura M} (𝓛 : Logic 𝓤) (mem : Memory → SProp
 
   -- where it stands at the end
   abbrev last : ℕ
-  last = nextStart s.now i
+  last = next_start s.now i
 
   -- the struct's type as a local of a body has it
   abbrev αᵉ : NamedLft
@@ -189,9 +189,9 @@ module _ {M : Type 1} {𝓤 : Ura M} (𝓛 : Logic 𝓤) (mem : Memory → SProp
         land ! (from ! (stop !)) (init ! 5 refl wt) $ assigns ! (of_opd ! (load ! (from ! (stop !)) (look ! 5 refl))) (from ! (stop !)) (init ! 11 refl wt) $
         assigns ! (addr ! (from ! (stop !))) (from ! (stop !)) (init ! 3 refl (tt, tt)) $
         -- the local is lent
-        move ! (11 ∷ 0 ∷ []) $ use2 𝓛 (‵ ((lying (R κ)).lies (rd i) l₃ 0)) (lies-of 𝓛 κ (rd i) l₃ 0 u) $ move ! (1 ∷ []) $ split ! $
+        move ! (11 ∷ 0 ∷ []) $ use2 𝓛 (‵ ((lying (R κ)).lies (rd i) l₃ 0)) (lies_of 𝓛 κ (rd i) l₃ 0 u) $ move ! (1 ∷ []) $ split ! $
         -- [the token; true; what lies in _3; what s owns; _7; …; _6; …; _5; …; _4; …; what frees _3; _2; …; _1; …; room for _0; …]
-        use1 𝓛 (later (some (λ (ν : ℕ). ‵ (flft (ν ∷ κ) (PosShare.left q)) ⊛ ‵ (flft κ (PosShare.right q)) ⊛ raw (Way 𝓛 κ q ν)))) (lend-tok 𝓛 κ q) $ await ! tt $ pick ! (λ ν. split ! $ move ! (1 ∷ []) $ split ! $
+        use1 𝓛 (later (some (λ (ν : ℕ). ‵ (flft (ν ∷ κ) (PosShare.left q)) ⊛ ‵ (flft κ (PosShare.right q)) ⊛ raw (Way 𝓛 κ q ν)))) (lend_tok 𝓛 κ q) $ await ! tt $ pick ! (λ ν. split ! $ move ! (1 ∷ []) $ split ! $
         move ! (4 ∷ []) $ use1 𝓛 (later (some (λ (γ : GName). ‵ (lent ν l₃ γ) ⊛ ‵ (flent (ν ∷ κ) (Body (lying (R κ)) l₃ 0 γ))))) (lends_ref 𝓛 (R κ) (named 0) (ν ∷ κ) (rd i) l₃ 0) $ await ! tt $ pick ! (λ γ. split ! $
         -- [the reference; the lender's part; 'a's token; the way; the call's token; true; what s owns; _7; …; _6; …; _5; …; _4; …; what frees _3; _2; …; _1; …; room for _0; …]
         move ! (0 ∷ 4 ∷ 2 ∷ []) $ use3 𝓛 (raw ((Next 𝓛 mem run).pre (to-next ν l₃ γ))) (goes-next ν l₃ γ) $
@@ -204,10 +204,10 @@ module _ {M : Type 1} {𝓤 : Ura M} (𝓛 : Logic 𝓤) (mem : Memory → SProp
         peeks ! usize (Is usize) (shows 𝓛 usize) t (w ∷ []) (λ is₁.
         land ! (from ! (stop !)) (init ! 14 refl ((uint_Lawful 𝓛 w64).typed t _ is₁).0) $ rewrite ! 14 (λ (z : Val). ‵ (fat full_share (ty_int w64) l₄ 0 z)) (ap only is₁.0) refl $
         -- the loan ends
-        move ! (1 ∷ []) $ split ! $ move ! (1 ∷ []) $ split ! $ move ! (2 ∷ 0 ∷ 7 ∷ []) $ use3 𝓛 (later (‵ (fdead (ν ∷ κ)) ⊛ ‵ (flft κ q))) (end-tok 𝓛 κ q ν) $ await ! tt $ split ! $
+        move ! (1 ∷ []) $ split ! $ move ! (1 ∷ []) $ split ! $ move ! (2 ∷ 0 ∷ 7 ∷ []) $ use3 𝓛 (later (‵ (fdead (ν ∷ κ)) ⊛ ‵ (flft κ q))) (end_tok 𝓛 κ q ν) $ await ! tt $ split ! $
         move ! (0 ∷ 6 ∷ 4 ∷ []) $ use3 𝓛 (later (‵ ((lying (R κ)).lies zs.0 l₃ 0))) (ref_back 𝓛 (R κ) (ν ∷ κ) γ zs.0 l₃ 0) $ await ! tt $
         rewrite ! 0 (λ (h : Reader). ‵ ((lying (R κ)).lies h l₃ 0)) e₁.1 refl $
-        use1 𝓛 (‵ (fat full_share (T'.mir erased) l₃ 0 (T'.lowered (rd last))) ⊛ ‵ ((R κ).own (rd last) (T'.lowered (rd last) ∷ []))) (of-lies 𝓛 κ (rd last) l₃ 0) $ split ! $ move ! (1 ∷ []) $
+        use1 𝓛 (‵ (fat full_share (T'.mir erased) l₃ 0 (T'.lowered (rd last))) ⊛ ‵ ((R κ).own (rd last) (T'.lowered (rd last) ∷ []))) (of_lies 𝓛 κ (rd last) l₃ 0) $ split ! $ move ! (1 ∷ []) $
         -- [what the reader owns; _3; the token; true; the end; true; true; what s owns; _7; …; _6; …; _5; …; _4; …; what frees _3; _2; …; _1; …; room for _0; …]
         peeks ! (B (κ, tt)) (Is (B (κ, tt))) (shows 𝓛 (B (κ, tt))) (rd last) (T'.lowered (rd last) ∷ []) (λ is₂.
         assigns ! (of_opd ! (load ! (from ! (stop !)) (look ! 1 refl))) (from ! (stop !)) (store ! 10 refl ((LL.lawful (T.the_type αᵉ) (T'.the_laws αᵉ) 𝓛).typed (rd last) _ is₂).0) $
@@ -227,23 +227,23 @@ module _ {M : Type 1} {𝓤 : Ura M} (𝓛 : Logic 𝓤) (mem : Memory → SProp
 module _ {M : Type 1} {𝓤 : Ura M} (𝓛 : Logic 𝓤) (mem : Memory → SProp 𝓤) (run : Routine → Fun 𝓤) where
   open 𝓛 use {H}
 
-  line-from-walks : (C : Calls 𝓤 H) (Λ : Loops 𝓤 H) → FmC 𝓤 H 𝓛.laws C → Triple 𝓤 (C #reader·new) (New 𝓛 mem run) → Triple 𝓤 (C #reader·next-line) (Next 𝓛 mem run) → Triple 𝓤 (C #reader·position) (Place 𝓛 mem run)
+  line-from_walks : (C : Calls 𝓤 H) (Λ : Loops 𝓤 H) → FmC 𝓤 H 𝓛.laws C → Triple 𝓤 (C #reader·new) (New 𝓛 mem run) → Triple 𝓤 (C #reader·next-line) (Next 𝓛 mem run) → Triple 𝓤 (C #reader·position) (Place 𝓛 mem run)
       → Walks 𝓛 f.ended stayed (WpFn 𝓤 H C Λ code.function) (f.clauses 𝓛 mem run)
-  line-from-walks C Λ fm known-new known_next known-place = walked 𝓛 f.ended stayed (f.clauses 𝓛 mem run) (WpFn 𝓤 H C Λ code.function) (λ κs. (shr_slice_vals, (uint_vals w64, tt))) (λ κs. (shr_slice_Tells (named 0) κs.0 u8, (uint_Tells w64, tt)))
+  line-from_walks C Λ fm known-new known_next known-place = walked 𝓛 f.ended stayed (f.clauses 𝓛 mem run) (WpFn 𝓤 H C Λ code.function) (λ κs. (shr_slice_vals, (uint_vals w64, tt))) (λ κs. (shr_slice_Tells (named 0) κs.0 u8, (uint_Tells w64, tt)))
       (λ κs qs bounds a g are. via 𝓤 _ (fst∗ 𝓤 _ (emp 𝓤)) (walk 𝓛 mem run κs.0 qs.0 a.0 a.1.0 are.1.0.1 C Λ fm known-new known_next known-place are.0))
 
-line-from-meets : {M : Type 1} {𝓤 : Ura M} (𝓛 : Logic 𝓤) (mem : Memory → SProp 𝓤) (run : Routine → Fun 𝓤) (𝓣 : Tables 𝓤 𝓛.H)
+line-from_meets : {M : Type 1} {𝓤 : Ura M} (𝓛 : Logic 𝓤) (mem : Memory → SProp 𝓤) (run : Routine → Fun 𝓤) (𝓣 : Tables 𝓤 𝓛.H)
     → Triple 𝓤 (𝓣.C #reader·new) (New 𝓛 mem run) → Triple 𝓤 (𝓣.C #reader·next-line) (Next 𝓛 mem run) → Triple 𝓤 (𝓣.C #reader·position) (Place 𝓛 mem run)
     → Meets 𝓛 f.signature (WpFn 𝓤 𝓛.H 𝓣.C 𝓣.Λ code.function) (f.spec 𝓛 mem run)
-line-from-meets {𝓤 = 𝓤} 𝓛 mem run 𝓣 known-new known_next known-place = walk_Meets 𝓛 f.ended stayed (Goes-none_slice 𝓛 1 (0 ∷ []) tt (plain (λ _. u8)) yes, (Goes-none 𝓛 1 (λ _. usize) yes (λ κs x f. refl), tt)) (f.clauses 𝓛 mem run) (WpFn 𝓤 𝓛.H 𝓣.C 𝓣.Λ code.function) (WpFn-mono 𝓤 𝓛.H 𝓛.laws 𝓣 code.function)
-    (line-from-walks 𝓛 mem run 𝓣.C 𝓣.Λ (fm_of 𝓤 𝓛.H 𝓛.laws 𝓣) known-new known_next known-place)
+line-from_meets {𝓤 = 𝓤} 𝓛 mem run 𝓣 known-new known_next known-place = walk_Meets 𝓛 f.ended stayed (Goes-none_slice 𝓛 1 (0 ∷ []) tt (plain (λ _. u8)) yes, (Goes-none 𝓛 1 (λ _. usize) yes (λ κs x f. refl), tt)) (f.clauses 𝓛 mem run) (WpFn 𝓤 𝓛.H 𝓣.C 𝓣.Λ code.function) (WpFn-mono 𝓤 𝓛.H 𝓛.laws 𝓣 code.function)
+    (line-from_walks 𝓛 mem run 𝓣.C 𝓣.Λ (fm_of 𝓤 𝓛.H 𝓛.laws 𝓣) known-new known_next known-place)
 
 pub line-from-spec : {M : Type 1} → stated.statement M
 unfolding code.routine tables_of
 line-from-spec 𝓤 𝓛 𝓜 𝓡 =
     entered 𝓤 𝓛.H (triple_of 𝓛 f.signature (f.spec 𝓛 𝓜.mem 𝓡.run))
     (tables 𝓤 𝓛.H 𝓜 𝓡 code.env).C (tables 𝓤 𝓛.H 𝓜 𝓡 code.env).Λ #reader·line-from code.function (code.unfolded 𝓤 𝓛.H 𝓜 𝓡)
-    (line-from-meets 𝓛 𝓜.mem 𝓡.run (tables_of 𝓤 𝓛.H 𝓜 (tables 𝓤 𝓛.H 𝓜 𝓡 code.env))
+    (line-from_meets 𝓛 𝓜.mem 𝓡.run (tables_of 𝓤 𝓛.H 𝓜 (tables 𝓤 𝓛.H 𝓜 𝓡 code.env))
     (cited 𝓤 𝓛.H (New 𝓛 𝓜.mem 𝓡.run) 𝓜 𝓡 code.env #reader·new new-def.routine code.calls-text-reader::new (new-thm.met 𝓤 𝓛 𝓜 𝓡))
     (cited 𝓤 𝓛.H (Next 𝓛 𝓜.mem 𝓡.run) 𝓜 𝓡 code.env #reader·next-line next-def.routine code.calls-text-reader::next-line (next-thm.met 𝓤 𝓛 𝓜 𝓡))
     (cited 𝓤 𝓛.H (Place 𝓛 𝓜.mem 𝓡.run) 𝓜 𝓡 code.env #reader·position place-def.routine code.calls-text-reader::position (place-thm.met 𝓤 𝓛 𝓜 𝓡)))

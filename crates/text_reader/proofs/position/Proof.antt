@@ -74,17 +74,17 @@ module _ {M : Type 1} {𝓤 : Ura M} (𝓛 : Logic 𝓤) (mem : Memory → SProp
 module _ {M : Type 1} {𝓤 : Ura M} (𝓛 : Logic 𝓤) (mem : Memory → SProp 𝓤) (run : Routine → Fun 𝓤) where
   open 𝓛 use {H}
 
-  position-walks : (C : Calls 𝓤 H) (Λ : Loops 𝓤 H) → Walks 𝓛 place.ended stayed (WpFn 𝓤 H C Λ code.function) (place.clauses 𝓛 mem run)
-  position-walks C Λ = walked 𝓛 place.ended stayed (place.clauses 𝓛 mem run) (WpFn 𝓤 H C Λ code.function) (λ κs. (LL.vals (T.the_type (named_lft 1 0 tt κs)) (T'.the_laws (named_lft 1 0 tt κs)), tt)) (λ κs. (LL.tells (T.the_type (named_lft 1 0 tt κs)) (T'.the_laws (named_lft 1 0 tt κs)), tt))
+  position_walks : (C : Calls 𝓤 H) (Λ : Loops 𝓤 H) → Walks 𝓛 place.ended stayed (WpFn 𝓤 H C Λ code.function) (place.clauses 𝓛 mem run)
+  position_walks C Λ = walked 𝓛 place.ended stayed (place.clauses 𝓛 mem run) (WpFn 𝓤 H C Λ code.function) (λ κs. (LL.vals (T.the_type (named_lft 1 0 tt κs)) (T'.the_laws (named_lft 1 0 tt κs)), tt)) (λ κs. (LL.tells (T.the_type (named_lft 1 0 tt κs)) (T'.the_laws (named_lft 1 0 tt κs)), tt))
       (λ κs qs bounds a g are. via 𝓤 _ (fst∗ 𝓤 _ (emp 𝓤)) (walk 𝓛 mem run κs.0 qs.0 a.0 C Λ are.0))
 
-position-meets : {M : Type 1} {𝓤 : Ura M} (𝓛 : Logic 𝓤) → (mem : Memory → SProp 𝓤) (run : Routine → Fun 𝓤) (𝓣 : Tables 𝓤 𝓛.H)
+position_meets : {M : Type 1} {𝓤 : Ura M} (𝓛 : Logic 𝓤) → (mem : Memory → SProp 𝓤) (run : Routine → Fun 𝓤) (𝓣 : Tables 𝓤 𝓛.H)
     → Meets 𝓛 place.signature (WpFn 𝓤 𝓛.H 𝓣.C 𝓣.Λ code.function) (place.spec 𝓛 mem run)
-position-meets {𝓤 = 𝓤} 𝓛 mem run 𝓣 = walk_Meets 𝓛 place.ended stayed (Goes-none 𝓛 1 B yes (λ κs x f. refl), tt) (place.clauses 𝓛 mem run) (WpFn 𝓤 𝓛.H 𝓣.C 𝓣.Λ code.function) (WpFn-mono 𝓤 𝓛.H 𝓛.laws 𝓣 code.function) (position-walks 𝓛 mem run 𝓣.C 𝓣.Λ)
+position_meets {𝓤 = 𝓤} 𝓛 mem run 𝓣 = walk_Meets 𝓛 place.ended stayed (Goes-none 𝓛 1 B yes (λ κs x f. refl), tt) (place.clauses 𝓛 mem run) (WpFn 𝓤 𝓛.H 𝓣.C 𝓣.Λ code.function) (WpFn-mono 𝓤 𝓛.H 𝓛.laws 𝓣 code.function) (position_walks 𝓛 mem run 𝓣.C 𝓣.Λ)
 
 pub position-spec : {M : Type 1} → stated.statement M
 unfolding code.routine tables_of
 position-spec 𝓤 𝓛 𝓜 𝓡 =
     entered 𝓤 𝓛.H (triple_of 𝓛 place.signature (place.spec 𝓛 𝓜.mem 𝓡.run))
     (tables 𝓤 𝓛.H 𝓜 𝓡 code.env).C (tables 𝓤 𝓛.H 𝓜 𝓡 code.env).Λ #reader·position code.function (code.unfolded 𝓤 𝓛.H 𝓜 𝓡)
-    (position-meets 𝓛 𝓜.mem 𝓡.run (tables_of 𝓤 𝓛.H 𝓜 (tables 𝓤 𝓛.H 𝓜 𝓡 code.env)))
+    (position_meets 𝓛 𝓜.mem 𝓡.run (tables_of 𝓤 𝓛.H 𝓜 (tables 𝓤 𝓛.H 𝓜 𝓡 code.env)))

@@ -5,7 +5,7 @@ use borrow.Author.Tests.{lt-ltb, le-ltb}
 use borrow.Author.Rules.{rules}
 use Rattle.base.proofs.Choice.{chosen, passed}
 use Rattle.encoder_slots.specs.Places.{place_of}
-use Rattle.encoder_slots.proofs.Stores.{place-unset, kept-no-row}
+use Rattle.encoder_slots.proofs.Stores.{place_unset, kept-no-row}
 use Rattle.encoder_bases.proofs.choices.permit.Statement.{statement}
 use Rattle.encoder_bases.proofs.choices.permit.Tie as tie
 
@@ -29,7 +29,7 @@ returns-2 c = c.place2.ensures ∙ sym (ap (place_of c.before.before.before.befo
 
 returns-3 : tie.Need-returns-3
 returns-3 c = let a = c.before.before.before.args in
-    sym (ap (place_of a.slots.now) (passed _ _ (le-ltb _ _ c.before.if1.false)) ∙ place-unset a.slots.now 29 (a.j - a.threads) 0 0 (kept-no-row a.slots.now 29 (a.j - a.threads) 0 c.if2.false))
+    sym (ap (place_of a.slots.now) (passed _ _ (le-ltb _ _ c.before.if1.false)) ∙ place_unset a.slots.now 29 (a.j - a.threads) 0 0 (kept-no-row a.slots.now 29 (a.j - a.threads) 0 c.if2.false))
 
 pub permit_spec : {M : Type 1} → statement M
 permit_spec =

@@ -2,9 +2,9 @@
 use Prim.Native.Nat.{◌+◌}
 use mathlib.Core.Path.{refl}
 use Rattle.encoder_slots.specs.Places.{place_of}
-use Rattle.encoding.specs.Slots.{slot, choice, bitZero, full}
+use Rattle.encoding.specs.Slots.{slot, choice, bit_zero, full}
 use Rattle.table.specs.Programs.{if3}
-use Rattle.encoder_bases.proofs.Given.{gives-ternary}
+use Rattle.encoder_bases.proofs.Given.{gives_ternary}
 use borrow.Author.Rules.{rules}
 use Rattle.encoder_bases.proofs.state.put_full.Statement.{statement}
 use Rattle.encoder_bases.proofs.state.put_full.Tie as tie
@@ -31,7 +31,7 @@ returns : tie.Need-returns
 returns c =
     let a = c.before.before.before.before.before.before.before.before.before.args in (
       c.before.before.put_one.ensures.0 (place_of a.slots.now) _
-          (gives-ternary (place_of a.slots.now) a.n _ (if3 1) (slot choice 0 (a.threads + a.t)) (slot bitZero 0 0) (slot full a.t 0) (refl, (refl, refl)) c.before.before.before.before.before.before.place.ensures c.before.before.before.before.before.place2.ensures c.before.before.before.before.place3.ensures),
+          (gives_ternary (place_of a.slots.now) a.n _ (if3 1) (slot choice 0 (a.threads + a.t)) (slot bit_zero 0 0) (slot full a.t 0) (refl, (refl, refl)) c.before.before.before.before.before.before.place.ensures c.before.before.before.before.before.place2.ensures c.before.before.before.before.place3.ensures),
       c.before.before.put_one.ensures.1,
     )
 

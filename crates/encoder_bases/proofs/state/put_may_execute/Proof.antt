@@ -2,7 +2,7 @@
 use mathlib.Core.Path.{refl}
 use Rattle.encoder_slots.specs.Places.{place_of}
 use Rattle.encoding.specs.Slots.{slot, full, barred, waits}
-use Rattle.encoder_bases.proofs.Given.{gives-may}
+use Rattle.encoder_bases.proofs.Given.{gives_may}
 use borrow.Author.Rules.{rules}
 use Rattle.encoder_bases.proofs.state.put_may_execute.Statement.{statement}
 use Rattle.encoder_bases.proofs.state.put_may_execute.Tie as tie
@@ -38,7 +38,7 @@ returns : tie.Need-returns
 returns c =
     let a = c.before.before.before.before.before.before.before.before.before.before.before.before.args in (
       λ h. c.before.before.put_three.ensures.0 (place_of a.slots.now) _ h
-          (gives-may (place_of a.slots.now) a.n _ (slot full a.t 0) (slot barred a.t 0) (slot waits a.t 0) (refl, (refl, (refl, (refl, refl))))
+          (gives_may (place_of a.slots.now) a.n _ (slot full a.t 0) (slot barred a.t 0) (slot waits a.t 0) (refl, (refl, (refl, (refl, refl))))
           c.before.before.before.before.before.before.formula.ensures c.before.before.before.before.before.formula2.ensures c.before.before.before.before.formula3.ensures c.before.before.before.before.before.before.before.before.before.place.ensures c.before.before.before.before.before.before.before.before.place2.ensures c.before.before.before.before.before.before.before.place3.ensures),
       c.before.before.put_three.ensures.1,
     )

@@ -1,9 +1,9 @@
 -- `encoder_bases::state::put_memory` meets its contract. Assumes nothing.
 use mathlib.Core.Path.{refl}
 use Rattle.encoder_slots.specs.Places.{place_of}
-use Rattle.encoding.specs.Slots.{slot, sharedMemory, writeTo, writeValue}
+use Rattle.encoding.specs.Slots.{slot, shared_memory, write_to, write_value}
 use Rattle.table.specs.Programs.{write3}
-use Rattle.encoder_bases.proofs.Given.{gives-ternary}
+use Rattle.encoder_bases.proofs.Given.{gives_ternary}
 use borrow.Author.Rules.{rules}
 use Rattle.encoder_bases.proofs.state.put_memory.Statement.{statement}
 use Rattle.encoder_bases.proofs.state.put_memory.Tie as tie
@@ -27,7 +27,7 @@ returns : tie.Need-returns
 returns c =
     let a = c.before.before.before.before.before.before.before.before.before.args in (
       c.before.before.put_one.ensures.0 (place_of a.slots.now) _
-          (gives-ternary (place_of a.slots.now) a.n _ write3 (slot sharedMemory 0 0) (slot writeTo 0 a.threads) (slot writeValue 0 a.threads) (refl, (refl, refl)) c.before.before.before.before.before.before.place.ensures c.before.before.before.before.before.place2.ensures c.before.before.before.before.place3.ensures),
+          (gives_ternary (place_of a.slots.now) a.n _ write3 (slot shared_memory 0 0) (slot write_to 0 a.threads) (slot write_value 0 a.threads) (refl, (refl, refl)) c.before.before.before.before.before.before.place.ensures c.before.before.before.before.before.place2.ensures c.before.before.before.before.place3.ensures),
       c.before.before.put_one.ensures.1,
     )
 

@@ -3,7 +3,7 @@ use mathlib.Core.Path.{refl}
 use Rattle.encoder_slots.specs.Places.{place_of}
 use Rattle.encoding.specs.Slots.{slot, opening}
 use Rattle.table.specs.Programs.{not1}
-use Rattle.encoder_bases.proofs.Given.{gives-unary}
+use Rattle.encoder_bases.proofs.Given.{gives_unary}
 use borrow.Author.Rules.{rules}
 use Rattle.encoder_bases.proofs.state.put_shut.Statement.{statement}
 use Rattle.encoder_bases.proofs.state.put_shut.Tie as tie
@@ -20,7 +20,7 @@ same_length c = search rules
 returns : tie.Need-returns
 returns c =
     let a = c.before.before.before.before.before.before.before.args in
-    (c.before.before.put_one.ensures.0 (place_of a.slots.now) _ (gives-unary (place_of a.slots.now) a.n _ not1 (slot opening 0 a.p) (refl, (refl, refl)) c.before.before.before.before.place.ensures), c.before.before.put_one.ensures.1)
+    (c.before.before.put_one.ensures.0 (place_of a.slots.now) _ (gives_unary (place_of a.slots.now) a.n _ not1 (slot opening 0 a.p) (refl, (refl, refl)) c.before.before.before.before.place.ensures), c.before.before.put_one.ensures.1)
 
 pub put-shut-spec : {M : Type 1} → statement M
 put-shut-spec = tie.close (tie.spec place-requires put-one-requires same_length returns)

@@ -3,7 +3,7 @@ use mathlib.Core.Path.{refl}
 use Rattle.encoder_slots.specs.Places.{place_of}
 use Rattle.encoding.specs.Slots.{slot, flag, choice}
 use Rattle.table.specs.Programs.{and2}
-use Rattle.encoder_bases.proofs.Given.{gives-binary}
+use Rattle.encoder_bases.proofs.Given.{gives_binary}
 use borrow.Author.Rules.{rules}
 use Rattle.encoder_bases.proofs.statements.put_active.Statement.{statement}
 use Rattle.encoder_bases.proofs.statements.put_active.Tie as tie
@@ -25,7 +25,7 @@ returns : tie.Need-returns
 returns c =
     let a = c.before.before.before.before.before.before.before.args in (
       λ v h. c.before.before.put_one.ensures.0 (place_of a.slots.now) _
-          (gives-binary (place_of a.slots.now) a.n _ and2 (slot flag a.t a.i) (slot choice 0 a.t) (refl, (refl, refl)) refl refl c.before.before.before.before.flag-place.ensures v),
+          (gives_binary (place_of a.slots.now) a.n _ and2 (slot flag a.t a.i) (slot choice 0 a.t) (refl, (refl, refl)) refl refl c.before.before.before.before.flag-place.ensures v),
       c.before.before.put_one.ensures.1,
     )
 

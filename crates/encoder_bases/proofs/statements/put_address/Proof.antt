@@ -6,7 +6,7 @@ use Rattle.base.proofs.Choice.{chosen, passed}
 use Rattle.encoding.specs.Slots.{slot, argument}
 use Rattle.encoder_slots.specs.Places.{place_of}
 use Rattle.records.specs.declared.Statement.{Statement}
-use Rattle.encoder_bases.proofs.Given.{puts-as}
+use Rattle.encoder_bases.proofs.Given.{puts_as}
 use borrow.Author.Rules.{rules}
 use Rattle.encoder_bases.proofs.statements.put_address.Statement.{statement}
 use Rattle.encoder_bases.proofs.statements.put_address.Tie as tie
@@ -23,7 +23,7 @@ same_length c = search rules
 returns : tie.Need-returns
 returns c =
     let a = c.before.before.before.before.before.before.before.before.before.args in (
-      λ S cs k e load h. puts-as (chosen _ _ (ap (λ (s : Statement). eqb s.mode 1) (sym e) ∙ eq-eqb _ _ c.before.before.before.before.before.if1.true))
+      λ S cs k e load h. puts_as (chosen _ _ (ap (λ (s : Statement). eqb s.mode 1) (sym e) ∙ eq-eqb _ _ c.before.before.before.before.before.if1.true))
           (c.before.before.put-load.ensures.0 (place_of a.slots.now) a.t (slot argument a.t a.i) load c.before.before.before.before.place.ensures h),
       c.before.before.put-load.ensures.1,
     )
@@ -34,7 +34,7 @@ put-none-requires c κs = search rules
 returns-2 : tie.Need-returns-2
 returns-2 c =
     let a = c.before.before.before.before.before.args in (
-      λ S cs k e load h. puts-as (passed _ _ (ap (λ (s : Statement). eqb s.mode 1) (sym e) ∙ ne_eqb _ _ c.before.if1.false))
+      λ S cs k e load h. puts_as (passed _ _ (ap (λ (s : Statement). eqb s.mode 1) (sym e) ∙ ne_eqb _ _ c.before.if1.false))
           (c.put-none.ensures.0 a.n argument a.out.now refl refl),
       c.put-none.ensures.1,
     )

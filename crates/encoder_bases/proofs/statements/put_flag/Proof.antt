@@ -1,13 +1,13 @@
 -- `encoder_bases::statements::put_flag` meets its contract. Assumes nothing.
 use mathlib.Core.Path.{refl, sym, ap, ◌∙◌}
 use lib.Dec.{eqb}
-use Rattle.base.proofs.Choice.{chosen, passed, cast-test}
+use Rattle.base.proofs.Choice.{chosen, passed, cast_test}
 use Rattle.encoder_slots.specs.Places.{place_of}
 use Rattle.encoding.specs.Steps.{rests}
-use Rattle.encoding.specs.Slots.{slot, choice, bitZero, flag}
+use Rattle.encoding.specs.Slots.{slot, choice, bit_zero, flag}
 use Rattle.table.specs.Programs.{if3}
 use Rattle.records.specs.declared.Statement.{Statement}
-use Rattle.encoder_bases.proofs.Given.{gives-ternary, puts-as}
+use Rattle.encoder_bases.proofs.Given.{gives_ternary, puts_as}
 use borrow.Author.Rules.{rules}
 use Rattle.encoder_bases.proofs.statements.put_flag.Statement.{statement}
 use Rattle.encoder_bases.proofs.statements.put_flag.Tie as tie
@@ -26,8 +26,8 @@ put-none-requires c κs = search rules
 returns : tie.Need-returns
 returns c =
     let a = c.before.before.before.before.args in (
-      λ S cs k e v w h. puts-as (chosen _ _ (ap (λ (s : Statement). rests s.number) (sym e) ∙ c.before.if1.true))
-          (c.put-none.ensures.0 a.n flag a.out.now refl (cast-test (eqb a.i 0))),
+      λ S cs k e v w h. puts_as (chosen _ _ (ap (λ (s : Statement). rests s.number) (sym e) ∙ c.before.if1.true))
+          (c.put-none.ensures.0 a.n flag a.out.now refl (cast_test (eqb a.i 0))),
       c.put-none.ensures.1,
     )
 
@@ -43,9 +43,9 @@ same_length c = search rules
 returns-2 : tie.Need-returns-2
 returns-2 c =
     let a = c.before.before.before.before.before.before.before.before.args in (
-      λ S cs k e v w h. puts-as (passed _ _ (ap (λ (s : Statement). rests s.number) (sym e) ∙ c.before.before.before.before.before.if1.false))
+      λ S cs k e v w h. puts_as (passed _ _ (ap (λ (s : Statement). rests s.number) (sym e) ∙ c.before.before.before.before.before.if1.false))
           (c.before.before.put_one.ensures.0 (place_of a.slots.now) _
-          (gives-ternary (place_of a.slots.now) a.n _ (if3 1) (slot choice 0 a.t) (slot bitZero 0 0) (slot flag a.t a.i) (refl, (refl, refl)) v w c.before.before.before.before.flag-place.ensures)),
+          (gives_ternary (place_of a.slots.now) a.n _ (if3 1) (slot choice 0 a.t) (slot bit_zero 0 0) (slot flag a.t a.i) (refl, (refl, refl)) v w c.before.before.before.before.flag-place.ensures)),
       c.before.before.put_one.ensures.1,
     )
 

@@ -3,7 +3,7 @@ use mathlib.Core.Path.{refl}
 use Rattle.encoder_slots.specs.Places.{place_of}
 use Rattle.encoding.specs.Slots.{slot, test}
 use Rattle.table.specs.Programs.{not1}
-use Rattle.encoder_bases.proofs.Given.{gives-unary}
+use Rattle.encoder_bases.proofs.Given.{gives_unary}
 use borrow.Author.Rules.{rules}
 use Rattle.encoder_bases.proofs.statements.put_not_test.Statement.{statement}
 use Rattle.encoder_bases.proofs.statements.put_not_test.Tie as tie
@@ -25,7 +25,7 @@ returns : tie.Need-returns
 returns c =
     let a = c.before.before.before.before.before.before.before.args in (
       λ h. c.before.before.put_one.ensures.0 (place_of a.slots.now) _
-          (gives-unary (place_of a.slots.now) a.n _ not1 (slot test a.t a.i) (refl, (refl, refl)) c.before.before.before.before.place.ensures),
+          (gives_unary (place_of a.slots.now) a.n _ not1 (slot test a.t a.i) (refl, (refl, refl)) c.before.before.before.before.place.ensures),
       c.before.before.put_one.ensures.1,
     )
 

@@ -1,9 +1,9 @@
 -- `encoder_bases::statements::put_result` meets its contract. Assumes nothing.
 use mathlib.Core.Path.{refl, sym}
 use Rattle.encoder_slots.specs.Places.{place_of}
-use Rattle.encoding.specs.Slots.{slot, loaded, argument, swaps, wordOne, wordZero}
+use Rattle.encoding.specs.Slots.{slot, loaded, argument, swaps, word_one, word_zero}
 use Rattle.table.specs.Programs.{plus2, minus2, times2, if3}
-use Rattle.encoder_bases.proofs.Given.{gives-ternary, puts-as, puts-result, result-loads}
+use Rattle.encoder_bases.proofs.Given.{gives_ternary, puts_as, puts_result, result_loads}
 use borrow.Author.Rules.{rules}
 use Rattle.encoder_bases.proofs.statements.put_result.Statement.{statement}
 use Rattle.encoder_bases.proofs.statements.put_result.Tie as tie
@@ -47,7 +47,7 @@ same_length c = search rules
 returns : tie.Need-returns
 returns c =
     let a = c.before.before.before.before.before.before.before.args in
-    (λ S cs k e h. puts-result S cs k a.t a.i _ _ (sym e) c.before.before.before.before.match.keys1 (c.before.before.put-arithmetic.ensures.0 plus2 loaded refl refl refl refl h), c.before.before.put-arithmetic.ensures.1)
+    (λ S cs k e h. puts_result S cs k a.t a.i _ _ (sym e) c.before.before.before.before.match.keys1 (c.before.before.put-arithmetic.ensures.0 plus2 loaded refl refl refl refl h), c.before.before.put-arithmetic.ensures.1)
 
 same-length-2 : tie.Need-same-length-2
 same-length-2 c = search rules
@@ -55,7 +55,7 @@ same-length-2 c = search rules
 returns-2 : tie.Need-returns-2
 returns-2 c =
     let a = c.before.before.before.before.before.before.before.args in
-    (λ S cs k e h. puts-result S cs k a.t a.i _ _ (sym e) c.before.before.before.before.match.keys2 (c.before.before.put-arithmetic2.ensures.0 plus2 argument refl refl refl refl h), c.before.before.put-arithmetic2.ensures.1)
+    (λ S cs k e h. puts_result S cs k a.t a.i _ _ (sym e) c.before.before.before.before.match.keys2 (c.before.before.put-arithmetic2.ensures.0 plus2 argument refl refl refl refl h), c.before.before.put-arithmetic2.ensures.1)
 
 same-length-3 : tie.Need-same-length-3
 same-length-3 c = search rules
@@ -63,7 +63,7 @@ same-length-3 c = search rules
 returns-3 : tie.Need-returns-3
 returns-3 c =
     let a = c.before.before.before.before.before.before.before.args in
-    (λ S cs k e h. puts-result S cs k a.t a.i _ _ (sym e) c.before.before.before.before.match.keys3 (c.before.before.put-arithmetic3.ensures.0 minus2 loaded refl refl refl refl h), c.before.before.put-arithmetic3.ensures.1)
+    (λ S cs k e h. puts_result S cs k a.t a.i _ _ (sym e) c.before.before.before.before.match.keys3 (c.before.before.put-arithmetic3.ensures.0 minus2 loaded refl refl refl refl h), c.before.before.put-arithmetic3.ensures.1)
 
 same-length-4 : tie.Need-same-length-4
 same-length-4 c = search rules
@@ -71,7 +71,7 @@ same-length-4 c = search rules
 returns-4 : tie.Need-returns-4
 returns-4 c =
     let a = c.before.before.before.before.before.before.before.args in
-    (λ S cs k e h. puts-result S cs k a.t a.i _ _ (sym e) c.before.before.before.before.match.keys4 (c.before.before.put-arithmetic4.ensures.0 minus2 argument refl refl refl refl h), c.before.before.put-arithmetic4.ensures.1)
+    (λ S cs k e h. puts_result S cs k a.t a.i _ _ (sym e) c.before.before.before.before.match.keys4 (c.before.before.put-arithmetic4.ensures.0 minus2 argument refl refl refl refl h), c.before.before.put-arithmetic4.ensures.1)
 
 same-length-5 : tie.Need-same-length-5
 same-length-5 c = search rules
@@ -79,7 +79,7 @@ same-length-5 c = search rules
 returns-5 : tie.Need-returns-5
 returns-5 c =
     let a = c.before.before.before.before.before.before.before.args in
-    (λ S cs k e h. puts-result S cs k a.t a.i _ _ (sym e) c.before.before.before.before.match.keys5 (c.before.before.put-arithmetic5.ensures.0 times2 loaded refl refl refl refl h), c.before.before.put-arithmetic5.ensures.1)
+    (λ S cs k e h. puts_result S cs k a.t a.i _ _ (sym e) c.before.before.before.before.match.keys5 (c.before.before.put-arithmetic5.ensures.0 times2 loaded refl refl refl refl h), c.before.before.put-arithmetic5.ensures.1)
 
 same-length-6 : tie.Need-same-length-6
 same-length-6 c = search rules
@@ -87,7 +87,7 @@ same-length-6 c = search rules
 returns-6 : tie.Need-returns-6
 returns-6 c =
     let a = c.before.before.before.before.before.before.before.args in
-    (λ S cs k e h. puts-result S cs k a.t a.i _ _ (sym e) c.before.before.before.before.match.keys6 (c.before.before.put-arithmetic6.ensures.0 times2 argument refl refl refl refl h), c.before.before.put-arithmetic6.ensures.1)
+    (λ S cs k e h. puts_result S cs k a.t a.i _ _ (sym e) c.before.before.before.before.match.keys6 (c.before.before.put-arithmetic6.ensures.0 times2 argument refl refl refl refl h), c.before.before.put-arithmetic6.ensures.1)
 
 same-length-7 : tie.Need-same-length-7
 same-length-7 c = search rules
@@ -95,9 +95,9 @@ same-length-7 c = search rules
 returns-7 : tie.Need-returns-7
 returns-7 c =
     let a = c.before.before.before.before.before.before.before.before.before.before.args in (
-      λ S cs k e h. puts-result S cs k a.t a.i _ _ (sym e) c.before.before.before.before.before.before.before.match.keys7
+      λ S cs k e h. puts_result S cs k a.t a.i _ _ (sym e) c.before.before.before.before.before.before.before.match.keys7
           (c.before.before.put_one.ensures.0 (place_of a.slots.now) _
-          (gives-ternary (place_of a.slots.now) a.n _ (if3 2) (slot swaps a.t a.i) (slot wordOne 0 0) (slot wordZero 0 0) (refl, (refl, refl)) c.before.before.before.before.before.before.place.ensures c.before.before.before.before.before.place2.ensures c.before.before.before.before.place3.ensures)),
+          (gives_ternary (place_of a.slots.now) a.n _ (if3 2) (slot swaps a.t a.i) (slot word_one 0 0) (slot word_zero 0 0) (refl, (refl, refl)) c.before.before.before.before.before.before.place.ensures c.before.before.before.before.before.place2.ensures c.before.before.before.before.place3.ensures)),
       c.before.before.put_one.ensures.1,
     )
 
@@ -105,8 +105,8 @@ returns-8 : tie.Need-returns-8
 returns-8 c =
     let a = c.before.before.before.before.args in
     let (((((((x, p), q), r), s), u), v), w) = c.before.match.rest in (
-      λ S cs k e h. puts-result S cs k a.t a.i _ _ (sym e) refl
-          (puts-as (result-loads S cs k _ a.t a.i p q r s u v w) (c.put-none.ensures.0 a.n loaded a.out.now refl refl)),
+      λ S cs k e h. puts_result S cs k a.t a.i _ _ (sym e) refl
+          (puts_as (result_loads S cs k _ a.t a.i p q r s u v w) (c.put-none.ensures.0 a.n loaded a.out.now refl refl)),
       c.put-none.ensures.1,
     )
 

@@ -2,9 +2,9 @@
 use mathlib.Core.Path.{refl, sym, ◌∙◌}
 use borrow.Author.Tests.{eq-eqb, ne_eqb}
 use Rattle.base.proofs.Choice.{chosen, passed}
-use Rattle.encoding.specs.Slots.{slot, accu, wordZero, bitZero}
+use Rattle.encoding.specs.Slots.{slot, accu, word_zero, bit_zero}
 use Rattle.table.specs.Programs.{equal2, top1}
-use Rattle.encoder_bases.proofs.Given.{gives-binary, gives-unary, gives-either, puts-as, puts-test}
+use Rattle.encoder_bases.proofs.Given.{gives_binary, gives_unary, gives_either, puts_as, puts_test}
 use borrow.Author.Rules.{rules}
 use Rattle.encoder_bases.proofs.statements.put_test.Statement.{statement}
 use Rattle.encoder_bases.proofs.statements.put_test.Tie as tie
@@ -27,9 +27,9 @@ same_length c = search rules
 returns : tie.Need-returns
 returns c =
     let a = c.before.before.before.before.before.before.args in (
-      λ S cs k t i at e v w z h. puts-test S cs k t i _ (sym e) (puts-as (chosen _ _ c.before.before.before.before.if1.true)
+      λ S cs k t i at e v w z h. puts_test S cs k t i _ (sym e) (puts_as (chosen _ _ c.before.before.before.before.if1.true)
           (c.before.before.put_one.ensures.0 at _
-          (gives-binary at a.n _ equal2 (slot accu t 0) (slot wordZero 0 0) (refl, (refl, refl)) refl refl v w))),
+          (gives_binary at a.n _ equal2 (slot accu t 0) (slot word_zero 0 0) (refl, (refl, refl)) refl refl v w))),
       c.before.before.put_one.ensures.1,
     )
 
@@ -42,9 +42,9 @@ same-length-2 c = search rules
 returns-2 : tie.Need-returns-2
 returns-2 c =
     let a = c.before.before.before.before.before.before.before.args in (
-      λ S cs k t i at e v w z h. puts-test S cs k t i _ (sym e) (puts-as (passed _ _ c.before.before.before.before.before.if1.false ∙ chosen _ _ c.before.before.before.before.if2.true)
+      λ S cs k t i at e v w z h. puts_test S cs k t i _ (sym e) (puts_as (passed _ _ c.before.before.before.before.before.if1.false ∙ chosen _ _ c.before.before.before.before.if2.true)
           (c.before.before.put-one2.ensures.0 at _
-          (gives-unary at a.n _ top1 (slot accu t 0) (refl, (refl, refl)) v))),
+          (gives_unary at a.n _ top1 (slot accu t 0) (refl, (refl, refl)) v))),
       c.before.before.put-one2.ensures.1,
     )
 
@@ -66,10 +66,10 @@ same-length-3 c = search rules
 returns-3 : tie.Need-returns-3
 returns-3 c =
     let a = c.before.before.before.before.before.before.before.before.before.before.before.args in (
-      λ S cs k t i at e v w z h. puts-test S cs k t i _ (sym e) (puts-as
+      λ S cs k t i at e v w z h. puts_test S cs k t i _ (sym e) (puts_as
           (passed _ _ c.before.before.before.before.before.before.before.before.before.if1.false ∙ passed _ _ c.before.before.before.before.before.before.before.before.if2.false ∙ chosen _ _ (eq-eqb _ _ c.before.before.before.before.before.before.before.if3.true))
           (c.before.before.put_three.ensures.0 at _ h
-          (gives-either at a.n _ (slot accu t 0) (slot wordZero 0 0) (refl, (refl, (refl, (refl, refl))))
+          (gives_either at a.n _ (slot accu t 0) (slot word_zero 0 0) (refl, (refl, (refl, (refl, refl))))
           c.before.before.before.before.before.before.formula.ensures c.before.before.before.before.before.formula2.ensures c.before.before.before.before.formula3.ensures v w))),
       c.before.before.put_three.ensures.1,
     )
@@ -80,9 +80,9 @@ put-at-requires c κs = search rules
 returns-4 : tie.Need-returns-4
 returns-4 c =
     let a = c.before.before.before.before.before.args in (
-      λ S cs k t i at e v w z h. puts-test S cs k t i _ (sym e) (puts-as
+      λ S cs k t i at e v w z h. puts_test S cs k t i _ (sym e) (puts_as
           (passed _ _ c.before.before.before.if1.false ∙ passed _ _ c.before.before.if2.false ∙ passed _ _ (ne_eqb _ _ c.before.if3.false))
-          (c.put-at.ensures.0 at a.n (slot bitZero 0 0) a.out.now z)),
+          (c.put-at.ensures.0 at a.n (slot bit_zero 0 0) a.out.now z)),
       c.put-at.ensures.1,
     )
 

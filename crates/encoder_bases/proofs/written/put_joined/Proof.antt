@@ -1,8 +1,8 @@
 -- `encoder_bases::written::put_joined` meets its contract. Assumes nothing.
 use mathlib.Core.Path.{refl, ◌∙◌}
-use Rattle.encoder_slots.specs.Places.{place_of, placeFrom}
+use Rattle.encoder_slots.specs.Places.{place_of, place_from}
 use Rattle.encoding.specs.Slots.{slot}
-use Rattle.encoder_bases.proofs.Given.{gives-binary}
+use Rattle.encoder_bases.proofs.Given.{gives_binary}
 use borrow.Author.Rules.{rules}
 use Rattle.encoder_bases.proofs.written.put_joined.Statement.{statement}
 use Rattle.encoder_bases.proofs.written.put_joined.Tie as tie
@@ -23,9 +23,9 @@ returns : tie.Need-returns
 returns c =
     let a = c.before.before.before.before.before.before.before.before.args in (
       λ o k l e s f g p q. c.before.before.put_one.ensures.0 (place_of a.slots.now) _
-          (gives-binary (place_of a.slots.now) a.n _ o (slot k a.a a.b) (slot l a.c a.d) (refl, (refl, refl)) e s
-          (c.before.before.before.before.before.place.ensures ∙ (λ z. placeFrom a.slots.now (f z) a.a a.b (p z)))
-          (c.before.before.before.before.place2.ensures ∙ (λ z. placeFrom a.slots.now (g z) a.c a.d (q z)))),
+          (gives_binary (place_of a.slots.now) a.n _ o (slot k a.a a.b) (slot l a.c a.d) (refl, (refl, refl)) e s
+          (c.before.before.before.before.before.place.ensures ∙ (λ z. place_from a.slots.now (f z) a.a a.b (p z)))
+          (c.before.before.before.before.place2.ensures ∙ (λ z. place_from a.slots.now (g z) a.c a.d (q z)))),
       c.before.before.put_one.ensures.1,
     )
 

@@ -2,10 +2,10 @@
 use Prim.Native.Nat.{◌+◌, ◌≤◌}
 use mathlib.Core.Path.{ap, ◌∙◌}
 use native.Mathlib.Omega.{arith}
-use Rattle.encoding.specs.Slots.{slot, full, adr, val, sharedMemory}
+use Rattle.encoding.specs.Slots.{slot, full, adr, val, shared_memory}
 use Rattle.encoder_bases.specs.declared.written.Load.{Load}
-use Rattle.encoder_bases.proofs.Records.{recordAt}
-use Rattle.encoder_bases.proofs.Given.{gives-load, puts-four}
+use Rattle.encoder_bases.proofs.Records.{record_at}
+use Rattle.encoder_bases.proofs.Given.{gives_load, puts_four}
 use borrow.Author.Rules.{rules}
 use Rattle.encoder_bases.proofs.written.put_load.Statement.{statement}
 use Rattle.encoder_bases.proofs.written.put_load.Tie as tie
@@ -65,17 +65,17 @@ returns c =
     let g = c.before.before.before.before.before.before.before.before.before.before.before.before.before.before.before.before.before.before.before.before.before.formula2.result in
     let k = c.before.before.before.before.before.before.before.before.before.before.before.before.before.before.before.before.before.before.before.before.formula3.result in
     let l = c.before.before.before.before.before.before.before.before.before.before.before.before.before.before.before.before.before.before.before.formula4.result in (
-      λ at t s e p h. puts-four at a.n _ a.out.now _ f g k l
-          (gives-load at a.n (slot full t 0) (slot adr t 0) s (slot val t 0) (slot sharedMemory 0 0)
+      λ at t s e p h. puts_four at a.n _ a.out.now _ f g k l
+          (gives_load at a.n (slot full t 0) (slot adr t 0) s (slot val t 0) (slot shared_memory 0 0)
           c.before.before.before.before.before.before.before.before.before.before.before.before.before.before.before.before.before.before.before.before.before.before.formula.ensures
           c.before.before.before.before.before.before.before.before.before.before.before.before.before.before.before.before.before.before.before.before.before.formula2.ensures
           c.before.before.before.before.before.before.before.before.before.before.before.before.before.before.before.before.before.before.before.before.formula3.ensures
           c.before.before.before.before.before.before.before.before.before.before.before.before.before.before.before.before.before.before.before.formula4.ensures
           (ap (λ (x : Load). x.full) e) (ap (λ (x : Load). x.adr) e) p (ap (λ (x : Load). x.val) e) (ap (λ (x : Load). x.memory) e))
           (c.before.before.put4.ensures
-          ∙ ((λ z. recordAt (c.before.before.before.after3.ensures h three z) l (c.before.before.before.before.before.before.before.put3.ensures z))
-          ∙ ((λ z. recordAt (a.n + 3) l (recordAt (c.before.before.before.before.before.before.before.before.after2.ensures h two z) k (c.before.before.before.before.before.before.before.before.before.before.before.before.put2.ensures z)))
-          ∙ (λ z. recordAt (a.n + 3) l (recordAt (a.n + 2) k (recordAt (c.before.before.before.before.before.before.before.before.before.before.before.before.before.after.ensures h one z) g (c.before.before.before.before.before.before.before.before.before.before.before.before.before.before.before.before.before.put.ensures z))))))),
+          ∙ ((λ z. record_at (c.before.before.before.after3.ensures h three z) l (c.before.before.before.before.before.before.before.put3.ensures z))
+          ∙ ((λ z. record_at (a.n + 3) l (record_at (c.before.before.before.before.before.before.before.before.after2.ensures h two z) k (c.before.before.before.before.before.before.before.before.before.before.before.before.put2.ensures z)))
+          ∙ (λ z. record_at (a.n + 3) l (record_at (a.n + 2) k (record_at (c.before.before.before.before.before.before.before.before.before.before.before.before.before.after.ensures h one z) g (c.before.before.before.before.before.before.before.before.before.before.before.before.before.before.before.before.before.put.ensures z))))))),
       omega arith,
     )
 

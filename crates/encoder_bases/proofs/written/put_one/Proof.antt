@@ -3,7 +3,7 @@ use native.Mathlib.Omega.{arith}
 use mathlib.Core.Path.{ap, ◌∙◌}
 use Rattle.table.specs.declared.Formula.{Formula}
 use Rattle.encoder_bases.specs.SmallTrees.{plain}
-use Rattle.encoder_bases.proofs.Records.{recordAt}
+use Rattle.encoder_bases.proofs.Records.{record_at}
 use Rattle.encoder_bases.proofs.Given.{puts_one}
 use borrow.Author.Rules.{rules}
 use Rattle.encoder_bases.proofs.written.put_one.Statement.{statement}
@@ -22,7 +22,7 @@ returns : tie.Need-returns
 returns c =
     let a = c.before.before.before.before.before.before.args in (
       λ at t g. puts_one at a.n t a.out.now _ (plain a.operation a.sort a.a a.b a.c) g
-          (c.before.before.put.ensures ∙ ap (λ (f : Formula). recordAt a.n f a.out.now) c.before.before.before.before.formula.ensures),
+          (c.before.before.put.ensures ∙ ap (λ (f : Formula). record_at a.n f a.out.now) c.before.before.before.before.formula.ensures),
       omega arith,
     )
 

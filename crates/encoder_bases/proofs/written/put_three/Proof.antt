@@ -2,8 +2,8 @@
 use Prim.Native.Nat.{◌+◌, ◌≤◌}
 use mathlib.Core.Path.{◌∙◌}
 use native.Mathlib.Omega.{arith}
-use Rattle.encoder_bases.proofs.Records.{recordAt}
-use Rattle.encoder_bases.proofs.Given.{puts-three}
+use Rattle.encoder_bases.proofs.Records.{record_at}
+use Rattle.encoder_bases.proofs.Given.{puts_three}
 use borrow.Author.Rules.{rules}
 use Rattle.encoder_bases.proofs.written.put_three.Statement.{statement}
 use Rattle.encoder_bases.proofs.written.put_three.Tie as tie
@@ -34,10 +34,10 @@ returns c =
     let a = c.before.before.before.before.before.before.before.before.before.before.before.before.before.before.before.args in
     let one : 1 ≤ 4 = omega arith in
     let two : 2 ≤ 4 = omega arith in (
-      λ at t h g. puts-three at a.n t a.out.now _ a.first a.second a.third g
+      λ at t h g. puts_three at a.n t a.out.now _ a.first a.second a.third g
           (c.before.before.put3.ensures
-          ∙ ((λ z. recordAt (c.before.before.before.after2.ensures h two z) a.third (c.before.before.before.before.before.before.before.put2.ensures z))
-          ∙ (λ z. recordAt (a.n + 2) a.third (recordAt (c.before.before.before.before.before.before.before.before.after.ensures h one z) a.second (c.before.before.before.before.before.before.before.before.before.before.before.before.put.ensures z))))),
+          ∙ ((λ z. record_at (c.before.before.before.after2.ensures h two z) a.third (c.before.before.before.before.before.before.before.put2.ensures z))
+          ∙ (λ z. record_at (a.n + 2) a.third (record_at (c.before.before.before.before.before.before.before.before.after.ensures h one z) a.second (c.before.before.before.before.before.before.before.before.before.before.before.before.put.ensures z))))),
       omega arith,
     )
 

@@ -1,11 +1,11 @@
 -- `encoder_chains::chains::opening_chain` meets its contract. Assumes nothing.
-use Rattle.encoder_chains.proofs.Leads.{and-placed}
+use Rattle.encoder_chains.proofs.Leads.{and_placed}
 use Rattle.machine.specs.Machine.{contains}
-use Rattle.records.specs.Sets.{Set, mostThreads}
+use Rattle.records.specs.Sets.{Set, most_threads}
 use Rattle.encoder_chains.proofs.Trees.{chain-none, chain_more}
 use Rattle.encoding.specs.Slots.{Term, slot, opening, mark}
-use Rattle.encoding.specs.Steps.{chain as chainOf, link}
-use Rattle.encoder_slots.specs.Pieces.{WritesTree, Ready, chainRoom}
+use Rattle.encoding.specs.Steps.{chain as chain_of, link}
+use Rattle.encoder_slots.specs.Pieces.{WritesTree, Ready, chain_room}
 use Rattle.encoder_slots.specs.Places.{place_of}
 use native.Mathlib.Omega.{arith}
 use mathlib.Core.Path.{◌≡◌, refl, ◌∙◌, subst}
@@ -15,14 +15,14 @@ use lib.ListN.{length, get_or}
 use borrow.Author.Rules.{rules}
 use Rattle.encoder_chains.proofs.chains.opening_chain.Statement.{statement}
 use Rattle.encoder_chains.proofs.chains.opening_chain.Tie as tie
-use Rattle.table.specs.Repeats.{lastIndex}
+use Rattle.table.specs.Repeats.{last_index}
 
 abbrev invariant-loop : tie.invariant-loop
 invariant-loop table slots out₀ threads p n base tree₀ t₀ out tree t =
-    (t ≤ threads) × (threads ≤ mostThreads) × (tree.next ≤ n + t) × (length out ≡ length out₀)
-    × ((S : Set) (cs members : List ℕ) (base-tree : Term) (start : List ℕ) (m : ℕ) → S.threads ≡ threads → p < length cs → n + chainRoom ≤ lastIndex → Ready S cs members table slots m
+    (t ≤ threads) × (threads ≤ most_threads) × (tree.next ≤ n + t) × (length out ≡ length out₀)
+    × ((S : Set) (cs members : List ℕ) (base-tree : Term) (start : List ℕ) (m : ℕ) → S.threads ≡ threads → p < length cs → n + chain_room ≤ last_index → Ready S cs members table slots m
     → WritesTree (place_of slots) base-tree start m out₀ n base
-    → WritesTree (place_of slots) (chainOf (link S cs 0 opening 0 p) t base-tree) start m out tree.next tree.at)
+    → WritesTree (place_of slots) (chain_of (link S cs 0 opening 0 p) t base-tree) start m out tree.next tree.at)
 
 abbrev decreases-loop : tie.decreases-loop
 decreases-loop table slots out₀ threads p n base tree₀ t₀ out tree t = threads - t
@@ -30,17 +30,17 @@ decreases-loop table slots out₀ threads p n base tree₀ t₀ out tree t = thr
 returns : tie.Need-returns invariant-loop decreases-loop
 returns c =
     let a = c.before.before.before.before.args in
-    (λ S cs members tree start m is inside small ready w. absurd (c.if1.true ready.allPlaces), omega arith)
+    (λ S cs members tree start m is inside small ready w. absurd (c.if1.true ready.all_places), omega arith)
 
 returns-2 : tie.Need-returns-2 invariant-loop decreases-loop
 returns-2 c =
     let a = c.before.before.before.before.before.args in
-    (λ S cs members tree start m is inside small ready w. absurd (c.if2.true ready.byName.whole), omega arith)
+    (λ S cs members tree start m is inside small ready w. absurd (c.if2.true ready.by_name.whole), omega arith)
 
 returns-3 : tie.Need-returns-3 invariant-loop decreases-loop
 returns-3 c =
     let a = c.before.before.before.before.before.before.args in
-    (λ (S : Set) cs members tree start m (is : S.threads ≡ a.threads) inside small ready w. let few = ready.byName.fourThreads in absurd (omega arith), omega arith)
+    (λ (S : Set) cs members tree start m (is : S.threads ≡ a.threads) inside small ready w. let few = ready.by_name.four_threads in absurd (omega arith), omega arith)
 
 loop-holds : tie.Need-loop-init invariant-loop decreases-loop
 loop-holds c =
@@ -77,12 +77,12 @@ loop-again c =
       l.invariant.1,
       omega arith,
       p.auto.0 ∙ l.invariant.3,
-      λ (S : Set) (cs members : List ℕ) (tree : Term) (start : List ℕ) (m : ℕ) (is : S.threads ≡ a.threads) inside (small : a.n + chainRoom ≤ lastIndex) ready w.
+      λ (S : Set) (cs members : List ℕ) (tree : Term) (start : List ℕ) (m : ℕ) (is : S.threads ≡ a.threads) inside (small : a.n + chain_room ≤ last_index) ready w.
           let links = link S cs 0 opening 0 a.p in
           let here : l.t < S.threads = omega arith in
           chain_more (place_of a.slots.now) links tree start m _ _ _ l.t
-          (p.ensures.0 (place_of a.slots.now) (links l.t) (chainOf links l.t tree) start m (omega arith)
-          (c.before.before.before.before.contained.ensures S cs members m here inside ready ∙ and-placed (place_of a.slots.now) {d = contains S l.t (get_or cs a.p 0)} refl (slot mark l.t a.p))
+          (p.ensures.0 (place_of a.slots.now) (links l.t) (chain_of links l.t tree) start m (omega arith)
+          (c.before.before.before.before.contained.ensures S cs members m here inside ready ∙ and_placed (place_of a.slots.now) {d = contains S l.t (get_or cs a.p 0)} refl (slot mark l.t a.p))
           (l.invariant.4 S cs members tree start m is inside small ready w)),
     )
 
@@ -95,7 +95,7 @@ returns-4 c =
     let l = c.before.loop in (
       λ (S : Set) (cs members : List ℕ) (tree : Term) (start : List ℕ) (m : ℕ) (is : S.threads ≡ a.threads) inside small ready w.
           let end : l.t ≡ S.threads = omega arith in
-          subst (λ (j : ℕ). WritesTree (place_of a.slots.now) (chainOf (link S cs 0 opening 0 a.p) j tree) start m l.out l.tree.next l.tree.at)
+          subst (λ (j : ℕ). WritesTree (place_of a.slots.now) (chain_of (link S cs 0 opening 0 a.p) j tree) start m l.out l.tree.next l.tree.at)
           end (l.invariant.4 S cs members tree start m is inside small ready w),
       omega arith,
     )

@@ -6,33 +6,33 @@ use mathlib.Core.List.{List}
 use native.Mathlib.Omega.{arith}
 use lib.ListN.{length, get_or}
 use Rattle.records.specs.Sets.{Set}
-use Rattle.machine.specs.Machine.{isCheck}
-use Rattle.encoding.specs.Slots.{Term, slot, active, raised, bitOne}
+use Rattle.machine.specs.Machine.{is_check}
+use Rattle.encoding.specs.Slots.{Term, slot, active, raised, bit_one}
 use Rattle.encoding.specs.Steps.{only, link, chain}
-use Rattle.encoder_slots.specs.Pieces.{WritesTree, Ready, chainRoom}
+use Rattle.encoder_slots.specs.Pieces.{WritesTree, Ready, chain_room}
 use Rattle.encoder_slots.specs.Places.{place_of}
 use Rattle.encoder_slots.proofs.Ready.{ready-thread}
 use Rattle.set_index.specs.Lists.{Leads}
 use Rattle.set_index.proofs.Making.{onward-after, onward-is}
 use Rattle.encoder_chains.proofs.Raised.{Reached, reached}
-use Rattle.encoder_chains.proofs.Leads.{if-placed}
+use Rattle.encoder_chains.proofs.Leads.{if_placed}
 use Rattle.encoder_chains.proofs.Trees.{chain-none, chain_more}
-use Rattle.table.specs.Formulas.{bitSort}
-use Rattle.set_index.specs.ListTables.{noStatement}
+use Rattle.table.specs.Formulas.{bit_sort}
+use Rattle.set_index.specs.ListTables.{no_statement}
 use borrow.Author.Rules.{rules}
 use Rattle.encoder_chains.proofs.chains.raised_chain.Statement.{statement}
 use Rattle.encoder_chains.proofs.chains.raised_chain.Tie as tie
-use Rattle.table.specs.Repeats.{lastIndex}
+use Rattle.table.specs.Repeats.{last_index}
 
 abbrev invariant-loop : tie.invariant-loop
 invariant-loop table slots out₀ t p n base tree₀ i₀ out tree i =
-    (tree.next ≤ n + i) × (tree.next ≤ n + chainRoom) × (length out ≡ length out₀)
-    × ((S : Set) (cs members : List ℕ) (base-tree : Term) (start : List ℕ) (m : ℕ) → t < S.threads → p < length cs → n + chainRoom ≤ lastIndex → Ready S cs members table slots m
+    (tree.next ≤ n + i) × (tree.next ≤ n + chain_room) × (length out ≡ length out₀)
+    × ((S : Set) (cs members : List ℕ) (base-tree : Term) (start : List ℕ) (m : ℕ) → t < S.threads → p < length cs → n + chain_room ≤ last_index → Ready S cs members table slots m
     → WritesTree (place_of slots) base-tree start m out₀ n base
     → Reached S cs t p (place_of slots) base-tree start m out tree.next tree.at i)
 
 abbrev decreases-loop : tie.decreases-loop
-decreases-loop table slots out₀ t p n base tree₀ i₀ out tree i = noStatement - i
+decreases-loop table slots out₀ t p n base tree₀ i₀ out tree i = no_statement - i
 
 returns : tie.Need-returns invariant-loop decreases-loop
 returns c =
@@ -42,12 +42,12 @@ returns c =
 returns-2 : tie.Need-returns-2 invariant-loop decreases-loop
 returns-2 c =
     let a = c.before.before.before.before.before.args in
-    (λ S cs members tree start m row column small ready w. absurd (c.if2.true ready.allPlaces), omega arith)
+    (λ S cs members tree start m row column small ready w. absurd (c.if2.true ready.all_places), omega arith)
 
 returns-3 : tie.Need-returns-3 invariant-loop decreases-loop
 returns-3 c =
     let a = c.before.before.before.before.before.before.args in
-    (λ S cs members tree start m row column small ready w. absurd (c.if3.true ready.byName.whole), omega arith)
+    (λ S cs members tree start m row column small ready w. absurd (c.if3.true ready.by_name.whole), omega arith)
 
 first-requires : tie.Need-first-requires invariant-loop decreases-loop
 first-requires c κs = search rules
@@ -60,9 +60,9 @@ loop-holds c =
       omega arith,
       refl,
       λ (S : Set) (cs members : List ℕ) (tree : Term) (start : List ℕ) (m : ℕ) row column small (ready : Ready S cs members (now a.table) (now a.slots) m) w.
-          let k = ready.byName in
-          reached S cs a.t a.p (k.fewStatements a.t row) (place_of (now a.slots)) tree start m (now a.out) a.n a.base f.result 0 (omega arith) (omega arith)
-          (subst (λ (it : ℕ). Leads (λ x. x < S.count a.t) (isCheck S a.t (get_or cs a.p 0)) it 0) (sym f.ensures) ((k.checks a.t row).heads a.p column))
+          let k = ready.by_name in
+          reached S cs a.t a.p (k.few_statements a.t row) (place_of (now a.slots)) tree start m (now a.out) a.n a.base f.result 0 (omega arith) (omega arith)
+          (subst (λ (it : ℕ). Leads (λ x. x < S.count a.t) (is_check S a.t (get_or cs a.p 0)) it 0) (sym f.ensures) ((k.checks a.t row).heads a.p column))
           (chain-none (place_of (now a.slots)) (link S cs 0 raised a.t a.p) tree start m (now a.out) a.n a.base w),
     )
 
@@ -95,18 +95,18 @@ loop-again c =
       omega arith,
       omega arith,
       p.auto.0 ∙ l.invariant.2,
-      λ (S : Set) (cs members : List ℕ) (tree : Term) (start : List ℕ) (m : ℕ) row column (small : a.n + chainRoom ≤ lastIndex) (ready : Ready S cs members a.table.now a.slots.now m) w.
-          let k = ready.byName in
+      λ (S : Set) (cs members : List ℕ) (tree : Term) (start : List ℕ) (m : ℕ) row column (small : a.n + chain_room ≤ last_index) (ready : Ready S cs members a.table.now a.slots.now m) w.
+          let k = ready.by_name in
           let places = place_of a.slots.now in
           let links = link S cs 0 raised a.t a.p in
           let r = (l.invariant.3 S cs members tree start m row column small ready w).there going in
           let inside = r.0 in
           let onward = (k.checks a.t row).onwards a.p l.i column r.0 r.1 in
-          reached S cs a.t a.p (k.fewStatements a.t row) places tree start m _ _ _ f.result (l.i + 1) (omega arith) (omega arith)
-          (subst (λ (it : ℕ). Leads (λ x. x < S.count a.t) (isCheck S a.t (get_or cs a.p 0)) it (l.i + 1)) (sym (f.ensures ∙ onward-is l.i _ onward)) ((k.checks a.t row).nexts a.p l.i column r.0 r.1))
+          reached S cs a.t a.p (k.few_statements a.t row) places tree start m _ _ _ f.result (l.i + 1) (omega arith) (omega arith)
+          (subst (λ (it : ℕ). Leads (λ x. x < S.count a.t) (is_check S a.t (get_or cs a.p 0)) it (l.i + 1)) (sym (f.ensures ∙ onward-is l.i _ onward)) ((k.checks a.t row).nexts a.p l.i column r.0 r.1))
           (chain_more places links tree start m _ _ _ l.i
           (p.ensures.0 places (links l.i) (chain links l.i tree) start m (omega arith)
-          (b.ensures ∙ if-placed places {b = true} {d = isCheck S a.t (get_or cs a.p 0) l.i} (sym r.1) bitSort (slot active a.t l.i) (only bitOne)) r.2)),
+          (b.ensures ∙ if_placed places {b = true} {d = is_check S a.t (get_or cs a.p 0) l.i} (sym r.1) bit_sort (slot active a.t l.i) (only bit_one)) r.2)),
     )
 
 same_length : tie.Need-same-length invariant-loop decreases-loop

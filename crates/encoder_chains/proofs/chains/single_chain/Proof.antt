@@ -1,11 +1,11 @@
 -- `encoder_chains::chains::single_chain` meets its contract. Assumes nothing.
 use Rattle.encoder_chains.specs.Chained.{chained}
-use Rattle.records.specs.Sets.{Set, mostThreads}
+use Rattle.records.specs.Sets.{Set, most_threads}
 use mathlib.Core.Bool.{true}
 use Rattle.encoder_chains.proofs.Trees.{chain-none, chain_more}
 use Rattle.encoding.specs.Slots.{Term, kind_at}
-use Rattle.encoding.specs.Steps.{chain as chainOf, link, links}
-use Rattle.encoder_slots.specs.Pieces.{WritesTree, chainRoom}
+use Rattle.encoding.specs.Steps.{chain as chain_of, link, links}
+use Rattle.encoder_slots.specs.Pieces.{WritesTree, chain_room}
 use Rattle.encoder_slots.specs.Places.{place_of}
 use native.Mathlib.Omega.{arith}
 use mathlib.Core.Path.{◌≡◌, refl, ◌∙◌, subst}
@@ -15,14 +15,14 @@ use lib.ListN.{length}
 use borrow.Author.Rules.{rules}
 use Rattle.encoder_chains.proofs.chains.single_chain.Statement.{statement}
 use Rattle.encoder_chains.proofs.chains.single_chain.Tie as tie
-use Rattle.table.specs.Repeats.{lastIndex}
+use Rattle.table.specs.Repeats.{last_index}
 
 abbrev invariant-loop : tie.invariant-loop
 invariant-loop slots out₀ threads kind n base tree₀ many i₀ out tree i =
-    (i ≤ many) × (many ≤ 2 * mostThreads) × (tree.next ≤ n + i) × (length out ≡ length out₀)
-    × ((S : Set) (cs : List ℕ) (base-tree : Term) (start : List ℕ) (m : ℕ) → S.threads ≡ threads → chained kind ≡ true → n + chainRoom ≤ lastIndex
+    (i ≤ many) × (many ≤ 2 * most_threads) × (tree.next ≤ n + i) × (length out ≡ length out₀)
+    × ((S : Set) (cs : List ℕ) (base-tree : Term) (start : List ℕ) (m : ℕ) → S.threads ≡ threads → chained kind ≡ true → n + chain_room ≤ last_index
     → WritesTree (place_of slots) base-tree start m out₀ n base
-    → WritesTree (place_of slots) (chainOf (link S cs 0 (kind_at kind) 0 0) i base-tree) start m out tree.next tree.at)
+    → WritesTree (place_of slots) (chain_of (link S cs 0 (kind_at kind) 0 0) i base-tree) start m out tree.next tree.at)
 
 abbrev decreases-loop : tie.decreases-loop
 decreases-loop slots out₀ threads kind n base tree₀ many i₀ out tree i = many - i
@@ -30,12 +30,12 @@ decreases-loop slots out₀ threads kind n base tree₀ many i₀ out tree i = m
 returns : tie.Need-returns invariant-loop decreases-loop
 returns c =
     let a = c.before.before.before.args in
-    (λ S cs members lists tree start m e single small ready w. absurd (c.if1.true ready.allPlaces), omega arith)
+    (λ S cs members lists tree start m e single small ready w. absurd (c.if1.true ready.all_places), omega arith)
 
 returns-2 : tie.Need-returns-2 invariant-loop decreases-loop
 returns-2 c =
     let a = c.before.before.before.before.args in
-    (λ (S : Set) cs members lists tree start m (e : S.threads ≡ a.threads) single small ready w. let few = ready.byName.fourThreads in absurd (omega arith), omega arith)
+    (λ (S : Set) cs members lists tree start m (e : S.threads ≡ a.threads) single small ready w. let few = ready.by_name.four_threads in absurd (omega arith), omega arith)
 
 single-links-requires : tie.Need-single-links-requires invariant-loop decreases-loop
 single-links-requires c κs = search rules
@@ -74,10 +74,10 @@ loop-again c =
       l.invariant.1,
       omega arith,
       p.auto.0 ∙ l.invariant.3,
-      λ (S : Set) (cs : List ℕ) (tree : Term) (start : List ℕ) (m : ℕ) e single (small : a.n + chainRoom ≤ lastIndex) w.
+      λ (S : Set) (cs : List ℕ) (tree : Term) (start : List ℕ) (m : ℕ) e single (small : a.n + chain_room ≤ last_index) w.
           let links = link S cs 0 (kind_at a.kind) 0 0 in
           chain_more (place_of a.slots.now) links tree start m _ _ _ l.i
-          (p.ensures.0 (place_of a.slots.now) (links l.i) (chainOf links l.i tree) start m (omega arith)
+          (p.ensures.0 (place_of a.slots.now) (links l.i) (chain_of links l.i tree) start m (omega arith)
           (c.before.before.before.before.single-link.ensures S cs e single) (l.invariant.4 S cs tree start m e single small w)),
     )
 
@@ -91,7 +91,7 @@ returns-3 c =
     let many = c.before.before.single-links in (
       λ (S : Set) (cs members lists : List ℕ) (tree : Term) (start : List ℕ) (m : ℕ) e single small ready w.
           let end : l.i ≡ many.result = omega arith in
-          subst (λ (k : ℕ). WritesTree (place_of a.slots.now) (chainOf (link S cs 0 (kind_at a.kind) 0 0) k tree) start m l.out l.tree.next l.tree.at)
+          subst (λ (k : ℕ). WritesTree (place_of a.slots.now) (chain_of (link S cs 0 (kind_at a.kind) 0 0) k tree) start m l.out l.tree.next l.tree.at)
           (end ∙ many.ensures.0 S cs e single) (l.invariant.4 S cs tree start m e single small w),
       omega arith,
     )

@@ -1,11 +1,11 @@
 -- `encoder_chains::chains::waits_chain` meets its contract. Assumes nothing.
-use Rattle.encoder_chains.proofs.Leads.{or-placed}
+use Rattle.encoder_chains.proofs.Leads.{or_placed}
 use Rattle.machine.specs.Machine.{contains}
-use Rattle.records.specs.Sets.{Set, mostCheckpoints}
+use Rattle.records.specs.Sets.{Set, most_checkpoints}
 use Rattle.encoder_chains.proofs.Trees.{chain-none, chain_more}
 use Rattle.encoding.specs.Slots.{Term, slot, held, waits}
-use Rattle.encoding.specs.Steps.{chain as chainOf, link}
-use Rattle.encoder_slots.specs.Pieces.{WritesTree, Ready, chainRoom}
+use Rattle.encoding.specs.Steps.{chain as chain_of, link}
+use Rattle.encoder_slots.specs.Pieces.{WritesTree, Ready, chain_room}
 use Rattle.encoder_slots.specs.Places.{place_of}
 use native.Mathlib.Omega.{arith}
 use mathlib.Core.Path.{◌≡◌, refl, ◌∙◌, subst}
@@ -15,14 +15,14 @@ use lib.ListN.{length, get_or}
 use borrow.Author.Rules.{rules}
 use Rattle.encoder_chains.proofs.chains.waits_chain.Statement.{statement}
 use Rattle.encoder_chains.proofs.chains.waits_chain.Tie as tie
-use Rattle.table.specs.Repeats.{lastIndex}
+use Rattle.table.specs.Repeats.{last_index}
 
 abbrev invariant-loop : tie.invariant-loop
 invariant-loop table slots out₀ count t n base tree₀ p₀ out tree p =
-    (p ≤ count) × (count ≤ mostCheckpoints) × (tree.next ≤ n + p) × (length out ≡ length out₀)
-    × ((S : Set) (cs members : List ℕ) (base-tree : Term) (start : List ℕ) (m : ℕ) → length cs ≡ count → t < S.threads → n + chainRoom ≤ lastIndex → Ready S cs members table slots m
+    (p ≤ count) × (count ≤ most_checkpoints) × (tree.next ≤ n + p) × (length out ≡ length out₀)
+    × ((S : Set) (cs members : List ℕ) (base-tree : Term) (start : List ℕ) (m : ℕ) → length cs ≡ count → t < S.threads → n + chain_room ≤ last_index → Ready S cs members table slots m
     → WritesTree (place_of slots) base-tree start m out₀ n base
-    → WritesTree (place_of slots) (chainOf (link S cs 0 waits t 0) p base-tree) start m out tree.next tree.at)
+    → WritesTree (place_of slots) (chain_of (link S cs 0 waits t 0) p base-tree) start m out tree.next tree.at)
 
 abbrev decreases-loop : tie.decreases-loop
 decreases-loop table slots out₀ count t n base tree₀ p₀ out tree p = count - p
@@ -30,17 +30,17 @@ decreases-loop table slots out₀ count t n base tree₀ p₀ out tree p = count
 returns : tie.Need-returns invariant-loop decreases-loop
 returns c =
     let a = c.before.before.before.before.args in
-    (λ S cs members tree start m is inside small ready w. absurd (c.if1.true ready.allPlaces), omega arith)
+    (λ S cs members tree start m is inside small ready w. absurd (c.if1.true ready.all_places), omega arith)
 
 returns-2 : tie.Need-returns-2 invariant-loop decreases-loop
 returns-2 c =
     let a = c.before.before.before.before.before.args in
-    (λ S cs members tree start m is inside small ready w. absurd (c.if2.true ready.byName.whole), omega arith)
+    (λ S cs members tree start m is inside small ready w. absurd (c.if2.true ready.by_name.whole), omega arith)
 
 returns-3 : tie.Need-returns-3 invariant-loop decreases-loop
 returns-3 c =
     let a = c.before.before.before.before.before.before.args in
-    (λ S (cs : List ℕ) members tree start m (is : length cs ≡ a.count) inside small ready w. let few = ready.byName.eightPoints in absurd (omega arith), omega arith)
+    (λ S (cs : List ℕ) members tree start m (is : length cs ≡ a.count) inside small ready w. let few = ready.by_name.eight_points in absurd (omega arith), omega arith)
 
 loop-holds : tie.Need-loop-init invariant-loop decreases-loop
 loop-holds c =
@@ -77,12 +77,12 @@ loop-again c =
       l.invariant.1,
       omega arith,
       p.auto.0 ∙ l.invariant.3,
-      λ (S : Set) (cs members : List ℕ) (tree : Term) (start : List ℕ) (m : ℕ) (is : length cs ≡ a.count) inside (small : a.n + chainRoom ≤ lastIndex) ready w.
+      λ (S : Set) (cs members : List ℕ) (tree : Term) (start : List ℕ) (m : ℕ) (is : length cs ≡ a.count) inside (small : a.n + chain_room ≤ last_index) ready w.
           let links = link S cs 0 waits a.t 0 in
           let here : l.p < length cs = omega arith in
           chain_more (place_of a.slots.now) links tree start m _ _ _ l.p
-          (p.ensures.0 (place_of a.slots.now) (links l.p) (chainOf links l.p tree) start m (omega arith)
-          (c.before.before.before.before.contained.ensures S cs members m inside here ready ∙ or-placed (place_of a.slots.now) {d = contains S a.t (get_or cs l.p 0)} refl (slot held a.t l.p))
+          (p.ensures.0 (place_of a.slots.now) (links l.p) (chain_of links l.p tree) start m (omega arith)
+          (c.before.before.before.before.contained.ensures S cs members m inside here ready ∙ or_placed (place_of a.slots.now) {d = contains S a.t (get_or cs l.p 0)} refl (slot held a.t l.p))
           (l.invariant.4 S cs members tree start m is inside small ready w)),
     )
 
@@ -95,7 +95,7 @@ returns-4 c =
     let l = c.before.loop in (
       λ (S : Set) (cs members : List ℕ) (tree : Term) (start : List ℕ) (m : ℕ) (is : length cs ≡ a.count) inside small ready w.
           let end : l.p ≡ length cs = omega arith in
-          subst (λ (j : ℕ). WritesTree (place_of a.slots.now) (chainOf (link S cs 0 waits a.t 0) j tree) start m l.out l.tree.next l.tree.at)
+          subst (λ (j : ℕ). WritesTree (place_of a.slots.now) (chain_of (link S cs 0 waits a.t 0) j tree) start m l.out l.tree.next l.tree.at)
           end (l.invariant.4 S cs members tree start m is inside small ready w),
       omega arith,
     )

@@ -6,12 +6,12 @@ use Prim.Native.Nat.{◌+◌}
 use lib.Dec.{eqb}
 use Rattle.base.proofs.Choice.{or_left, or_right}
 use Rattle.records.specs.Sets.{Set}
-use Rattle.encoding.specs.Slots.{slot, active, bitOne, test, notTest}
-use Rattle.encoding.specs.Steps.{only, isConditional, is_plain, rests}
+use Rattle.encoding.specs.Slots.{slot, active, bit_one, test, not_test}
+use Rattle.encoding.specs.Steps.{only, is_conditional, is_plain, rests}
 use Rattle.encoder_slots.specs.Places.{place_of}
-use Rattle.encoder_chains.proofs.Leads.{if-placed, leads-none, leads-rests, leads-always, leads-on, leads-taken, leads-missed, contrary, tested, leads-by}
+use Rattle.encoder_chains.proofs.Leads.{if_placed, leads-none, leads-rests, leads_always, leads-on, leads-taken, leads_missed, contrary, tested, leads-by}
 use Rattle.records.specs.Instructions.{JMP}
-use Rattle.table.specs.Formulas.{bitSort}
+use Rattle.table.specs.Formulas.{bit_sort}
 use borrow.Author.Rules.{rules}
 use Rattle.encoder_chains.proofs.edges.leads.Statement.{statement}
 use Rattle.encoder_chains.proofs.edges.leads.Tie as tie
@@ -22,7 +22,7 @@ goes c = sym c.before.rests.ensures ∙ c.if2.false
 
 both : (c : tie.After-is-conditional) → let a = c.before.before.before.before.before.args in
     let n = a.statement.number in let goal = a.statement.argument in
-    (eqb n JMP || c.is-conditional.result && eqb goal (a.i + 1)) ≡ (eqb n JMP || isConditional n && eqb goal (a.i + 1))
+    (eqb n JMP || c.is-conditional.result && eqb goal (a.i + 1)) ≡ (eqb n JMP || is_conditional n && eqb goal (a.i + 1))
 both c =
     let a = c.before.before.before.before.before.args in
     ap (λ (b : Bool). eqb a.statement.number JMP || b && eqb a.statement.argument (a.i + 1)) c.is-conditional.ensures
@@ -66,8 +66,8 @@ returns-3 : tie.Need-returns-3
 returns-3 c =
     let d = c.before.before in
     let a = d.before.before.before.before.before.args in
-    λ (S : Set) is. c.bit-if.ensures ∙ if-placed (place_of a.slots.now) {d = eqb a.statement.argument a.j} refl bitSort (slot active a.t a.i) (only bitOne)
-    ∙ leads-by (place_of a.slots.now) a.statement S a.t a.j a.i is (leads-always a.statement _ _ _ _ (goes d.before) (sym (both d) ∙ c.before.if3.true))
+    λ (S : Set) is. c.bit-if.ensures ∙ if_placed (place_of a.slots.now) {d = eqb a.statement.argument a.j} refl bit_sort (slot active a.t a.i) (only bit_one)
+    ∙ leads-by (place_of a.slots.now) a.statement S a.t a.j a.i is (leads_always a.statement _ _ _ _ (goes d.before) (sym (both d) ∙ c.before.if3.true))
 
 is-plain-requires : tie.Need-is-plain-requires
 is-plain-requires c κs = search rules
@@ -80,7 +80,7 @@ returns-4 c =
     let g = c.before.before.before in
     let d = g.before.before in
     let a = d.before.before.before.before.before.args in
-    λ (S : Set) is. c.by-test.ensures ∙ tested (place_of a.slots.now) a.t a.i (ap (λ (b : Bool). cond b test notTest) c.before.is-plain.ensures)
+    λ (S : Set) is. c.by-test.ensures ∙ tested (place_of a.slots.now) a.t a.i (ap (λ (b : Bool). cond b test not_test) c.before.is-plain.ensures)
     ∙ leads-by (place_of a.slots.now) a.statement S a.t a.j a.i is
     (leads-taken a.statement _ _ _ _ (goes d.before) (sym (both d) ∙ g.before.if3.false) (sym d.is-conditional.ensures ∙ g.if4.true) c.before.before.if5.true)
 
@@ -99,9 +99,9 @@ returns-5 c =
     let missed = c.before.before.if5.false in
     let next = sym (ap (λ (b : Bool). b || eqb (a.i + 1) a.j) missed) ∙ not-false _ e.if1.false in
     λ (S : Set) is. c.by-test2.ensures
-    ∙ tested (place_of a.slots.now) a.t a.i (ap (λ (b : Bool). cond (not b) test notTest) c.before.is-plain2.ensures ∙ contrary (is_plain a.statement.number))
+    ∙ tested (place_of a.slots.now) a.t a.i (ap (λ (b : Bool). cond (not b) test not_test) c.before.is-plain2.ensures ∙ contrary (is_plain a.statement.number))
     ∙ leads-by (place_of a.slots.now) a.statement S a.t a.j a.i is
-    (leads-missed a.statement _ _ _ _ (goes d.before) (sym (both d) ∙ g.before.if3.false) (sym d.is-conditional.ensures ∙ g.if4.true) missed next)
+    (leads_missed a.statement _ _ _ _ (goes d.before) (sym (both d) ∙ g.before.if3.false) (sym d.is-conditional.ensures ∙ g.if4.true) missed next)
 
 bit-if-requires-2 : tie.Need-bit-if-requires-2
 bit-if-requires-2 c κs = search rules
@@ -110,7 +110,7 @@ returns-6 : tie.Need-returns-6
 returns-6 c =
     let d = c.before.before.before in
     let a = d.before.before.before.before.before.args in
-    λ (S : Set) is. c.bit-if2.ensures ∙ if-placed (place_of a.slots.now) {d = eqb (a.i + 1) a.j} refl bitSort (slot active a.t a.i) (only bitOne)
+    λ (S : Set) is. c.bit-if2.ensures ∙ if_placed (place_of a.slots.now) {d = eqb (a.i + 1) a.j} refl bit_sort (slot active a.t a.i) (only bit_one)
     ∙ leads-by (place_of a.slots.now) a.statement S a.t a.j a.i is
     (leads-on a.statement _ _ _ _ (goes d.before) (sym (both d) ∙ c.before.before.if3.false) (sym d.is-conditional.ensures ∙ c.before.if4.false))
 

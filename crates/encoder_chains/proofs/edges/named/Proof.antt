@@ -1,9 +1,9 @@
 -- `encoder_chains::edges::named` meets its contract. Assumes nothing.
-use Rattle.encoder_chains.proofs.Leads.{named-always, named-test, tested, leads-by}
-use Rattle.set_index.specs.Members.{namesTarget}
+use Rattle.encoder_chains.proofs.Leads.{named_always, named-test, tested, leads-by}
+use Rattle.set_index.specs.Members.{names_target}
 use Rattle.encoder_slots.specs.Places.{place_of}
 use Rattle.encoding.specs.Steps.{is_plain}
-use Rattle.encoding.specs.Slots.{test, notTest}
+use Rattle.encoding.specs.Slots.{test, not_test}
 use Rattle.records.specs.Sets.{Set}
 use borrow.Author.Tests.{eq-eqb, ne_eqb}
 use lib.Dec.{eqb}
@@ -21,9 +21,9 @@ bit-if-requires c κs = search rules
 returns : tie.Need-returns
 returns c =
     let a = c.before.before.before.args in
-    λ (S : Set) (j : ℕ) (is : a.n ≡ (S.statement a.t a.i).number) (names : namesTarget (S.statement a.t a.i) j ≡ true) (apart : j ≡ a.i + 1 → ⊥).
+    λ (S : Set) (j : ℕ) (is : a.n ≡ (S.statement a.t a.i).number) (names : names_target (S.statement a.t a.i) j ≡ true) (apart : j ≡ a.i + 1 → ⊥).
     c.bit-if.ensures
-    ∙ leads-by (place_of a.slots.now) (S.statement a.t a.i) S a.t j a.i refl (named-always (S.statement a.t a.i) a.t j a.i names (ap (λ (n : ℕ). eqb n JMP) (sym is) ∙ eq-eqb _ _ c.before.if1.true))
+    ∙ leads-by (place_of a.slots.now) (S.statement a.t a.i) S a.t j a.i refl (named_always (S.statement a.t a.i) a.t j a.i names (ap (λ (n : ℕ). eqb n JMP) (sym is) ∙ eq-eqb _ _ c.before.if1.true))
 
 is-plain-requires : tie.Need-is-plain-requires
 is-plain-requires c κs = search rules
@@ -34,9 +34,9 @@ by-test-requires c κs = search rules
 returns-2 : tie.Need-returns-2
 returns-2 c =
     let a = c.before.before.before.before.args in
-    λ (S : Set) (j : ℕ) (is : a.n ≡ (S.statement a.t a.i).number) (names : namesTarget (S.statement a.t a.i) j ≡ true) (apart : j ≡ a.i + 1 → ⊥).
+    λ (S : Set) (j : ℕ) (is : a.n ≡ (S.statement a.t a.i).number) (names : names_target (S.statement a.t a.i) j ≡ true) (apart : j ≡ a.i + 1 → ⊥).
     c.by-test.ensures
-    ∙ tested (place_of a.slots.now) a.t a.i (ap (λ (b : Bool). cond b test notTest) (c.before.is-plain.ensures ∙ ap (λ (n : ℕ). is_plain n) is))
+    ∙ tested (place_of a.slots.now) a.t a.i (ap (λ (b : Bool). cond b test not_test) (c.before.is-plain.ensures ∙ ap (λ (n : ℕ). is_plain n) is))
     ∙ leads-by (place_of a.slots.now) (S.statement a.t a.i) S a.t j a.i refl (named-test (S.statement a.t a.i) a.t j a.i names (ap (λ (n : ℕ). eqb n JMP) (sym is) ∙ ne_eqb _ _ c.before.before.if1.false) apart)
 
 pub named-spec : {M : Type 1} → statement M

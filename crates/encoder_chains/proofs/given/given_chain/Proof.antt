@@ -6,7 +6,7 @@ use Prim.Native.Nat.{ℕ}
 use Rattle.encoding.specs.Slots.{Term}
 use Rattle.encoder_slots.specs.Pieces.{WritesTree}
 use Rattle.encoder_slots.specs.Places.{place_of}
-use Rattle.encoder_chains.proofs.Givers.{gives-own, gives-bit, gives-accu, gives-chain}
+use Rattle.encoder_chains.proofs.Givers.{gives_own, gives_bit, gives_accu, gives_chain}
 use borrow.Author.Rules.{rules}
 use Rattle.encoder_chains.proofs.given.given_chain.Statement.{statement}
 use Rattle.encoder_chains.proofs.given.given_chain.Tie as tie
@@ -28,9 +28,9 @@ returns c =
     let put = c.before.before.own-links in (
       (λ (S : Set) (cs lists : List ℕ) (tree : Term) (start : List ℕ) (m : ℕ) row few ready w.
           subst (λ (x : Term). WritesTree (place_of a.slots.now) x start m put.new.1.1.0 put.result.next put.result.at)
-          (gives-chain a.kind giver.result gives a.t S tree (S.count a.t))
+          (gives_chain a.kind giver.result gives a.t S tree (S.count a.t))
           (put.ensures.0 S cs lists (gives.link a.t) tree start m gives.small.0 gives.small.1 row few ready
-          (λ h i. gives-own a.kind giver.result gives a.t a.slots.now h i c.before.before.before.before.if1.true)
+          (λ h i. gives_own a.kind giver.result gives a.t a.slots.now h i c.before.before.before.before.if1.true)
           w)),
       put.ensures.1,
     )
@@ -52,9 +52,9 @@ returns-2 c =
     let put = c.before.before.fixed-links in (
       (λ (S : Set) (cs lists : List ℕ) (tree : Term) (start : List ℕ) (m : ℕ) row few ready w.
           subst (λ (x : Term). WritesTree (place_of a.slots.now) x start m put.new.1.1.0 put.result.next put.result.at)
-          (gives-chain a.kind giver.result gives a.t S tree (S.count a.t))
+          (gives_chain a.kind giver.result gives a.t S tree (S.count a.t))
           (put.ensures.0 S cs lists (gives.link a.t) tree start m gives.small.0 row few ready
-          (λ h i. gives-bit a.kind giver.result gives a.t a.slots.now h i _ c.before.before.before.before.place.ensures c.before.before.before.before.before.before.before.if1.false c.before.before.before.before.before.if2.true)
+          (λ h i. gives_bit a.kind giver.result gives a.t a.slots.now h i _ c.before.before.before.before.place.ensures c.before.before.before.before.before.before.before.if1.false c.before.before.before.before.before.if2.true)
           w)),
       put.ensures.1,
     )
@@ -76,9 +76,9 @@ returns-3 c =
     let put = c.before.before.fixed-links2 in (
       (λ (S : Set) (cs lists : List ℕ) (tree : Term) (start : List ℕ) (m : ℕ) row few ready w.
           subst (λ (x : Term). WritesTree (place_of a.slots.now) x start m put.new.1.1.0 put.result.next put.result.at)
-          (gives-chain a.kind giver.result gives a.t S tree (S.count a.t))
+          (gives_chain a.kind giver.result gives a.t S tree (S.count a.t))
           (put.ensures.0 S cs lists (gives.link a.t) tree start m gives.small.0 row few ready
-          (λ h i. gives-accu a.kind giver.result gives a.t a.slots.now h i _ c.before.before.before.before.place2.ensures c.before.before.before.before.before.before.before.if1.false c.before.before.before.before.before.if2.false)
+          (λ h i. gives_accu a.kind giver.result gives a.t a.slots.now h i _ c.before.before.before.before.place2.ensures c.before.before.before.before.before.before.before.if1.false c.before.before.before.before.before.if2.false)
           w)),
       put.ensures.1,
     )

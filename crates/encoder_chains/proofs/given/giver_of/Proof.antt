@@ -3,11 +3,11 @@ use native.Mathlib.Omega.{arith}
 use mathlib.Core.Path.{refl, sym, ap, subst}
 use mathlib.Core.Bool.{true≢false}
 use Prim.Native.Nat.{ℕ}
-use Rattle.encoding.specs.Slots.{slot, active, swaps, address, loaded, result, accu, bitOne, argument}
-use Rattle.encoding.specs.Steps.{skip, ifThen, only}
-use Rattle.encoder_chains.specs.Given.{Gives, givenLink}
-use Rattle.encoder_chains.proofs.Skips.{given-else}
-use Rattle.table.specs.Formulas.{bitSort, wordSort}
+use Rattle.encoding.specs.Slots.{slot, active, swaps, address, loaded, result, accu, bit_one, argument}
+use Rattle.encoding.specs.Steps.{skip, if_then, only}
+use Rattle.encoder_chains.specs.Given.{Gives, given_link}
+use Rattle.encoder_chains.proofs.Skips.{given_else}
+use Rattle.table.specs.Formulas.{bit_sort, word_sort}
 use borrow.Author.Rules.{rules}
 use Rattle.encoder_chains.proofs.given.giver_of.Statement.{statement}
 use Rattle.encoder_chains.proofs.given.giver_of.Tie as tie
@@ -52,8 +52,8 @@ returns : tie.Need-returns
 returns c =
     subst (Gives c.before.before.args.kind) (sym c.sets-bit.ensures)
     (record {
-      link = λ (t i : ℕ). ifThen bitSort (slot active t i) (only bitOne);
-      inside = λ t i n. ap (λ (k : ℕ). givenLink k t i n) c.before.match.keys1;
+      link = λ (t i : ℕ). if_then bit_sort (slot active t i) (only bit_one);
+      inside = λ t i n. ap (λ (k : ℕ). given_link k t i n) c.before.match.keys1;
       places = λ slots t i h. refl;
       small = (omega arith, omega arith, λ e. absurd (true≢false (sym e)));
     })
@@ -62,8 +62,8 @@ returns-2 : tie.Need-returns-2
 returns-2 c =
     subst (Gives c.before.before.args.kind) (sym c.gives-own.ensures)
     (record {
-      link = λ (t i : ℕ). ifThen wordSort (slot swaps t i) (slot address t i);
-      inside = λ t i n. ap (λ (k : ℕ). givenLink k t i n) c.before.match.keys2;
+      link = λ (t i : ℕ). if_then word_sort (slot swaps t i) (slot address t i);
+      inside = λ t i n. ap (λ (k : ℕ). given_link k t i n) c.before.match.keys2;
       places = λ slots t i h. refl;
       small = (omega arith, omega arith, λ e. refl);
     })
@@ -72,8 +72,8 @@ returns-3 : tie.Need-returns-3
 returns-3 c =
     subst (Gives c.before.before.args.kind) (sym c.gives-accu.ensures)
     (record {
-      link = λ (t i : ℕ). ifThen wordSort (slot swaps t i) (slot accu t 0);
-      inside = λ t i n. ap (λ (k : ℕ). givenLink k t i n) c.before.match.keys3;
+      link = λ (t i : ℕ). if_then word_sort (slot swaps t i) (slot accu t 0);
+      inside = λ t i n. ap (λ (k : ℕ). given_link k t i n) c.before.match.keys3;
       places = λ slots t i h. refl;
       small = (omega arith, omega arith, λ e. absurd (true≢false (sym e)));
     })
@@ -82,8 +82,8 @@ returns-4 : tie.Need-returns-4
 returns-4 c =
     subst (Gives c.before.before.args.kind) (sym c.sets-bit2.ensures)
     (record {
-      link = λ (t i : ℕ). ifThen bitSort (slot active t i) (only bitOne);
-      inside = λ t i n. ap (λ (k : ℕ). givenLink k t i n) c.before.match.keys4;
+      link = λ (t i : ℕ). if_then bit_sort (slot active t i) (only bit_one);
+      inside = λ t i n. ap (λ (k : ℕ). given_link k t i n) c.before.match.keys4;
       places = λ slots t i h. refl;
       small = (omega arith, omega arith, λ e. absurd (true≢false (sym e)));
     })
@@ -92,8 +92,8 @@ returns-5 : tie.Need-returns-5
 returns-5 c =
     subst (Gives c.before.before.args.kind) (sym c.gives-own2.ensures)
     (record {
-      link = λ (t i : ℕ). ifThen wordSort (slot active t i) (slot argument t i);
-      inside = λ t i n. ap (λ (k : ℕ). givenLink k t i n) c.before.match.keys5;
+      link = λ (t i : ℕ). if_then word_sort (slot active t i) (slot argument t i);
+      inside = λ t i n. ap (λ (k : ℕ). given_link k t i n) c.before.match.keys5;
       places = λ slots t i h. refl;
       small = (omega arith, omega arith, λ e. refl);
     })
@@ -102,8 +102,8 @@ returns-6 : tie.Need-returns-6
 returns-6 c =
     subst (Gives c.before.before.args.kind) (sym c.gives-accu2.ensures)
     (record {
-      link = λ (t i : ℕ). ifThen wordSort (slot active t i) (slot accu t 0);
-      inside = λ t i n. ap (λ (k : ℕ). givenLink k t i n) c.before.match.keys6;
+      link = λ (t i : ℕ). if_then word_sort (slot active t i) (slot accu t 0);
+      inside = λ t i n. ap (λ (k : ℕ). given_link k t i n) c.before.match.keys6;
       places = λ slots t i h. refl;
       small = (omega arith, omega arith, λ e. absurd (true≢false (sym e)));
     })
@@ -112,8 +112,8 @@ returns-7 : tie.Need-returns-7
 returns-7 c =
     subst (Gives c.before.before.args.kind) (sym c.gives-own3.ensures)
     (record {
-      link = λ (t i : ℕ). ifThen wordSort (slot active t i) (slot address t i);
-      inside = λ t i n. ap (λ (k : ℕ). givenLink k t i n) c.before.match.keys7;
+      link = λ (t i : ℕ). if_then word_sort (slot active t i) (slot address t i);
+      inside = λ t i n. ap (λ (k : ℕ). given_link k t i n) c.before.match.keys7;
       places = λ slots t i h. refl;
       small = (omega arith, omega arith, λ e. refl);
     })
@@ -122,8 +122,8 @@ returns-8 : tie.Need-returns-8
 returns-8 c =
     subst (Gives c.before.before.args.kind) (sym c.gives-own4.ensures)
     (record {
-      link = λ (t i : ℕ). ifThen wordSort (slot active t i) (slot loaded t i);
-      inside = λ t i n. ap (λ (k : ℕ). givenLink k t i n) c.before.match.keys8;
+      link = λ (t i : ℕ). if_then word_sort (slot active t i) (slot loaded t i);
+      inside = λ t i n. ap (λ (k : ℕ). given_link k t i n) c.before.match.keys8;
       places = λ slots t i h. refl;
       small = (omega arith, omega arith, λ e. refl);
     })
@@ -132,8 +132,8 @@ returns-9 : tie.Need-returns-9
 returns-9 c =
     subst (Gives c.before.before.args.kind) (sym c.gives-own5.ensures)
     (record {
-      link = λ (t i : ℕ). ifThen wordSort (slot active t i) (slot result t i);
-      inside = λ t i n. ap (λ (k : ℕ). givenLink k t i n) c.before.match.keys9;
+      link = λ (t i : ℕ). if_then word_sort (slot active t i) (slot result t i);
+      inside = λ t i n. ap (λ (k : ℕ). given_link k t i n) c.before.match.keys9;
       places = λ slots t i h. refl;
       small = (omega arith, omega arith, λ e. refl);
     })
@@ -142,8 +142,8 @@ returns-10 : tie.Need-returns-10
 returns-10 c =
     subst (Gives c.before.before.args.kind) (sym c.sets-bit3.ensures)
     (record {
-      link = λ (t i : ℕ). ifThen bitSort (slot active t i) (only bitOne);
-      inside = λ t i n. ap (λ (k : ℕ). givenLink k t i n) c.before.match.keys10;
+      link = λ (t i : ℕ). if_then bit_sort (slot active t i) (only bit_one);
+      inside = λ t i n. ap (λ (k : ℕ). given_link k t i n) c.before.match.keys10;
       places = λ slots t i h. refl;
       small = (omega arith, omega arith, λ e. absurd (true≢false (sym e)));
     })
@@ -152,8 +152,8 @@ returns-11 : tie.Need-returns-11
 returns-11 c =
     subst (Gives c.before.before.args.kind) (sym c.sets-bit4.ensures)
     (record {
-      link = λ (t i : ℕ). ifThen bitSort (slot active t i) (only bitOne);
-      inside = λ t i n. ap (λ (k : ℕ). givenLink k t i n) c.before.match.keys11;
+      link = λ (t i : ℕ). if_then bit_sort (slot active t i) (only bit_one);
+      inside = λ t i n. ap (λ (k : ℕ). given_link k t i n) c.before.match.keys11;
       places = λ slots t i h. refl;
       small = (omega arith, omega arith, λ e. absurd (true≢false (sym e)));
     })
@@ -164,7 +164,7 @@ returns-12 c =
     subst (Gives a.kind) (sym c.sets-bit5.ensures)
     (record {
       link = λ (t i : ℕ). skip;
-      inside = λ t i n. given-else a.kind t i n c.before.match.rest;
+      inside = λ t i n. given_else a.kind t i n c.before.match.rest;
       places = λ slots t i h. absurd (omega arith);
       small = (omega arith, omega arith, λ e. absurd (true≢false (sym e)));
     })

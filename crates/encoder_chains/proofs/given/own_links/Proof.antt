@@ -8,24 +8,24 @@ use Prim.Native.Nat.{ℕ, ◌+◌, ◌-◌, ◌≤◌, ◌<◌}
 use lib.ListN.{length, get_or}
 use Rattle.encoding.specs.Slots.{Term}
 use Rattle.encoding.specs.Steps.{Link, skip}
-use Rattle.encoder_slots.specs.Pieces.{WritesTree, Ready, chainRoom}
-use Rattle.encoder_slots.specs.Places.{place_of, placeFrom}
+use Rattle.encoder_slots.specs.Pieces.{WritesTree, Ready, chain_room}
+use Rattle.encoder_slots.specs.Places.{place_of, place_from}
 use Rattle.encoder_slots.proofs.Ready.{ready-thread}
-use Rattle.encoder_chains.specs.Placed.{placedLink, ifLink}
-use Rattle.set_index.specs.Members.{members_of, ofClass, classCount}
-use Rattle.set_index.proofs.Listed.{over, class-past, members-chain}
+use Rattle.encoder_chains.specs.Placed.{placed_link, if_link}
+use Rattle.set_index.specs.Members.{members_of, of_class, class_count}
+use Rattle.set_index.proofs.Listed.{over, class_past, members-chain}
 use Rattle.encoder_chains.proofs.Trees.{chain-none, chain_more, chain-to}
-use Rattle.table.specs.Formulas.{wordSort}
+use Rattle.table.specs.Formulas.{word_sort}
 use borrow.Author.Rules.{rules}
 use Rattle.encoder_chains.proofs.given.own_links.Statement.{statement}
 use Rattle.encoder_chains.proofs.given.own_links.Tie as tie
-use Rattle.table.specs.Repeats.{lastIndex}
+use Rattle.table.specs.Repeats.{last_index}
 
 abbrev invariant-loop : tie.invariant-loop
 invariant-loop members slots out₀ class test effect t n base tree₀ many j₀ out tree j =
-    (j ≤ many) × (many ≤ chainRoom) × (tree.next ≤ n + j) × (length out ≡ length out₀)
-    × ((S : Set) (cs lists : List ℕ) (links : ℕ → Link) (base-tree : Term) (start : List ℕ) (m : ℕ) → class < classCount → t < S.threads → n + chainRoom ≤ lastIndex → Ready S cs members lists slots m
-    → ((i : ℕ) → ifLink wordSort (placeFrom slots test t i 0) (placeFrom slots effect t i 2) ≡ placedLink (place_of slots) (links i))
+    (j ≤ many) × (many ≤ chain_room) × (tree.next ≤ n + j) × (length out ≡ length out₀)
+    × ((S : Set) (cs lists : List ℕ) (links : ℕ → Link) (base-tree : Term) (start : List ℕ) (m : ℕ) → class < class_count → t < S.threads → n + chain_room ≤ last_index → Ready S cs members lists slots m
+    → ((i : ℕ) → if_link word_sort (place_from slots test t i 0) (place_from slots effect t i 2) ≡ placed_link (place_of slots) (links i))
     → WritesTree (place_of slots) base-tree start m out₀ n base
     → WritesTree (place_of slots) (over links base-tree (members_of S class t) j) start m out tree.next tree.at)
 
@@ -36,9 +36,9 @@ returns : tie.Need-returns invariant-loop decreases-loop
 returns c =
     let a = c.before.before.before.before.args in (
       (λ (S : Set) (cs lists : List ℕ) (links : ℕ → Link) (tree : Term) (start : List ℕ) (m : ℕ) wide reach row small ready is w.
-          chain-to (place_of a.slots.now) (ofClass S a.class a.t links) tree start m a.out.now a.n a.base 0 (S.count a.t) (omega arith)
-          (λ (x : ℕ) (p : 0 ≤ x) (q : x < S.count a.t). passed (links x) skip (class-past a.class (S.statement a.t x).number c.if1.true))
-          (chain-none (place_of a.slots.now) (ofClass S a.class a.t links) tree start m a.out.now a.n a.base w)),
+          chain-to (place_of a.slots.now) (of_class S a.class a.t links) tree start m a.out.now a.n a.base 0 (S.count a.t) (omega arith)
+          (λ (x : ℕ) (p : 0 ≤ x) (q : x < S.count a.t). passed (links x) skip (class_past a.class (S.statement a.t x).number c.if1.true))
+          (chain-none (place_of a.slots.now) (of_class S a.class a.t links) tree start m a.out.now a.n a.base w)),
       omega arith,
     )
 
@@ -60,12 +60,12 @@ returns-4 c =
 returns-5 : tie.Need-returns-5 invariant-loop decreases-loop
 returns-5 c =
     let a = c.before.before.before.before.before.before.before.before.args in
-    (λ S cs lists links tree start m wide reach row small ready is w. absurd (c.if5.true ready.allPlaces), omega arith)
+    (λ S cs lists links tree start m wide reach row small ready is w. absurd (c.if5.true ready.all_places), omega arith)
 
 returns-6 : tie.Need-returns-6 invariant-loop decreases-loop
 returns-6 c =
     let a = c.before.before.before.before.before.before.before.before.before.args in
-    (λ S cs lists links tree start m wide reach row small ready is w. absurd (c.if6.true ready.byClass.whole), omega arith)
+    (λ S cs lists links tree start m wide reach row small ready is w. absurd (c.if6.true ready.by_class.whole), omega arith)
 
 count-of-requires : tie.Need-count-of-requires invariant-loop decreases-loop
 count-of-requires c κs = search rules
@@ -111,16 +111,16 @@ loop-again c =
       l.invariant.1,
       omega arith,
       p.auto.0 ∙ l.invariant.3,
-      λ (S : Set) (cs lists : List ℕ) (links : ℕ → Link) (tree : Term) (start : List ℕ) (m : ℕ) class row (small : a.n + chainRoom ≤ lastIndex) (ready : Ready S cs a.members.now lists a.slots.now m)
-          (is : (i : ℕ) → ifLink wordSort (placeFrom a.slots.now a.test a.t i 0) (placeFrom a.slots.now a.effect a.t i 2) ≡ placedLink (place_of a.slots.now) (links i)) w.
+      λ (S : Set) (cs lists : List ℕ) (links : ℕ → Link) (tree : Term) (start : List ℕ) (m : ℕ) class row (small : a.n + chain_room ≤ last_index) (ready : Ready S cs a.members.now lists a.slots.now m)
+          (is : (i : ℕ) → if_link word_sort (place_from a.slots.now a.test a.t i 0) (place_from a.slots.now a.effect a.t i 2) ≡ placed_link (place_of a.slots.now) (links i)) w.
           let ms = members_of S a.class a.t in
           let within = ready-thread ready row in
-          let many = count.ensures.0 S ready.byClass class within in
+          let many = count.ensures.0 S ready.by_class class within in
           let inside : l.j < length ms = omega arith in
-          let here = at.ensures S ready.byClass class within inside in
+          let here = at.ensures S ready.by_class class within inside in
           chain_more (place_of a.slots.now) (λ (j : ℕ). links (get_or ms j 0)) tree start m _ _ _ l.j
           (p.ensures.0 (place_of a.slots.now) (links (get_or ms l.j 0)) (over links tree ms l.j) start m (omega arith)
-          ((λ z. ifLink wordSort (c.before.before.before.before.before.place.ensures z) (c.before.before.before.before.place2.ensures z)) ∙ (is at.result ∙ ap (λ (x : ℕ). placedLink (place_of a.slots.now) (links x)) here))
+          ((λ z. if_link word_sort (c.before.before.before.before.before.place.ensures z) (c.before.before.before.before.place2.ensures z)) ∙ (is at.result ∙ ap (λ (x : ℕ). placed_link (place_of a.slots.now) (links x)) here))
           (l.invariant.4 S cs lists links tree start m class row small ready is w)),
     )
 
@@ -132,10 +132,10 @@ returns-7 c =
     let a = c.before.before.before.before.before.before.before.before.before.before.before.before.args in
     let l = c.before.loop in (
       (λ (S : Set) (cs lists : List ℕ) (links : ℕ → Link) (tree : Term) (start : List ℕ) (m : ℕ) wide reach row small ready is w.
-          let class : a.class < classCount = omega arith in
+          let class : a.class < class_count = omega arith in
           let ms = members_of S a.class a.t in
           let within = ready-thread ready row in
-          let many = c.before.before.count_of.ensures.0 S ready.byClass class within in
+          let many = c.before.before.count_of.ensures.0 S ready.by_class class within in
           let end : l.j ≡ length ms = omega arith in
           subst (λ (x : Term). WritesTree (place_of a.slots.now) x start m l.out l.tree.next l.tree.at)
           (ap (over links tree ms) end ∙ members-chain links tree S a.class a.t (S.count a.t))

@@ -1,8 +1,8 @@
 -- `encoder_chains::parts::bit_if` meets its contract. Assumes nothing.
-use Rattle.encoder_chains.specs.Placed.{ifLink}
+use Rattle.encoder_chains.specs.Placed.{if_link}
 use Rattle.base.proofs.Choice.{chosen}
 use mathlib.Core.Path.{sym, ◌∙◌}
-use Rattle.table.specs.Formulas.{bitSort}
+use Rattle.table.specs.Formulas.{bit_sort}
 use borrow.Author.Rules.{rules}
 use Rattle.encoder_chains.proofs.parts.bit_if.Statement.{statement}
 use Rattle.encoder_chains.proofs.parts.bit_if.Tie as tie
@@ -18,7 +18,7 @@ place-requires-2 : tie.Need-place-requires-2
 place-requires-2 c κs = search rules
 
 returns : tie.Need-returns
-returns c = (λ z. ifLink bitSort (c.before.place.ensures z) (c.place2.ensures z)) ∙ sym (chosen _ _ c.before.before.if1.true)
+returns c = (λ z. if_link bit_sort (c.before.place.ensures z) (c.place2.ensures z)) ∙ sym (chosen _ _ c.before.before.if1.true)
 
 none-requires : tie.Need-none-requires
 none-requires c κs = search rules

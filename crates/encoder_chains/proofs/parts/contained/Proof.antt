@@ -1,5 +1,5 @@
 -- `encoder_chains::parts::contained` meets its contract. Assumes nothing.
-use Rattle.encoder_chains.specs.Placed.{bitLink}
+use Rattle.encoder_chains.specs.Placed.{bit_link}
 use Rattle.base.proofs.Choice.{chosen, passed}
 use mathlib.Core.Path.{sym, ◌∙◌}
 use borrow.Author.Rules.{rules}
@@ -16,13 +16,13 @@ returns : tie.Need-returns
 returns c =
     let a = c.before.before.before.before.before.args in
     λ S cs members m row column ready.
-    (λ z. bitLink a.operation (c.place.ensures z)) ∙ sym (chosen _ _ (sym (c.before.before.contains.ensures S cs ready.byName row column) ∙ c.before.if1.true))
+    (λ z. bit_link a.operation (c.place.ensures z)) ∙ sym (chosen _ _ (sym (c.before.before.contains.ensures S cs ready.by_name row column) ∙ c.before.if1.true))
 
 none-requires : tie.Need-none-requires
 none-requires c κs = search rules
 
 returns-2 : tie.Need-returns-2
-returns-2 c = λ S cs members m row column ready. c.none.ensures ∙ sym (passed _ _ (sym (c.before.before.contains.ensures S cs ready.byName row column) ∙ c.before.if1.false))
+returns-2 c = λ S cs members m row column ready. c.none.ensures ∙ sym (passed _ _ (sym (c.before.before.contains.ensures S cs ready.by_name row column) ∙ c.before.if1.false))
 
 pub contained-spec : {M : Type 1} → statement M
 contained-spec =

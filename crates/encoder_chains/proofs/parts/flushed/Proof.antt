@@ -1,6 +1,6 @@
 -- `encoder_chains::parts::flushed` meets its contract. Assumes nothing.
-use Rattle.encoder_chains.specs.Placed.{ifLink}
-use Rattle.table.specs.Formulas.{wordSort}
+use Rattle.encoder_chains.specs.Placed.{if_link}
+use Rattle.table.specs.Formulas.{word_sort}
 use borrow.Author.Rules.{rules}
 use Rattle.encoder_chains.proofs.parts.flushed.Statement.{statement}
 use Rattle.encoder_chains.proofs.parts.flushed.Tie as tie
@@ -16,7 +16,7 @@ thread-place-requires : tie.Need-thread-place-requires
 thread-place-requires c κs = search rules
 
 returns : tie.Need-returns
-returns c = λ z. ifLink wordSort (c.before.flush-place.ensures z) (c.thread-place.ensures z)
+returns c = λ z. if_link word_sort (c.before.flush-place.ensures z) (c.thread-place.ensures z)
 
 pub flushed-spec : {M : Type 1} → statement M
 flushed-spec = tie.close (tie.spec flush-place-requires thread-place-requires returns)

@@ -1,9 +1,9 @@
 -- `encoder_chains::written::put_link` meets its contract. Assumes nothing.
 use Rattle.encoder_slots.specs.Pieces.{WritesTree}
-use Rattle.encoder_chains.proofs.Trees.{link-none, link-if, link-joined}
+use Rattle.encoder_chains.proofs.Trees.{link-none, link_if, link-joined}
 use Rattle.encoding.specs.Slots.{Slot, Term}
 use Rattle.encoding.specs.Steps.{Link as ChainLink}
-use Rattle.encoder_chains.specs.Placed.{placedLink}
+use Rattle.encoder_chains.specs.Placed.{placed_link}
 use Prim.Native.Nat.{ℕ, ◌≤◌}
 use mathlib.Core.Path.{◌≡◌}
 use mathlib.Core.List.{List}
@@ -11,7 +11,7 @@ use native.Mathlib.Omega.{arith}
 use borrow.Author.Rules.{rules}
 use Rattle.encoder_chains.proofs.written.put_link.Statement.{statement}
 use Rattle.encoder_chains.proofs.written.put_link.Tie as tie
-use Rattle.table.specs.Repeats.{lastIndex}
+use Rattle.table.specs.Repeats.{last_index}
 
 returns : tie.Need-returns
 returns c =
@@ -21,7 +21,7 @@ returns c =
 returns-2 : tie.Need-returns-2
 returns-2 c =
     let a = c.before.before.before.args in (
-      λ (places : Slot → ℕ) (l : ChainLink) (tree : Term) (start : List ℕ) (m : ℕ) (few : a.n ≤ lastIndex) (e : a.link ≡ placedLink places l) (w : WritesTree places tree start m a.out.now a.n a.at).
+      λ (places : Slot → ℕ) (l : ChainLink) (tree : Term) (start : List ℕ) (m : ℕ) (few : a.n ≤ last_index) (e : a.link ≡ placed_link places l) (w : WritesTree places tree start m a.out.now a.n a.at).
           link-none places tree start a.out.now m a.n a.at w a.link l e c.if2.true,
       omega arith,
     )
@@ -38,8 +38,8 @@ same_length c = search rules
 returns-3 : tie.Need-returns-3
 returns-3 c =
     let a = c.before.before.before.before.before.before.before.before.args in (
-      λ (places : Slot → ℕ) (l : ChainLink) (tree : Term) (start : List ℕ) (m : ℕ) (few : a.n ≤ lastIndex) (e : a.link ≡ placedLink places l) (w : WritesTree places tree start m a.out.now a.n a.at).
-          link-if places tree start a.out.now m a.n a.at w a.link l e _ c.before.before.put.ensures c.before.before.before.before.if3.true,
+      λ (places : Slot → ℕ) (l : ChainLink) (tree : Term) (start : List ℕ) (m : ℕ) (few : a.n ≤ last_index) (e : a.link ≡ placed_link places l) (w : WritesTree places tree start m a.out.now a.n a.at).
+          link_if places tree start a.out.now m a.n a.at w a.link l e _ c.before.before.put.ensures c.before.before.before.before.if3.true,
       omega arith,
     )
 
@@ -55,7 +55,7 @@ same-length-2 c = search rules
 returns-4 : tie.Need-returns-4
 returns-4 c =
     let a = c.before.before.before.before.before.before.before.before.args in (
-      λ (places : Slot → ℕ) (l : ChainLink) (tree : Term) (start : List ℕ) (m : ℕ) (few : a.n ≤ lastIndex) (e : a.link ≡ placedLink places l) (w : WritesTree places tree start m a.out.now a.n a.at).
+      λ (places : Slot → ℕ) (l : ChainLink) (tree : Term) (start : List ℕ) (m : ℕ) (few : a.n ≤ last_index) (e : a.link ≡ placed_link places l) (w : WritesTree places tree start m a.out.now a.n a.at).
           link-joined places tree start a.out.now m a.n a.at w a.link l e _ c.before.before.put2.ensures c.before.before.before.before.before.if2.false c.before.before.before.before.if3.false,
       omega arith,
     )

@@ -6,7 +6,7 @@ use borrow.Author.Rules.{rules}
 use Rattle.base.proofs.Below.{none_from}
 use Rattle.records.specs.Instructions.{words, word_of}
 use Rattle.listing_output.specs.Listings.{name}
-use Rattle.listing_output.proofs.Texts.{prints-as}
+use Rattle.listing_output.proofs.Texts.{prints_as}
 use Rattle.listing_output.proofs.lines.access_word.Statement.{statement}
 use Rattle.listing_output.proofs.lines.access_word.Tie as tie
 
@@ -33,14 +33,14 @@ same_length c = search rules
 
 returns : tie.Need-returns
 unfolding name words word_of
-returns c = prints-as (sym (ap name c.before.before.before.before.before.match.keys1)) c.before.before.put.ensures
+returns c = prints_as (sym (ap name c.before.before.before.before.before.match.keys1)) c.before.before.put.ensures
 
 same-length-2 : tie.Need-same-length-2
 same-length-2 c = search rules
 
 returns-2 : tie.Need-returns-2
 unfolding name words word_of
-returns-2 c = prints-as (sym (ap name c.before.before.before.before.before.match.keys2)) c.before.before.put2.ensures
+returns-2 c = prints_as (sym (ap name c.before.before.before.before.before.match.keys2)) c.before.before.put2.ensures
 
 same-length-3 : tie.Need-same-length-3
 same-length-3 c = search rules
@@ -51,7 +51,7 @@ returns-3 c =
     let n = c.before.before.before.before.before.before.before.args.n in
     let h : 2 ≤ n = none_from 0 2 n (omega arith) c.before.before.before.before.before.match.rest in
     let e : n ≡ 2 = omega (arith, c.before.before.before.before.before.before.before.requires) in
-    prints-as (sym (ap name e)) c.before.before.put3.ensures
+    prints_as (sym (ap name e)) c.before.before.put3.ensures
 
 pub access-word-spec : {M : Type 1} → statement M
 access-word-spec =

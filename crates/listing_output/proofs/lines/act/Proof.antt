@@ -4,10 +4,10 @@ use mathlib.Core.List.{append_assoc}
 use mathlib.Core.Path.{◌≡◌, ap}
 use lib.ListN.{get_or}
 use borrow.Author.Rules.{rules}
-use Rattle.base.specs.Bytes.{wordAt}
+use Rattle.base.specs.Bytes.{word_at}
 use Rattle.records.specs.declared.Statement.{Statement}
 use Rattle.listing_output.specs.Listings.{item, name, argument}
-use Rattle.listing_output.proofs.Texts.{stands-as, prints-as, prints-item}
+use Rattle.listing_output.proofs.Texts.{stands_as, prints_as, prints_item}
 use Rattle.listing_output.proofs.lines.act.Statement.{statement}
 use Rattle.listing_output.proofs.lines.act.Tie as tie
 
@@ -57,13 +57,13 @@ returns c =
     let number = c.before.before.before.before.before.before.before.before.before.before.before.before.before.before.before.before.before.before.before.before.before.before.before.before.before.byte_at.ensures in
     let mode = c.before.before.before.before.before.before.before.before.before.before.before.before.before.before.before.before.before.before.before.before.before.before.before.before.byte-at2.ensures in
     let value = c.before.before.before.before.before.before.before.before.before.before.before.before.before.before.before.before.before.before.before.before.before.before.before.word_at.ensures in
-    let i : Statement = record { number = get_or step 1 0; mode = get_or step 6 0; argument = wordAt step 4 } in
+    let i : Statement = record { number = get_or step 1 0; mode = get_or step 6 0; argument = word_at step 4 } in
     let same : argument (record { number = c.before.before.before.before.before.before.before.before.before.before.before.before.before.before.before.before.before.before.before.before.before.before.before.before.before.byte_at.result; mode = c.before.before.before.before.before.before.before.before.before.before.before.before.before.before.before.before.before.before.before.before.before.before.before.before.byte-at2.result; argument = c.before.before.before.before.before.before.before.before.before.before.before.before.before.before.before.before.before.before.before.before.before.before.before.word_at.result }) ≡ argument i = ap argument (λ k. record { number = number k; mode = mode k; argument = value k }) in
-    stands-as (c.before.before.put.ensures _ xs
-    (prints-as same c.before.before.before.before.before.before.before.argument.ensures _ xs
-    (prints-as (ap (λ (n : ℕ). item (name n)) number) c.before.before.before.before.before.before.before.before.before.before.before.word.ensures _ xs
-    (prints-item c.before.before.before.before.before.before.before.before.before.before.before.before.before.before.before.before.word-at2.ensures c.before.before.before.before.before.before.before.before.before.before.before.before.before.before.before.item2.ensures _ xs
-    (prints-item c.before.before.before.before.before.before.before.before.before.before.before.before.before.before.before.before.before.before.before.before.before.byte-at3.ensures c.before.before.before.before.before.before.before.before.before.before.before.before.before.before.before.before.before.before.before.before.item.ensures before xs s)))))
+    stands_as (c.before.before.put.ensures _ xs
+    (prints_as same c.before.before.before.before.before.before.before.argument.ensures _ xs
+    (prints_as (ap (λ (n : ℕ). item (name n)) number) c.before.before.before.before.before.before.before.before.before.before.before.word.ensures _ xs
+    (prints_item c.before.before.before.before.before.before.before.before.before.before.before.before.before.before.before.before.word-at2.ensures c.before.before.before.before.before.before.before.before.before.before.before.before.before.before.before.item2.ensures _ xs
+    (prints_item c.before.before.before.before.before.before.before.before.before.before.before.before.before.before.before.before.before.before.before.before.before.byte-at3.ensures c.before.before.before.before.before.before.before.before.before.before.before.before.before.before.before.before.before.before.before.before.item.ensures before xs s)))))
     (simp append_assoc)
 
 pub act-spec : {M : Type 1} → statement M

@@ -7,7 +7,7 @@ use borrow.Author.Rules.{rules}
 use borrow.Author.Tests.{eq-eqb, ne_eqb}
 use Rattle.base.proofs.Choice.{chosen, passed}
 use Rattle.listing_output.specs.Listings.{text, decimal, argument}
-use Rattle.listing_output.proofs.Texts.{prints-both, prints-as}
+use Rattle.listing_output.proofs.Texts.{prints_both, prints_as}
 use Rattle.listing_output.proofs.lines.argument.Statement.{statement}
 use Rattle.listing_output.proofs.lines.argument.Tie as tie
 
@@ -27,7 +27,7 @@ returns : tie.Need-returns
 unfolding argument
 returns c =
     let i = c.before.before.before.before.before.before.before.before.before.args.i in
-    prints-as (sym (chosen _ _ (ap (λ (b : Bool). b || eqb i.number 20) (sym c.before.before.before.before.before.before.before.is-bare.ensures) ∙ c.before.before.before.before.before.if1.true))) c.before.before.put.ensures
+    prints_as (sym (chosen _ _ (ap (λ (b : Bool). b || eqb i.number 20) (sym c.before.before.before.before.before.before.before.is-bare.ensures) ∙ c.before.before.before.before.before.if1.true))) c.before.before.put.ensures
 
 slice-aggregate-put-2 : tie.Need-slice-aggregate-put-2
 slice-aggregate-put-2 c = search rules
@@ -51,9 +51,9 @@ returns-2 : tie.Need-returns-2
 unfolding argument
 returns-2 c =
     let i = c.before.before.before.before.before.before.before.before.before.before.before.before.before.before.before.before.before.before.before.before.args.i in
-    prints-as
+    prints_as
     (sym (passed _ _ (ap (λ (b : Bool). b || eqb i.number 20) (sym c.before.before.before.before.before.before.before.before.before.before.before.before.before.before.before.before.before.before.is-bare.ensures) ∙ c.before.before.before.before.before.before.before.before.before.before.before.before.before.before.before.before.if1.false) ∙ chosen _ _ (eq-eqb _ _ c.before.before.before.before.before.before.before.before.before.before.before.before.before.before.if2.true)))
-    (prints-both (text "[") (decimal i.argument ++ text "]") c.before.before.before.before.before.before.before.before.before.before.before.put2.ensures (prints-both (decimal i.argument) (text "]") c.before.before.before.before.before.before.before.number.ensures c.before.before.put3.ensures))
+    (prints_both (text "[") (decimal i.argument ++ text "]") c.before.before.before.before.before.before.before.before.before.before.before.put2.ensures (prints_both (decimal i.argument) (text "]") c.before.before.before.before.before.before.before.number.ensures c.before.before.put3.ensures))
 
 number-requires-2 : tie.Need-number-requires-2
 number-requires-2 c κs = search rules
@@ -65,7 +65,7 @@ returns-3 : tie.Need-returns-3
 unfolding argument
 returns-3 c =
     let i = c.before.before.before.before.before.before.before.before.before.before.args.i in
-    prints-as
+    prints_as
     (sym (passed _ _ (ap (λ (b : Bool). b || eqb i.number 20) (sym c.before.before.before.before.before.before.before.before.is-bare.ensures) ∙ c.before.before.before.before.before.before.if1.false) ∙ passed _ _ (ne_eqb _ _ c.before.before.before.before.if2.false)))
     c.before.before.number2.ensures
 

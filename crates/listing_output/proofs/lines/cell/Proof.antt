@@ -4,7 +4,7 @@ use borrow.Author.Rules.{rules}
 use borrow.Author.Tests.{eq-eqb, ne_eqb}
 use Rattle.base.proofs.Choice.{chosen, passed}
 use Rattle.listing_output.specs.Listings.{pair, cell}
-use Rattle.listing_output.proofs.Texts.{prints-as}
+use Rattle.listing_output.proofs.Texts.{prints_as}
 use Rattle.listing_output.proofs.lines.cell.Statement.{statement}
 use Rattle.listing_output.proofs.lines.cell.Tie as tie
 
@@ -26,7 +26,7 @@ same_length c = search rules
 returns : tie.Need-returns
 unfolding cell
 returns c =
-    prints-as (ap₂ pair c.before.before.before.before.before.word_at.ensures c.before.before.before.word-at2.ensures ∙ sym (chosen _ _ (eq-eqb _ _ (sym c.before.before.before.before.before.before.before.byte_at.ensures ∙ c.before.before.before.before.before.before.if1.true)))) c.before.before.pair.ensures
+    prints_as (ap₂ pair c.before.before.before.before.before.word_at.ensures c.before.before.before.word-at2.ensures ∙ sym (chosen _ _ (eq-eqb _ _ (sym c.before.before.before.before.before.before.before.byte_at.ensures ∙ c.before.before.before.before.before.before.if1.true)))) c.before.before.pair.ensures
 
 slice-aggregate-put : tie.Need-slice-aggregate-put
 slice-aggregate-put c = search rules
@@ -40,7 +40,7 @@ same-length-2 c = search rules
 returns-2 : tie.Need-returns-2
 unfolding cell
 returns-2 c =
-    prints-as (sym (passed _ _ (ne_eqb _ _ (λ e. c.before.before.before.before.before.if1.false (c.before.before.before.before.before.before.byte_at.ensures ∙ e))))) c.before.before.put.ensures
+    prints_as (sym (passed _ _ (ne_eqb _ _ (λ e. c.before.before.before.before.before.if1.false (c.before.before.before.before.before.before.byte_at.ensures ∙ e))))) c.before.before.put.ensures
 
 pub cell-spec : {M : Type 1} → statement M
 cell-spec =

@@ -2,8 +2,8 @@
 use mathlib.Core.List.{append_assoc}
 use mathlib.Core.Path.{ap, sym}
 use borrow.Author.Rules.{rules}
-use Rattle.listing_output.specs.Listings.{lastLine}
-use Rattle.listing_output.proofs.Texts.{stands-as, prints-as}
+use Rattle.listing_output.specs.Listings.{last_line}
+use Rattle.listing_output.proofs.Texts.{stands_as, prints_as}
 use Rattle.listing_output.proofs.lines.last.Statement.{statement}
 use Rattle.listing_output.proofs.lines.last.Tie as tie
 
@@ -47,24 +47,24 @@ same_length : tie.Need-same-length
 same_length c = search rules
 
 returns : tie.Need-returns
-unfolding lastLine
+unfolding last_line
 returns c =
-    prints-as (sym (ap lastLine c.before.before.before.before.before.before.before.before.before.before.before.before.before.before.before.end.given.1))
-    (λ before xs s. stands-as (c.before.before.put2.ensures _ xs (c.before.before.before.before.before.before.before.number.ensures _ xs (c.before.before.before.before.before.before.before.before.before.before.before.put.ensures before xs s))) (simp append_assoc))
+    prints_as (sym (ap last_line c.before.before.before.before.before.before.before.before.before.before.before.before.before.before.before.end.given.1))
+    (λ before xs s. stands_as (c.before.before.put2.ensures _ xs (c.before.before.before.before.before.before.before.number.ensures _ xs (c.before.before.before.before.before.before.before.before.before.before.before.put.ensures before xs s))) (simp append_assoc))
 
 same-length-2 : tie.Need-same-length-2
 same-length-2 c = search rules
 
 returns-2 : tie.Need-returns-2
-unfolding lastLine
-returns-2 c = prints-as (sym (ap lastLine c.before.before.before.before.before.enum_told.given.1)) c.before.before.put3.ensures
+unfolding last_line
+returns-2 c = prints_as (sym (ap last_line c.before.before.before.before.before.enum_told.given.1)) c.before.before.put3.ensures
 
 same-length-3 : tie.Need-same-length-3
 same-length-3 c = search rules
 
 returns-3 : tie.Need-returns-3
-unfolding lastLine
-returns-3 c = prints-as (sym (ap lastLine c.before.before.before.before.before.enum-told2.given.1)) c.before.before.put4.ensures
+unfolding last_line
+returns-3 c = prints_as (sym (ap last_line c.before.before.before.before.before.enum-told2.given.1)) c.before.before.put4.ensures
 
 pub last-spec : {M : Type 1} → statement M
 last-spec =

@@ -2,7 +2,7 @@
 use mathlib.Core.List.{append_assoc}
 use borrow.Author.Rules.{rules}
 use Rattle.listing_output.specs.Outputs.{line_at}
-use Rattle.listing_output.proofs.Texts.{stands-as}
+use Rattle.listing_output.proofs.Texts.{stands_as}
 use Rattle.listing_output.proofs.lines.line.Statement.{statement}
 use Rattle.listing_output.proofs.lines.line.Tie as tie
 
@@ -27,7 +27,7 @@ same_length c = search rules
 returns : tie.Need-returns
 unfolding line_at
 returns c =
-    λ before xs s. stands-as (c.before.before.put.ensures _ xs (c.before.before.before.before.before.before.before.cell.ensures _ xs (c.before.before.before.before.before.before.before.before.before.before.before.registers.ensures _ xs (c.before.before.before.before.before.before.before.before.before.before.before.before.before.before.before.act.ensures before xs s)))) (simp append_assoc)
+    λ before xs s. stands_as (c.before.before.put.ensures _ xs (c.before.before.before.before.before.before.before.cell.ensures _ xs (c.before.before.before.before.before.before.before.before.before.before.before.registers.ensures _ xs (c.before.before.before.before.before.before.before.before.before.before.before.before.before.before.before.act.ensures before xs s)))) (simp append_assoc)
 
 pub line-spec : {M : Type 1} → statement M
 line-spec =

@@ -5,7 +5,7 @@ use Rattle.base.proofs.Below.{none_from}
 use Rattle.records.specs.Instructions.{words, word_of}
 use Rattle.listing_output.specs.Listings.{name}
 use Rattle.listing_output.proofs.StepLines.{name-none}
-use Rattle.listing_output.proofs.Texts.{prints-as}
+use Rattle.listing_output.proofs.Texts.{prints_as}
 use Rattle.listing_output.proofs.lines.other_word.Statement.{statement}
 use Rattle.listing_output.proofs.lines.other_word.Tie as tie
 
@@ -56,42 +56,42 @@ same_length c = search rules
 
 returns : tie.Need-returns
 unfolding name words word_of
-returns c = prints-as (sym (ap name c.before.before.before.before.before.match.keys1)) c.before.before.put.ensures
+returns c = prints_as (sym (ap name c.before.before.before.before.before.match.keys1)) c.before.before.put.ensures
 
 same-length-2 : tie.Need-same-length-2
 same-length-2 c = search rules
 
 returns-2 : tie.Need-returns-2
 unfolding name words word_of
-returns-2 c = prints-as (sym (ap name c.before.before.before.before.before.match.keys2)) c.before.before.put2.ensures
+returns-2 c = prints_as (sym (ap name c.before.before.before.before.before.match.keys2)) c.before.before.put2.ensures
 
 same-length-3 : tie.Need-same-length-3
 same-length-3 c = search rules
 
 returns-3 : tie.Need-returns-3
 unfolding name words word_of
-returns-3 c = prints-as (sym (ap name c.before.before.before.before.before.match.keys3)) c.before.before.put3.ensures
+returns-3 c = prints_as (sym (ap name c.before.before.before.before.before.match.keys3)) c.before.before.put3.ensures
 
 same-length-4 : tie.Need-same-length-4
 same-length-4 c = search rules
 
 returns-4 : tie.Need-returns-4
 unfolding name words word_of
-returns-4 c = prints-as (sym (ap name c.before.before.before.before.before.match.keys4)) c.before.before.put4.ensures
+returns-4 c = prints_as (sym (ap name c.before.before.before.before.before.match.keys4)) c.before.before.put4.ensures
 
 same-length-5 : tie.Need-same-length-5
 same-length-5 c = search rules
 
 returns-5 : tie.Need-returns-5
 unfolding name words word_of
-returns-5 c = prints-as (sym (ap name c.before.before.before.before.before.match.keys5)) c.before.before.put5.ensures
+returns-5 c = prints_as (sym (ap name c.before.before.before.before.before.match.keys5)) c.before.before.put5.ensures
 
 same-length-6 : tie.Need-same-length-6
 same-length-6 c = search rules
 
 returns-6 : tie.Need-returns-6
 unfolding name words word_of
-returns-6 c = prints-as (sym (ap name c.before.before.before.before.before.match.keys6)) c.before.before.put6.ensures
+returns-6 c = prints_as (sym (ap name c.before.before.before.before.before.match.keys6)) c.before.before.put6.ensures
 
 same-length-7 : tie.Need-same-length-7
 same-length-7 c = search rules
@@ -99,7 +99,7 @@ same-length-7 c = search rules
 returns-7 : tie.Need-returns-7
 returns-7 c =
     let n = c.before.before.before.before.before.before.before.args.n in
-    prints-as (sym (name-none n (none_from 15 6 n c.before.before.before.before.before.before.before.requires c.before.before.before.before.before.match.rest))) c.before.before.put7.ensures
+    prints_as (sym (name-none n (none_from 15 6 n c.before.before.before.before.before.before.before.requires c.before.before.before.before.before.match.rest))) c.before.before.put7.ensures
 
 pub other-word-spec : {M : Type 1} → statement M
 other-word-spec =

@@ -1,7 +1,7 @@
 -- `listing_output::lines::pair` meets its contract: its texts stand one after the other. Assumes nothing.
 use mathlib.Core.List.{append_assoc}
 use borrow.Author.Rules.{rules}
-use Rattle.listing_output.proofs.Texts.{stands-as}
+use Rattle.listing_output.proofs.Texts.{stands_as}
 use Rattle.listing_output.proofs.lines.pair.Statement.{statement}
 use Rattle.listing_output.proofs.lines.pair.Tie as tie
 
@@ -33,7 +33,7 @@ same_length : tie.Need-same-length
 same_length c = search rules
 
 returns : tie.Need-returns
-returns c = λ before xs s. stands-as (c.before.before.put3.ensures _ xs (c.before.before.before.before.before.before.before.number2.ensures _ xs (c.before.before.before.before.before.before.before.before.before.before.before.put2.ensures _ xs (c.before.before.before.before.before.before.before.before.before.before.before.before.before.before.before.before.number.ensures _ xs (c.before.before.before.before.before.before.before.before.before.before.before.before.before.before.before.before.before.before.before.before.put.ensures before xs s))))) (simp append_assoc)
+returns c = λ before xs s. stands_as (c.before.before.put3.ensures _ xs (c.before.before.before.before.before.before.before.number2.ensures _ xs (c.before.before.before.before.before.before.before.before.before.before.before.put2.ensures _ xs (c.before.before.before.before.before.before.before.before.before.before.before.before.before.before.before.before.number.ensures _ xs (c.before.before.before.before.before.before.before.before.before.before.before.before.before.before.before.before.before.before.before.before.put.ensures before xs s))))) (simp append_assoc)
 
 pub pair_spec : {M : Type 1} → statement M
 pair_spec =

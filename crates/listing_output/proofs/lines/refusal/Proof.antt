@@ -1,8 +1,8 @@
 -- `listing_output::lines::refusal` meets its contract: its texts stand one after the other. Assumes nothing.
 use mathlib.Core.List.{◌++◌}
 use borrow.Author.Rules.{rules}
-use Rattle.listing_output.specs.Listings.{text, decimal, refusedLine}
-use Rattle.listing_output.proofs.Texts.{prints-both}
+use Rattle.listing_output.specs.Listings.{text, decimal, refused_line}
+use Rattle.listing_output.proofs.Texts.{prints_both}
 use Rattle.listing_output.proofs.lines.refusal.Statement.{statement}
 use Rattle.listing_output.proofs.lines.refusal.Tie as tie
 
@@ -25,10 +25,10 @@ same_length : tie.Need-same-length
 same_length c = search rules
 
 returns : tie.Need-returns
-unfolding refusedLine
+unfolding refused_line
 returns c =
     let n = c.before.before.before.before.before.before.before.before.before.before.before.before.before.before.before.args.n in
-    prints-both (text "refused ") (decimal n ++ text "\n") c.before.before.before.before.before.before.before.before.before.before.before.put.ensures (prints-both (decimal n) (text "\n") c.before.before.before.before.before.before.before.number.ensures c.before.before.put2.ensures)
+    prints_both (text "refused ") (decimal n ++ text "\n") c.before.before.before.before.before.before.before.before.before.before.before.put.ensures (prints_both (decimal n) (text "\n") c.before.before.before.before.before.before.before.number.ensures c.before.before.put2.ensures)
 
 pub refusal-spec : {M : Type 1} → statement M
 refusal-spec =

@@ -2,7 +2,7 @@
 use mathlib.Core.List.{append_assoc}
 use borrow.Author.Rules.{rules}
 use Rattle.listing_output.specs.Listings.{item}
-use Rattle.listing_output.proofs.Texts.{stands-as, prints-item}
+use Rattle.listing_output.proofs.Texts.{stands_as, prints_item}
 use Rattle.listing_output.proofs.lines.registers.Statement.{statement}
 use Rattle.listing_output.proofs.lines.registers.Tie as tie
 
@@ -45,11 +45,11 @@ same_length c = search rules
 returns : tie.Need-returns
 returns c =
     λ before xs s.
-    stands-as (prints-item c.before.before.before.byte_at.ensures c.before.before.item5.ensures _ xs
-    (prints-item c.before.before.before.before.before.before.before.before.word-at4.ensures c.before.before.before.before.before.before.before.item4.ensures _ xs
-    (prints-item c.before.before.before.before.before.before.before.before.before.before.before.before.before.word-at3.ensures c.before.before.before.before.before.before.before.before.before.before.before.before.item3.ensures _ xs
-    (prints-item c.before.before.before.before.before.before.before.before.before.before.before.before.before.before.before.before.before.before.word-at2.ensures c.before.before.before.before.before.before.before.before.before.before.before.before.before.before.before.before.before.item2.ensures _ xs
-    (prints-item c.before.before.before.before.before.before.before.before.before.before.before.before.before.before.before.before.before.before.before.before.before.before.before.word_at.ensures c.before.before.before.before.before.before.before.before.before.before.before.before.before.before.before.before.before.before.before.before.before.before.item.ensures before xs s)))))
+    stands_as (prints_item c.before.before.before.byte_at.ensures c.before.before.item5.ensures _ xs
+    (prints_item c.before.before.before.before.before.before.before.before.word-at4.ensures c.before.before.before.before.before.before.before.item4.ensures _ xs
+    (prints_item c.before.before.before.before.before.before.before.before.before.before.before.before.before.word-at3.ensures c.before.before.before.before.before.before.before.before.before.before.before.before.item3.ensures _ xs
+    (prints_item c.before.before.before.before.before.before.before.before.before.before.before.before.before.before.before.before.before.before.word-at2.ensures c.before.before.before.before.before.before.before.before.before.before.before.before.before.before.before.before.before.item2.ensures _ xs
+    (prints_item c.before.before.before.before.before.before.before.before.before.before.before.before.before.before.before.before.before.before.before.before.before.before.before.word_at.ensures c.before.before.before.before.before.before.before.before.before.before.before.before.before.before.before.before.before.before.before.before.before.before.item.ensures before xs s)))))
     (simp append_assoc)
 
 pub registers-spec : {M : Type 1} → statement M

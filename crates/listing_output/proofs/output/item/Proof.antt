@@ -1,7 +1,7 @@
 -- `listing_output::output::item` meets its contract. Assumes nothing.
 use borrow.Author.Rules.{rules}
 use Rattle.listing_output.specs.Listings.{decimal, text}
-use Rattle.listing_output.proofs.Texts.{prints-both}
+use Rattle.listing_output.proofs.Texts.{prints_both}
 use Rattle.listing_output.proofs.output.item.Statement.{statement}
 use Rattle.listing_output.proofs.output.item.Tie as tie
 
@@ -20,7 +20,7 @@ same_length c = search rules
 returns : tie.Need-returns
 returns c =
     let m = c.before.before.before.before.before.before.before in
-    prints-both (decimal m.before.before.before.args.n) (text " ") m.number.ensures c.before.before.put.ensures
+    prints_both (decimal m.before.before.before.args.n) (text " ") m.number.ensures c.before.before.put.ensures
 
 pub item-spec : {M : Type 1} → statement M
 item-spec =

@@ -5,7 +5,7 @@ use mathlib.Core.Path.{ap₂, ◌∙◌}
 use native.Mathlib.Omega.{arith}
 use lib.ListN.{take, drop}
 use borrow.Author.Rules.{rules}
-use Rattle.listing_output.proofs.Texts.{few-places, last_digits, prints-as}
+use Rattle.listing_output.proofs.Texts.{few-places, last_digits, prints_as}
 use Rattle.listing_output.proofs.output.number.Statement.{statement}
 use Rattle.listing_output.proofs.output.number.Tie as tie
 
@@ -36,7 +36,7 @@ same_length c = search rules
 returns : tie.Need-returns
 returns c =
     let d = c.before.before.before.before.before.before.before in
-    prints-as (ap₂ (λ (k : ℕ) (all : List ℕ). take (5 - (5 - k)) (drop (5 - k) all)) c.before.before.before.before.before.before.places.ensures d.digits.ensures ∙ last_digits d.before.before.args.n) c.before.before.put.ensures
+    prints_as (ap₂ (λ (k : ℕ) (all : List ℕ). take (5 - (5 - k)) (drop (5 - k) all)) c.before.before.before.before.before.before.places.ensures d.digits.ensures ∙ last_digits d.before.before.args.n) c.before.before.put.ensures
 
 pub number-spec : {M : Type 1} → statement M
 number-spec =

@@ -1,7 +1,7 @@
 -- `machine::checkpoints::clear` meets its contract. Assumes nothing.
 use Rattle.machine.proofs.Four.{four}
-use Rattle.base.proofs.Choice.{passed, and-false}
-use Rattle.records.specs.Sets.{setBy}
+use Rattle.base.proofs.Choice.{passed, and_false}
+use Rattle.records.specs.Sets.{set_by}
 use Rattle.machine.specs.Machine.{unmarked, cleared, opened}
 use Rattle.machine.specs.declared.Mark.{Mark}
 use mathlib.Core.Bool.{Bool, cond}
@@ -85,7 +85,7 @@ returns c =
     let first = second.before.before.before in
     let none = first.before.before.before in
     let a = none.before.before.before.args in
-    let S = setBy a.set.now a.layout in
+    let S = set_by a.set.now a.layout in
     let n = all none.before.before.before in
     let by : (u : ℕ) (b : Bool) → Mark = λ u b. cond b unmarked (get_or a.t3 u unmarked) in
     four _ _ _ _ unmarked (cleared S (λ t. get_or a.t3 t unmarked))
@@ -94,7 +94,7 @@ returns c =
     (c.before.before.kept3.ensures ∙ ap (by 2) second.clears-too2.ensures)
     (c.kept4.ensures ∙ ap (by 3) third.clears-too3.ensures)
     (λ t h. let e : get_or a.t3 t unmarked ≡ unmarked = get_or-eq_default a.t3 unmarked (rw n h) in
-    sym (passed _ _ (and-false (opened S (λ u. get_or a.t3 u unmarked) (get_or a.t3 t unmarked).checkpoint) (ap (λ (m : Mark). m.on) e)) ∙ e))
+    sym (passed _ _ (and_false (opened S (λ u. get_or a.t3 u unmarked) (get_or a.t3 t unmarked).checkpoint) (ap (λ (m : Mark). m.on) e)) ∙ e))
 
 pub clear_spec : {M : Type 1} → statement M
 clear_spec =

@@ -1,6 +1,6 @@
 -- `machine::checkpoints::clears` meets its contract. Assumes nothing.
 use Rattle.machine.specs.Machine.{unmarked, opened}
-use Rattle.records.specs.Sets.{setBy}
+use Rattle.records.specs.Sets.{set_by}
 use mathlib.Core.Path.{sym, ap, ◌∙◌}
 use mathlib.Core.Bool.{Bool, ◌&&◌}
 use lib.ListN.{get_or}
@@ -17,7 +17,7 @@ opened-requires c κs = search rules
 returns : tie.Need-returns
 returns c =
     let a = c.before.before.before.args in
-    c.opened.ensures ∙ sym (ap (λ (b : Bool). b && opened (setBy a.set.now a.layout) (λ t. get_or a.marks t unmarked) a.m.checkpoint) c.before.if1.true)
+    c.opened.ensures ∙ sym (ap (λ (b : Bool). b && opened (set_by a.set.now a.layout) (λ t. get_or a.marks t unmarked) a.m.checkpoint) c.before.if1.true)
 
 returns-2 : tie.Need-returns-2
 returns-2 c = search rules

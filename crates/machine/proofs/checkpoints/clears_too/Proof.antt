@@ -1,6 +1,6 @@
 -- `machine::checkpoints::clears_too` meets its contract. Assumes nothing.
 use Rattle.machine.specs.Machine.{unmarked, opened}
-use Rattle.records.specs.Sets.{setBy}
+use Rattle.records.specs.Sets.{set_by}
 use Rattle.base.proofs.Choice.{and_left, and_right}
 use borrow.Author.Tests.{eqb-true}
 use mathlib.Core.Path.{sym, ap, ap₂, ◌∙◌}
@@ -23,7 +23,7 @@ returns : tie.Need-returns
 returns c =
     let s = c.before.before.before.before in
     let a = s.args in
-    let is_open : ℕ → Bool = opened (setBy a.set.now a.layout) (λ t. get_or a.marks t unmarked) in
+    let is_open : ℕ → Bool = opened (set_by a.set.now a.layout) (λ t. get_or a.marks t unmarked) in
     let e = sym c.before.marked-at.ensures ∙ c.if2.true in
     s.requires
     ∙ ap₂ (λ (b : Bool) (n : ℕ). b && is_open n) (and_left a.other.on (eqb a.other.checkpoint a.m.checkpoint) e) (eqb-true _ _ (and_right a.other.on (eqb a.other.checkpoint a.m.checkpoint) e))
@@ -35,7 +35,7 @@ opened-requires c κs = search rules
 returns-2 : tie.Need-returns-2
 returns-2 c =
     let a = c.before.before.before.before.before.args in
-    c.opened.ensures ∙ sym (ap (λ (b : Bool). b && opened (setBy a.set.now a.layout) (λ t. get_or a.marks t unmarked) a.m.checkpoint) c.before.before.before.if1.true)
+    c.opened.ensures ∙ sym (ap (λ (b : Bool). b && opened (set_by a.set.now a.layout) (λ t. get_or a.marks t unmarked) a.m.checkpoint) c.before.before.before.if1.true)
 
 returns-3 : tie.Need-returns-3
 returns-3 c = search rules

@@ -2,12 +2,12 @@
 use Rattle.machine.proofs.Groups.{some_same}
 use Rattle.base.specs.Below.{some}
 use Rattle.base.proofs.Below.{some_more, some_at}
-use Rattle.records.specs.Sets.{setBy, statementAt}
+use Rattle.records.specs.Sets.{set_by, statement_at}
 use Rattle.records.specs.Instructions.{CHECK}
 use Rattle.records.specs.declared.Statement.{Statement}
 use Rattle.records.specs.declared.Layout.{Layout}
 use Rattle.records.proofs.StatementRecords.{stands_by}
-use Rattle.machine.specs.Machine.{isCheck, contains}
+use Rattle.machine.specs.Machine.{is_check, contains}
 use mathlib.Core.List.{List}
 use mathlib.Core.Path.{◌≡◌, sym, ap, ◌∙◌, refl}
 use mathlib.Core.Bool.{Bool, false, ◌&&◌}
@@ -27,13 +27,13 @@ use Rattle.records.proofs.first.Reads as first_reads
 
 -- record first + q is CHECK c
 abbrev checked : List ℕ → ℕ → ℕ → ℕ → Bool
-checked set first c q = eqb (statementAt set (first + q)).number CHECK && eqb (statementAt set (first + q)).argument c
+checked set first c q = eqb (statement_at set (first + q)).number CHECK && eqb (statement_at set (first + q)).argument c
 
 -- it is thread t's statement q
 checked-is : (set : List ℕ) (layout : Layout) (t c first q : ℕ) → first ≡ get_or layout.starts t 0 → q < get_or layout.counts t 0 →
-    checked set first c q ≡ isCheck (setBy set layout) t c q
+    checked set first c q ≡ is_check (set_by set layout) t c q
 checked-is set layout t c first q e l =
-    ap (λ (i : Statement). eqb i.number CHECK && eqb i.argument c) (sym ((stands_by set layout t first e).statementIs q l))
+    ap (λ (i : Statement). eqb i.number CHECK && eqb i.argument c) (sym ((stands_by set layout t first e).statement_is q l))
 
 abbrev invariant-loop : tie.invariant-loop
 invariant-loop set t c n first p₀ p = (p ≤ n) × (n < 65536) × (first < 65536) × (some p (λ q. checked set first c q) ≡ false)
@@ -79,7 +79,7 @@ returns c =
     let s = c.before.before.before.before.before in
     let a = s.before.before.before.args in
     let n = s.before.count.ensures in
-    sym (some_at (isCheck (setBy a.set.now a.layout) a.t a.c) _ l.p (omega (arith, n, c.before.before.before.loop-test.true))
+    sym (some_at (is_check (set_by a.set.now a.layout) a.t a.c) _ l.p (omega (arith, n, c.before.before.before.loop-test.true))
     (sym (checked-is a.set.now a.layout a.t a.c _ l.p s.first.ensures.0 (omega (arith, n, c.before.before.before.loop-test.true))) ∙ sym (found c.before) ∙ c.if1.true))
 
 add-p : tie.Need-overflow-add-p invariant-loop decreases-loop
@@ -102,9 +102,9 @@ returns-2 c =
     let a = s.before.before.before.args in
     let n = s.before.count.ensures in
     let e : l.p ≡ get_or a.layout.counts a.t 0 = omega (arith, n, c.loop-test.false, l.invariant.0) in
-    sym l.invariant.3 ∙ some_same _ (isCheck (setBy a.set.now a.layout) a.t a.c) l.p
+    sym l.invariant.3 ∙ some_same _ (is_check (set_by a.set.now a.layout) a.t a.c) l.p
     (λ k h. checked-is a.set.now a.layout a.t a.c _ k s.first.ensures.0 (omega (arith, e, h)))
-    ∙ ap (λ (k : ℕ). some k (isCheck (setBy a.set.now a.layout) a.t a.c)) e
+    ∙ ap (λ (k : ℕ). some k (is_check (set_by a.set.now a.layout) a.t a.c)) e
 
 pub contains-spec : {M : Type 1} → statement M
 contains-spec =

@@ -1,7 +1,7 @@
 -- `machine::checkpoints::shuts` meets its contract. Assumes nothing.
-use Rattle.records.specs.Sets.{setBy}
+use Rattle.records.specs.Sets.{set_by}
 use Rattle.machine.specs.Machine.{contains}
-use Rattle.base.proofs.Choice.{or_no, or-right-true}
+use Rattle.base.proofs.Choice.{or_no, or_right_true}
 use mathlib.Core.Bool.{Bool, not, ◌||◌}
 use mathlib.Core.Path.{sym, ap, ◌∙◌}
 use borrow.Author.Rules.{rules}
@@ -18,7 +18,7 @@ marked-at-requires c κs = search rules
 returns : tie.Need-returns
 returns c =
     let a = c.before.before.before.args in
-    sym (or-right-true (not (contains (setBy a.set.now a.layout) a.t a.c)) (sym c.before.marked-at.ensures ∙ c.if1.true))
+    sym (or_right_true (not (contains (set_by a.set.now a.layout) a.t a.c)) (sym c.before.marked-at.ensures ∙ c.if1.true))
 
 contains-requires : tie.Need-contains-requires
 contains-requires c κs = search rules
@@ -26,7 +26,7 @@ contains-requires c κs = search rules
 returns-2 : tie.Need-returns-2
 returns-2 c =
     let a = c.before.before.before.before.args in
-    ap not c.contains.ensures ∙ sym (or_no _) ∙ ap (λ (b : Bool). not (contains (setBy a.set.now a.layout) a.t a.c) || b) (sym c.before.if1.false ∙ c.before.before.marked-at.ensures)
+    ap not c.contains.ensures ∙ sym (or_no _) ∙ ap (λ (b : Bool). not (contains (set_by a.set.now a.layout) a.t a.c) || b) (sym c.before.if1.false ∙ c.before.before.marked-at.ensures)
 
 pub shuts-spec : {M : Type 1} → statement M
 shuts-spec = tie.close (tie.spec marked-at-requires returns contains-requires returns-2)

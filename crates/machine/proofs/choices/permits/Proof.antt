@@ -8,11 +8,11 @@ use Rattle.machine.specs.declared.Mark.{Mark}
 use mathlib.Core.Bool.{Bool, ◌&&◌}
 use borrow.Author.Tests.{lt-leb, le-leb}
 use Rattle.machine.specs.Machine.{fresh, unmarked, permitted, actor, waiting}
-use Rattle.machine.specs.Held.{state_of, permittedBy}
+use Rattle.machine.specs.Held.{state_of, permitted_by}
 use Rattle.records.specs.declared.Statement.{Statement}
-use Rattle.records.specs.Sets.{setBy}
-use Rattle.base.proofs.Choice.{and-false}
-use Rattle.machine.proofs.Permitted.{no-thread, thread-may}
+use Rattle.records.specs.Sets.{set_by}
+use Rattle.base.proofs.Choice.{and_false}
+use Rattle.machine.proofs.Permitted.{no-thread, thread_may}
 use borrow.Author.Rules.{rules}
 use Rattle.machine.proofs.choices.permits.Statement.{statement}
 use Rattle.machine.proofs.choices.permits.Tie as tie
@@ -25,11 +25,11 @@ use Rattle.machine.proofs.choices.may.Reads as may-reads
 -- past the first test there are at most four threads
 few : (c : tie.Else1) (memory : ℕ → ℕ) →
     let a = c.before.before.before.before.args in
-    let p = permitted (setBy a.set.now a.layout) (state_of a.t3 memory) a.choice in
+    let p = permitted (set_by a.set.now a.layout) (state_of a.t3 memory) a.choice in
     (leb a.layout.threads 4 && p) ≡ p
 few c memory =
     let a = c.before.before.before.before.args in
-    ap (λ (b : Bool). b && permitted (setBy a.set.now a.layout) (state_of a.t3 memory) a.choice) (le-leb _ _ c.if1.false)
+    ap (λ (b : Bool). b && permitted (set_by a.set.now a.layout) (state_of a.t3 memory) a.choice) (le-leb _ _ c.if1.false)
 
 actor-requires : tie.Need-actor-requires
 actor-requires c κs = search rules
@@ -37,13 +37,13 @@ actor-requires c κs = search rules
 returns : tie.Need-returns
 returns c =
     let a = c.before.before.before.before.args in
-    λ memory. sym (and-false (permitted (setBy a.set.now a.layout) (state_of a.t3 memory) a.choice) (lt-leb _ _ c.if1.true))
+    λ memory. sym (and_false (permitted (set_by a.set.now a.layout) (state_of a.t3 memory) a.choice) (lt-leb _ _ c.if1.true))
 
 returns-2 : tie.Need-returns-2
 returns-2 c =
     let t = c.before.before.before.before in
     let a = t.before.before.args in
-    λ memory. sym (few c.before.before memory ∙ no-thread (setBy a.set.now a.layout) (state_of a.t3 memory) a.choice (omega (arith, t.actor.ensures, c.if2.true)))
+    λ memory. sym (few c.before.before memory ∙ no-thread (set_by a.set.now a.layout) (state_of a.t3 memory) a.choice (omega (arith, t.actor.ensures, c.if2.true)))
 
 cast-at : tie.Need-overflow-cast-at
 cast-at c = search rules
@@ -71,13 +71,13 @@ unfolding waiting
 returns-3 c =
     let s = c.before.before.before.before.before.before.before.before.before.before.before in
     let a = s.args in
-    let S = setBy a.set.now a.layout in
+    let S = set_by a.set.now a.layout in
     let t = c.before.before.before.before.before.before.before.before.before.actor in
     let marks : ℕ → Mark = λ u. get_or a.t3.marks u unmarked in
     λ memory. c.may.ensures
-    ∙ ap (λ (i : Statement). permittedBy a.choice i (get_or a.t3.threads t.result fresh) (waiting S marks t.result)) c.before.fetch.ensures
-    ∙ ap (λ (u : ℕ). permittedBy a.choice (S.statement u (get_or a.t3.threads u fresh).pc) (get_or a.t3.threads u fresh) (waiting S marks u)) t.ensures
-    ∙ sym (few c.before.before.before.before.before.before.before memory ∙ thread-may S (state_of a.t3 memory) a.choice (omega (arith, t.ensures, c.before.before.before.before.before.if2.false)))
+    ∙ ap (λ (i : Statement). permitted_by a.choice i (get_or a.t3.threads t.result fresh) (waiting S marks t.result)) c.before.fetch.ensures
+    ∙ ap (λ (u : ℕ). permitted_by a.choice (S.statement u (get_or a.t3.threads u fresh).pc) (get_or a.t3.threads u fresh) (waiting S marks u)) t.ensures
+    ∙ sym (few c.before.before.before.before.before.before.before memory ∙ thread_may S (state_of a.t3 memory) a.choice (omega (arith, t.ensures, c.before.before.before.before.before.if2.false)))
 
 pub permits-spec : {M : Type 1} → statement M
 permits-spec =

@@ -1,5 +1,5 @@
 -- `machine::memory::cell_at` meets its contract. Assumes nothing.
-use Rattle.machine.proofs.Groups.{least-group}
+use Rattle.machine.proofs.Groups.{least_group}
 use Rattle.records.specs.Maps.{cell_at}
 use Rattle.base.specs.Below.{least}
 use lib.Seq.{get_or-take, get_or-drop, length-take-le}
@@ -69,7 +69,7 @@ loop-again c =
     let e : l.i + length group ≡ l.i + 16 = ap (λ (k : ℕ). l.i + k) (size ∙ p) in (
       omega (arith, l.invariant.0, t),
       ap (λ (k : ℕ). cell_at (λ j. get_or xs j 0) k a.a) (sym e)
-          ∙ least-group (λ j. eqb (get_or xs j 0) a.a) (λ j. eqb (get_or group j 0) a.a) l.i (length group) l.invariant.1 (sym c.before.among.ensures ∙ c.if1.false)
+          ∙ least_group (λ j. eqb (get_or xs j 0) a.a) (λ j. eqb (get_or group j 0) a.a) l.i (length group) l.invariant.1 (sym c.before.among.ensures ∙ c.if1.false)
           (λ k s. ap (λ (v : ℕ). eqb v a.a) (sym (get_or-take n (drop l.i xs) k 0 (omega (arith, s, size)) ∙ get_or-drop l.i xs k 0)))
           ∙ e,
     )

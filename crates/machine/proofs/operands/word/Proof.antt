@@ -1,6 +1,6 @@
 -- `machine::operands::word` meets its contract. Assumes nothing.
 use mathlib.Core.Path.{◌∙◌}
-use Rattle.machine.specs.Held.{memoryIn, known_in}
+use Rattle.machine.specs.Held.{memory_in, known_in}
 use Rattle.machine.proofs.Loads.{word-cas, word-load}
 use borrow.Author.Rules.{rules}
 use Rattle.machine.proofs.operands.word.Statement.{statement}
@@ -18,7 +18,7 @@ returns c =
     let s = c.before.before.before.before.before in
     let a = s.args in
     let e = s.requires.1 in
-    let w = word-cas a.i a.x (memoryIn a.addresses.now a.values.now) (known_in a.addresses.now) s.requires.0 c.before.if1.true in
+    let w = word-cas a.i a.x (memory_in a.addresses.now a.values.now) (known_in a.addresses.now) s.requires.0 c.before.if1.true in
     (rw e ((rw e at c.look.ensures.0) ∙ w.0), (rw e at c.look.ensures.1) ∙ w.1, rw e (c.look.ensures.2 ∙ w.2))
 
 load-requires : tie.Need-load-requires
@@ -29,7 +29,7 @@ returns-2 c =
     let s = c.before.before.before.before.before in
     let a = s.args in
     let e = s.requires.1 in
-    let w = word-load a.i a.x (memoryIn a.addresses.now a.values.now) (known_in a.addresses.now) s.requires.0 c.before.if1.false in
+    let w = word-load a.i a.x (memory_in a.addresses.now a.values.now) (known_in a.addresses.now) s.requires.0 c.before.if1.false in
     (rw e ((rw e at c.load.ensures.0) ∙ w.0), (rw e at c.load.ensures.1) ∙ w.1, rw e ((rw e at c.load.ensures.2) ∙ w.2))
 
 pub word-spec : {M : Type 1} → statement M

@@ -2,7 +2,7 @@
 use borrow.Author.Tests.{ne_eqb}
 use Prim.Native.Nat.{ℕ}
 use mathlib.Core.Path.{◌≡◌, ◌∙◌, sym, ap}
-use Rattle.machine.specs.Machine.{row, withAccu}
+use Rattle.machine.specs.Machine.{row, with_accu}
 use borrow.Author.Rules.{rules}
 use Rattle.machine.proofs.registers.row.Statement.{statement}
 use Rattle.machine.proofs.registers.row.Tie as tie
@@ -53,27 +53,27 @@ returns-3 c = at 2 c.before c.match.keys3
 
 returns-4 : tie.Need-returns-4
 unfolding row
-returns-4 c = ap (λ (v : ℕ). withAccu v c.before.before.args.x) c.sum.ensures ∙ at 3 c.before.before c.before.match.keys4
+returns-4 c = ap (λ (v : ℕ). with_accu v c.before.before.args.x) c.sum.ensures ∙ at 3 c.before.before c.before.match.keys4
 
 returns-5 : tie.Need-returns-5
 unfolding row
-returns-5 c = ap (λ (v : ℕ). withAccu v c.before.before.args.x) c.sum2.ensures ∙ at 4 c.before.before c.before.match.keys5
+returns-5 c = ap (λ (v : ℕ). with_accu v c.before.before.args.x) c.sum2.ensures ∙ at 4 c.before.before c.before.match.keys5
 
 returns-6 : tie.Need-returns-6
 unfolding row
-returns-6 c = ap (λ (v : ℕ). withAccu v c.before.before.args.x) c.difference.ensures ∙ at 5 c.before.before c.before.match.keys6
+returns-6 c = ap (λ (v : ℕ). with_accu v c.before.before.args.x) c.difference.ensures ∙ at 5 c.before.before c.before.match.keys6
 
 returns-7 : tie.Need-returns-7
 unfolding row
-returns-7 c = ap (λ (v : ℕ). withAccu v c.before.before.args.x) c.difference2.ensures ∙ at 6 c.before.before c.before.match.keys7
+returns-7 c = ap (λ (v : ℕ). with_accu v c.before.before.args.x) c.difference2.ensures ∙ at 6 c.before.before c.before.match.keys7
 
 returns-8 : tie.Need-returns-8
 unfolding row
-returns-8 c = ap (λ (v : ℕ). withAccu v c.before.before.args.x) c.product.ensures ∙ at 7 c.before.before c.before.match.keys8
+returns-8 c = ap (λ (v : ℕ). with_accu v c.before.before.args.x) c.product.ensures ∙ at 7 c.before.before c.before.match.keys8
 
 returns-9 : tie.Need-returns-9
 unfolding row
-returns-9 c = ap (λ (v : ℕ). withAccu v c.before.before.args.x) c.product2.ensures ∙ at 8 c.before.before c.before.match.keys9
+returns-9 c = ap (λ (v : ℕ). with_accu v c.before.before.args.x) c.product2.ensures ∙ at 8 c.before.before c.before.match.keys9
 
 returns-10 : tie.Need-returns-10
 unfolding row
@@ -81,7 +81,7 @@ returns-10 c = at 15 c.before c.match.keys10
 
 returns-11 : tie.Need-returns-11
 unfolding row
-returns-11 c = ap (λ (v : ℕ). withAccu v c.before.before.args.x) c.equal.ensures ∙ at 16 c.before.before c.before.match.keys11
+returns-11 c = ap (λ (v : ℕ). with_accu v c.before.before.args.x) c.equal.ensures ∙ at 16 c.before.before c.before.match.keys11
 
 returns-12 : tie.Need-returns-12
 unfolding row

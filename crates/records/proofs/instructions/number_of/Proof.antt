@@ -4,7 +4,7 @@ use native.Mathlib.Omega.{arith}
 use borrow.Author.Rules.{rules}
 use Rattle.base.specs.Below.{every}
 use Rattle.records.specs.Instructions.{words, word_of, EXIT, FENCE, HALT, LOAD}
-use Rattle.records.proofs.Words.{among, one-starting, other-letter}
+use Rattle.records.proofs.Words.{among, one-starting, other_letter}
 use Rattle.records.proofs.instructions.number_of.Statement.{statement}
 use Rattle.records.proofs.instructions.number_of.Tie as tie
 
@@ -82,7 +82,7 @@ returns-9 : tie.Need-returns-9
 returns-9 c = search rules
 
 returns-10 : tie.Need-returns-10
-returns-10 c = other-letter _ _ c.before.byte_at.ensures c.match.rest
+returns-10 c = other_letter _ _ c.before.byte_at.ensures c.match.rest
 
 pub number-of-spec : {M : Type 1} → statement M
 number-of-spec =

@@ -5,12 +5,12 @@ use native.Mathlib.Omega.{arith}
 use borrow.Author.Tests.{eq-eqb, ne_eqb, lt-ltb, le-ltb}
 use borrow.Author.Rules.{rules}
 use Rattle.base.proofs.Choice.{chosen, passed}
-use Rattle.records.specs.Maps.{addressAt, ascendsAt}
+use Rattle.records.specs.Maps.{address_at, ascends_at}
 use Rattle.records.proofs.map.ascends.Statement.{statement}
 use Rattle.records.proofs.map.ascends.Tie as tie
 
 returns : tie.Need-returns
-unfolding ascendsAt
+unfolding ascends_at
 returns c = sym (chosen _ _ (eq-eqb _ _ c.if1.true))
 
 mul-word : tie.Need-overflow-mul-word
@@ -29,19 +29,19 @@ word-requires-2 : tie.Need-word-requires-2
 word-requires-2 c κs = search rules
 
 returns-2 : tie.Need-returns-2
-unfolding ascendsAt
+unfolding ascends_at
 returns-2 c =
     let a = c.before.before.before.before.before.args in
     let m = a.map.now in
-    let h : addressAt m a.k ≤ addressAt m (a.k - 1) = omega (arith, c.before.before.word.ensures, c.before.word2.ensures) in
+    let h : address_at m a.k ≤ address_at m (a.k - 1) = omega (arith, c.before.before.word.ensures, c.before.word2.ensures) in
     sym (passed _ _ (ne_eqb _ _ c.before.before.before.if1.false) ∙ le-ltb _ _ h)
 
 returns-3 : tie.Need-returns-3
-unfolding ascendsAt
+unfolding ascends_at
 returns-3 c =
     let a = c.before.before.before.before.before.args in
     let m = a.map.now in
-    let h : addressAt m (a.k - 1) < addressAt m a.k = omega (arith, c.before.before.word.ensures, c.before.word2.ensures) in
+    let h : address_at m (a.k - 1) < address_at m a.k = omega (arith, c.before.before.word.ensures, c.before.word2.ensures) in
     sym (passed _ _ (ne_eqb _ _ c.before.before.before.if1.false) ∙ lt-ltb _ _ h)
 
 pub ascends-spec : {M : Type 1} → statement M

@@ -5,10 +5,10 @@ use native.Mathlib.Omega.{arith}
 use lib.Dec.{leb}
 use borrow.Author.Tests.{eq-eqb, lt-ltb, not-true, not-false}
 use borrow.Author.Rules.{rules}
-use Rattle.base.proofs.Choice.{and-true, refuted, clash}
+use Rattle.base.proofs.Choice.{and_true, refuted, clash}
 use Rattle.base.proofs.Below.{every-all}
 use Rattle.base.specs.Below.{number}
-use Rattle.records.specs.Sets.{records, follows, recordFits, opens_at, setAccepted}
+use Rattle.records.specs.Sets.{records, follows, record_fits, opens_at, set_accepted}
 use Rattle.records.proofs.Sets.{accepted}
 use Rattle.records.proofs.set.accepted.Statement.{statement}
 use Rattle.records.proofs.set.accepted.Tie as tie
@@ -29,7 +29,7 @@ records-fit-requires c κs = search rules
 returns-3 : tie.Need-returns-3
 returns-3 c =
     let s = c.before.before.before.before.before.args.set.now in
-    sym (refuted _ (λ e. clash (every-all (λ k. follows s k && recordFits s k) (records s) (λ k b. and-true ((accepted s e).follow k b) ((accepted s e).fit k b))) (sym c.before.records-fit.ensures ∙ not-true _ c.if3.true)))
+    sym (refuted _ (λ e. clash (every-all (λ k. follows s k && record_fits s k) (records s) (λ k b. and_true ((accepted s e).follow k b) ((accepted s e).fit k b))) (sym c.before.records-fit.ensures ∙ not-true _ c.if3.true)))
 
 sub-is-last : tie.Need-overflow-sub-is-last
 sub-is-last c = search rules
@@ -55,14 +55,14 @@ few-checkpoints-requires : tie.Need-few-checkpoints-requires
 few-checkpoints-requires c κs = search rules
 
 returns-5 : tie.Need-returns-5
-unfolding setAccepted
+unfolding set_accepted
 returns-5 c =
     let s = c.before.before.before.before.before.before.before.before.before.args.set.now in
     let whole = eq-eqb _ _ c.before.before.before.before.before.before.before.if1.false in
     let some = lt-ltb 0 (records s) (omega arith) in
     let fit = sym c.before.before.before.before.before.records-fit.ensures ∙ not-false _ c.before.before.before.before.if3.false in
     let last = sym c.before.before.is_last.ensures ∙ not-false _ c.before.if4.false in
-    c.few-checkpoints.ensures ∙ sym (ap (λ b. b && leb (number (records s) (opens_at s)) 8) (and-true (and-true (and-true whole some) fit) last))
+    c.few-checkpoints.ensures ∙ sym (ap (λ b. b && leb (number (records s) (opens_at s)) 8) (and_true (and_true (and_true whole some) fit) last))
 
 pub accepted-spec : {M : Type 1} → statement M
 accepted-spec =

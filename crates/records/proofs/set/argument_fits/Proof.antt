@@ -6,7 +6,7 @@ use lib.Dec.{eqb}
 use borrow.Author.Tests.{lt-ltb, le-ltb}
 use borrow.Author.Rules.{rules}
 use Rattle.base.proofs.Choice.{chosen, passed}
-use Rattle.records.specs.Sets.{threadAt, argumentAt, count_of, argumentFits}
+use Rattle.records.specs.Sets.{thread_at, argument_at, count_of, argument_fits}
 use Rattle.records.proofs.set.argument_fits.Statement.{statement}
 use Rattle.records.proofs.set.argument_fits.Tie as tie
 
@@ -29,36 +29,36 @@ is-bare-requires : tie.Need-is-bare-requires
 is-bare-requires c κs = search rules
 
 returns : tie.Need-returns
-unfolding argumentFits
+unfolding argument_fits
 returns c = ap (λ x. eqb x 0) c.before.before.word.ensures ∙ sym (chosen _ _ (sym c.before.is-bare.ensures ∙ c.if1.true))
 
 is-jump-requires : tie.Need-is-jump-requires
 is-jump-requires c κs = search rules
 
 returns-2 : tie.Need-returns-2
-unfolding argumentFits
+unfolding argument_fits
 returns-2 c =
     let start = c.before.before.before.before.before.before.before.before in
     let s = start.args.set.now in
     let k = start.args.k in
     let bare = sym c.before.before.before.before.is-bare.ensures ∙ c.before.before.before.if1.false in
     let jump = sym c.before.before.is-jump.ensures ∙ c.before.if2.true in
-    let h : count_of s (threadAt s k) ≤ argumentAt s k = omega (arith, start.requires.1, c.before.before.before.before.before.word.ensures) in
+    let h : count_of s (thread_at s k) ≤ argument_at s k = omega (arith, start.requires.1, c.before.before.before.before.before.word.ensures) in
     sym (passed _ _ bare ∙ chosen _ _ jump ∙ le-ltb _ _ h)
 
 returns-3 : tie.Need-returns-3
-unfolding argumentFits
+unfolding argument_fits
 returns-3 c =
     let start = c.before.before.before.before.before.before.before.before in
     let s = start.args.set.now in
     let k = start.args.k in
     let bare = sym c.before.before.before.before.is-bare.ensures ∙ c.before.before.before.if1.false in
     let jump = sym c.before.before.is-jump.ensures ∙ c.before.if2.true in
-    let h : argumentAt s k < count_of s (threadAt s k) = omega (arith, start.requires.1, c.before.before.before.before.before.word.ensures) in
+    let h : argument_at s k < count_of s (thread_at s k) = omega (arith, start.requires.1, c.before.before.before.before.before.word.ensures) in
     sym (passed _ _ bare ∙ chosen _ _ jump ∙ lt-ltb _ _ h)
 
 returns-4 : tie.Need-returns-4
-unfolding argumentFits
+unfolding argument_fits
 returns-4 c =
     let bare = sym c.before.before.before.is-bare.ensures ∙ c.before.before.if1.false in
     let jump = sym c.before.is-jump.ensures ∙ c.if2.false in

@@ -6,7 +6,7 @@ use native.Mathlib.Omega.{arith}
 use lib.Dec.{eqb}
 use borrow.Author.Rules.{rules}
 use Rattle.base.specs.Below.{number}
-use Rattle.records.specs.Sets.{records, threadAt, count_of}
+use Rattle.records.specs.Sets.{records, thread_at, count_of}
 use Rattle.records.proofs.Counts.{counted, counted-below}
 use Rattle.records.proofs.set.counts_of.Statement.{statement}
 use Rattle.records.proofs.set.counts_of.Tie as tie
@@ -14,8 +14,8 @@ use Rattle.records.proofs.set.counts_of.Tie as tie
 -- the counters after k records
 abbrev Counted : List ℕ → ℕ → ℕ → ℕ → ℕ → ℕ → Type 0
 Counted set first second third fourth k =
-    (first ≡ number k (λ j. eqb (threadAt set j) 0)) × (second ≡ number k (λ j. eqb (threadAt set j) 1))
-    × (third ≡ number k (λ j. eqb (threadAt set j) 2)) × (fourth ≡ number k (λ j. eqb (threadAt set j) 3))
+    (first ≡ number k (λ j. eqb (thread_at set j) 0)) × (second ≡ number k (λ j. eqb (thread_at set j) 1))
+    × (third ≡ number k (λ j. eqb (thread_at set j) 2)) × (fourth ≡ number k (λ j. eqb (thread_at set j) 3))
 
 abbrev invariant-loop : tie.invariant-loop
 invariant-loop set n first₀ second₀ third₀ fourth₀ k₀ first second third fourth k = (k ≤ n) × Counted set first second third fourth k
@@ -39,7 +39,7 @@ cast-first c = search rules
 add-first : tie.Need-overflow-add-first invariant-loop decreases-loop
 add-first c =
     let at = c.before.before.loop in
-    omega (arith, counted-below (threadAt c.before.before.before.args.set.now) 0 at.k at.first at.invariant.1.0)
+    omega (arith, counted-below (thread_at c.before.before.before.args.set.now) 0 at.k at.first at.invariant.1.0)
 
 cast-second : tie.Need-overflow-cast-second invariant-loop decreases-loop
 cast-second c = search rules
@@ -47,7 +47,7 @@ cast-second c = search rules
 add-second : tie.Need-overflow-add-second invariant-loop decreases-loop
 add-second c =
     let at = c.before.before.loop in
-    omega (arith, counted-below (threadAt c.before.before.before.args.set.now) 1 at.k at.second at.invariant.1.1)
+    omega (arith, counted-below (thread_at c.before.before.before.args.set.now) 1 at.k at.second at.invariant.1.1)
 
 cast-third : tie.Need-overflow-cast-third invariant-loop decreases-loop
 cast-third c = search rules
@@ -55,7 +55,7 @@ cast-third c = search rules
 add-third : tie.Need-overflow-add-third invariant-loop decreases-loop
 add-third c =
     let at = c.before.before.loop in
-    omega (arith, counted-below (threadAt c.before.before.before.args.set.now) 2 at.k at.third at.invariant.1.2)
+    omega (arith, counted-below (thread_at c.before.before.before.args.set.now) 2 at.k at.third at.invariant.1.2)
 
 cast-fourth : tie.Need-overflow-cast-fourth invariant-loop decreases-loop
 cast-fourth c = search rules
@@ -63,7 +63,7 @@ cast-fourth c = search rules
 add-fourth : tie.Need-overflow-add-fourth invariant-loop decreases-loop
 add-fourth c =
     let at = c.before.before.loop in
-    omega (arith, counted-below (threadAt c.before.before.before.args.set.now) 3 at.k at.fourth at.invariant.1.3)
+    omega (arith, counted-below (thread_at c.before.before.before.args.set.now) 3 at.k at.fourth at.invariant.1.3)
 
 add-k : tie.Need-overflow-add-k invariant-loop decreases-loop
 add-k c = search rules
@@ -74,7 +74,7 @@ loop-less c = search rules
 loop-again : tie.Need-loop-preserved invariant-loop decreases-loop
 loop-again c =
     let at = c.before.before.loop in
-    let thread = threadAt c.before.before.before.args.set.now in
+    let thread = thread_at c.before.before.before.args.set.now in
     (search rules, (counted thread 0 at.k at.first at.invariant.1.0, counted thread 1 at.k at.second at.invariant.1.1, counted thread 2 at.k at.third at.invariant.1.2, counted thread 3 at.k at.fourth at.invariant.1.3))
 
 returns : tie.Need-returns invariant-loop decreases-loop

@@ -7,7 +7,7 @@ use lib.Dec.{eqb}
 use borrow.Author.Tests.{eq-eqb, ne_eqb}
 use borrow.Author.Rules.{rules}
 use Rattle.base.proofs.Choice.{chosen, passed}
-use Rattle.records.specs.Sets.{threadAt, follows}
+use Rattle.records.specs.Sets.{thread_at, follows}
 use Rattle.records.proofs.set.follows.Statement.{statement}
 use Rattle.records.proofs.set.follows.Tie as tie
 
@@ -27,7 +27,7 @@ returns : tie.Need-returns
 unfolding follows
 returns c =
     let a = c.before.before.before.before.args in
-    ap (λ p. eqb (threadAt a.set.now a.k) 0 && eqb p 0) c.before.word.ensures ∙ sym (chosen _ _ (eq-eqb _ _ c.if1.true))
+    ap (λ p. eqb (thread_at a.set.now a.k) 0 && eqb p 0) c.before.word.ensures ∙ sym (chosen _ _ (eq-eqb _ _ c.if1.true))
 
 sub-last : tie.Need-overflow-sub-last
 sub-last c = search rules
@@ -80,7 +80,7 @@ unfolding follows
 returns-3 c =
     let a = c.before.before.before.before.before.before.before.before.args in
     let s = a.set.now in
-    ap₂ (λ p l. eqb (threadAt s a.k) (threadAt s (a.k - 1) + 1) && eqb p 0 && l) c.before.before.before.before.before.word.ensures c.is_last.ensures
+    ap₂ (λ p l. eqb (thread_at s a.k) (thread_at s (a.k - 1) + 1) && eqb p 0 && l) c.before.before.before.before.before.word.ensures c.is_last.ensures
     ∙ sym (passed _ _ (ne_eqb _ _ c.before.before.before.before.if1.false) ∙ passed _ _ (ne_eqb _ _ c.before.before.if2.false))
 
 pub follows-spec : {M : Type 1} → statement M

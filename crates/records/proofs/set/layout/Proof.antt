@@ -5,7 +5,7 @@ use mathlib.Core.List.{[], ◌∷◌}
 use native.Mathlib.Omega.{arith}
 use borrow.Author.Rules.{rules}
 use Rattle.base.proofs.Choice.{passed, refuted}
-use Rattle.records.specs.Sets.{setAccepted, threadsOf, start_of, count_of, countsOf, layout_of}
+use Rattle.records.specs.Sets.{set_accepted, threads_of, start_of, count_of, counts_of, layout_of}
 use Rattle.records.proofs.Sets.{accepted, few-records, count-below, last-thread, accepted-parts}
 use Rattle.records.proofs.set.layout.Statement.{statement}
 use Rattle.records.proofs.set.layout.Tie as tie
@@ -54,14 +54,14 @@ add-t22 c =
     omega (arith, last-thread s (sym c.before.before.accepted.ensures ∙ c.before.if2.true))
 
 returns : tie.Need-returns
-unfolding threadsOf start_of
+unfolding threads_of start_of
 returns c =
     let s = c.before.before.before.before.before.before.args.set.now in
     let counts = c.before.before.before.Counts-of.ensures in
     let second : count_of s 0 ≡ start_of s 1 = omega arith in
     let third : count_of s 0 + count_of s 1 ≡ start_of s 2 = omega arith in
     let fourth : count_of s 0 + count_of s 1 + count_of s 2 ≡ start_of s 3 = omega arith in
-    rw counts (λ z. record { threads = threadsOf s; starts = 0 ∷ second z ∷ third z ∷ fourth z ∷ []; counts = countsOf s })
+    rw counts (λ z. record { threads = threads_of s; starts = 0 ∷ second z ∷ third z ∷ fourth z ∷ []; counts = counts_of s })
     ∙ sym (accepted-parts s (sym c.before.before.accepted.ensures ∙ c.before.if2.true))
 
 returns-2 : tie.Need-returns-2
@@ -72,7 +72,7 @@ returns-3 : tie.Need-returns-3
 unfolding layout_of
 returns-3 c =
     let s = c.before.before.args.set.now in
-    sym (passed _ _ (refuted (setAccepted s) (λ e. omega (arith, few-records s e))))
+    sym (passed _ _ (refuted (set_accepted s) (λ e. omega (arith, few-records s e))))
 
 pub layout-spec : {M : Type 1} → statement M
 layout-spec =

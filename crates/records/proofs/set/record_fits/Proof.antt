@@ -7,9 +7,9 @@ use lib.ListN.{get_or}
 use lib.Dec.{eqb, ltb, leb}
 use borrow.Author.Tests.{lt-ltb, le-ltb}
 use borrow.Author.Rules.{rules}
-use Rattle.base.proofs.Choice.{and-true, and-false, and-right-false, cast-test}
-use Rattle.records.specs.Sets.{threadAt, number_at, modeAt, spareAt, pcAt, argumentFits, recordFits}
-use Rattle.records.specs.Instructions.{isMemory, instructions}
+use Rattle.base.proofs.Choice.{and_true, and_false, and_right_false, cast_test}
+use Rattle.records.specs.Sets.{thread_at, number_at, mode_at, spare_at, pc_at, argument_fits, record_fits}
+use Rattle.records.specs.Instructions.{is_memory, instructions}
 use Rattle.records.proofs.Sets.{counts-at}
 use Rattle.records.proofs.set.record_fits.Statement.{statement}
 use Rattle.records.proofs.set.record_fits.Tie as tie
@@ -24,8 +24,8 @@ cast-thread : tie.Need-overflow-cast-thread
 cast-thread c = omega (arith, c.shared-slice-known2.given (8 * c.before.before.args.k))
 
 returns : tie.Need-returns
-unfolding recordFits
-returns c = sym (and-false _ (and-false _ (and-false _ (and-false _ (and-false _ (le-ltb _ _ c.if1.true))))))
+unfolding record_fits
+returns c = sym (and_false _ (and_false _ (and_false _ (and_false _ (and_false _ (le-ltb _ _ c.if1.true))))))
 
 add-word : tie.Need-overflow-add-word
 add-word c = search rules
@@ -34,12 +34,12 @@ word-requires : tie.Need-word-requires
 word-requires c κs = search rules
 
 returns-2 : tie.Need-returns-2
-unfolding recordFits
+unfolding record_fits
 returns-2 c =
     let a = c.before.before.before.before.before.args in
     let s = a.set.now in
-    let h : 32 ≤ pcAt s a.k = omega (arith, c.before.word.ensures) in
-    sym (and-false _ (and-false _ (and-false _ (and-false _ (and-right-false (ltb (threadAt s a.k) 4) (le-ltb (pcAt s a.k) 32 h))))))
+    let h : 32 ≤ pc_at s a.k = omega (arith, c.before.word.ensures) in
+    sym (and_false _ (and_false _ (and_false _ (and_false _ (and_right_false (ltb (thread_at s a.k) 4) (le-ltb (pc_at s a.k) 32 h))))))
 
 add-number : tie.Need-overflow-add-number
 add-number c = search rules
@@ -75,20 +75,20 @@ argument-fits-requires : tie.Need-argument-fits-requires
 argument-fits-requires c κs =
     let a = c.before.before.before.before.before.before.before.before.before in
     let s = a.args.set.now in
-    (search rules, ap (λ l. get_or l (threadAt s a.args.k) 0) a.requires.1 ∙ counts-at s (threadAt s a.args.k) (omega arith))
+    (search rules, ap (λ l. get_or l (thread_at s a.args.k) 0) a.requires.1 ∙ counts-at s (thread_at s a.args.k) (omega arith))
 
 returns-3 : tie.Need-returns-3
-unfolding recordFits
+unfolding record_fits
 returns-3 c =
     let a = c.before.before.before.before.before.before.before.before.before.before.args in
     let s = a.set.now in
     let k = a.k in
-    let thread : threadAt s k < 4 = omega arith in
-    let pc : pcAt s k < 32 = omega (arith, c.before.before.before.before.before.before.word.ensures) in
+    let thread : thread_at s k < 4 = omega arith in
+    let pc : pc_at s k < 32 = omega (arith, c.before.before.before.before.before.before.word.ensures) in
     let memory = c.before.before.before.is-memory in
-    let most = cast-test memory.result ∙ ap (λ b. cond b 1 0) memory.ensures in
-    (λ z. ltb (number_at s k) instructions && leb (modeAt s k) (most z) && eqb (spareAt s k) 0 && c.argument-fits.ensures z)
-    ∙ sym (ap (λ b. b && ltb (number_at s k) instructions && leb (modeAt s k) (cond (isMemory (number_at s k)) 1 0) && eqb (spareAt s k) 0 && argumentFits s k) (and-true (lt-ltb _ _ thread) (lt-ltb _ _ pc)))
+    let most = cast_test memory.result ∙ ap (λ b. cond b 1 0) memory.ensures in
+    (λ z. ltb (number_at s k) instructions && leb (mode_at s k) (most z) && eqb (spare_at s k) 0 && c.argument-fits.ensures z)
+    ∙ sym (ap (λ b. b && ltb (number_at s k) instructions && leb (mode_at s k) (cond (is_memory (number_at s k)) 1 0) && eqb (spare_at s k) 0 && argument_fits s k) (and_true (lt-ltb _ _ thread) (lt-ltb _ _ pc)))
 
 pub record-fits-spec : {M : Type 1} → statement M
 record-fits-spec =

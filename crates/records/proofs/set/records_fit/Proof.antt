@@ -7,12 +7,12 @@ use borrow.Author.Tests.{not-true, not-false}
 use borrow.Author.Rules.{rules}
 use Rattle.base.proofs.Below.{every_more, every-not}
 use Rattle.base.specs.Below.{every}
-use Rattle.records.specs.Sets.{records, follows, recordFits}
+use Rattle.records.specs.Sets.{records, follows, record_fits}
 use Rattle.records.proofs.set.records_fit.Statement.{statement}
 use Rattle.records.proofs.set.records_fit.Tie as tie
 
 abbrev invariant-loop : tie.invariant-loop
-invariant-loop set counts n k₀ k = (k ≤ n) × (every k (λ j. follows set j && recordFits set j) ≡ true)
+invariant-loop set counts n k₀ k = (k ≤ n) × (every k (λ j. follows set j && record_fits set j) ≡ true)
 
 abbrev decreases-loop : tie.decreases-loop
 decreases-loop set counts n k₀ k = n - k
@@ -31,7 +31,7 @@ returns : tie.Need-returns invariant-loop decreases-loop
 returns c =
     let s = c.before.before.before.before.before.before.args.set.now in
     let e = sym (ap₂ ◌&&◌ c.before.before.follows.ensures c.before.record-fits.ensures) ∙ not-true _ c.if1.true in
-    sym (every-not (λ k. follows s k && recordFits s k) (records s) _ c.before.before.before.loop-test.true e)
+    sym (every-not (λ k. follows s k && record_fits s k) (records s) _ c.before.before.before.loop-test.true e)
 
 add-k : tie.Need-overflow-add-k invariant-loop decreases-loop
 add-k c = search rules
@@ -43,7 +43,7 @@ loop-again : tie.Need-loop-preserved invariant-loop decreases-loop
 loop-again c =
     let s = c.before.before.before.before.before.before.args.set.now in
     let e = sym (ap₂ ◌&&◌ c.before.before.follows.ensures c.before.record-fits.ensures) ∙ not-false _ c.if1.false in
-    (search rules, every_more (λ k. follows s k && recordFits s k) _ c.before.before.before.before.loop.invariant.1 e)
+    (search rules, every_more (λ k. follows s k && record_fits s k) _ c.before.before.before.before.loop.invariant.1 e)
 
 returns-2 : tie.Need-returns-2 invariant-loop decreases-loop
 returns-2 c =

@@ -4,11 +4,11 @@ use mathlib.Core.Path.{◌≡◌, refl, ap, sym, ◌∙◌, subst}
 use native.Mathlib.Omega.{arith}
 use native.Mathlib.Decide.{dec_lt}
 use lib.ListN.{length, get_or}
-use Rattle.records.specs.Sets.{Set, setBy}
+use Rattle.records.specs.Sets.{Set, set_by}
 use Rattle.records.specs.declared.Statement.{Statement}
 use Rattle.set_index.specs.Points.{listed}
 use Rattle.records.specs.StatementRecords.{StandsFrom}
-use Rattle.set_index.specs.Members.{Members, members_of, classCount}
+use Rattle.set_index.specs.Members.{Members, members_of, class_count}
 use Rattle.records.proofs.StatementRecords.{stands_from}
 use Rattle.set_index.proofs.StatementRecords.{member-stands}
 use Rattle.set_index.proofs.Listed.{members-below}
@@ -22,7 +22,7 @@ use Rattle.set_index.proofs.lists.list_members.Tie as tie
 abbrev invariant-loop : tie.invariant-loop
 invariant-loop set points members table₀ class heads nexts t first j₀ table j =
     (j ≤ j₀) × (first < 65536) × (length table ≡ length table₀)
-    × ((S : Set) → class < classCount → t < 4 → Members S members → StandsFrom S set t first (S.count t) → Distinct (listed points)
+    × ((S : Set) → class < class_count → t < 4 → Members S members → StandsFrom S set t first (S.count t) → Distinct (listed points)
     → heads + many (listed points) class ≤ nexts → nexts + 32 ≤ length table₀
     → ((p : ℕ) → p < many (listed points) class → get_or table₀ (heads + p) 0 ≡ 32)
     → Listing S (listed points) class t (From S class t j) heads nexts table₀ table)
@@ -120,7 +120,7 @@ returns c =
     let a = c.before.before.before.before.before.before.before.args in
     let l = c.before.loop in
     let first = c.before.before.before.first in
-    let S = setBy (now a.set) a.layout in (
+    let S = set_by (now a.set) a.layout in (
       l.invariant.2,
       λ kind row (members : Members S (now a.members)) distinct apart room empty.
           let known = stands_from (now a.set) a.layout a.t first.result (S.count a.t) first.ensures.0 (omega arith) in

@@ -3,10 +3,10 @@ use Prim.Native.Nat.{◌-◌, ◌≤◌}
 use mathlib.Core.Path.{◌≡◌, refl, ◌∙◌}
 use native.Mathlib.Omega.{arith}
 use lib.ListN.{length, replicate}
-use Rattle.records.specs.Sets.{setBy}
+use Rattle.records.specs.Sets.{set_by}
 use Rattle.set_index.specs.Points.{listed}
 use Rattle.set_index.specs.Members.{Members}
-use Rattle.set_index.specs.ListTables.{Distinct, Made, listsLength, noStatement}
+use Rattle.set_index.specs.ListTables.{Distinct, Made, lists_length, no_statement}
 use Rattle.set_index.proofs.Making.{made_none, made_all}
 use Rattle.set_index.proofs.Counted.{listed-most}
 use borrow.Author.Rules.{rules}
@@ -16,7 +16,7 @@ use Rattle.set_index.proofs.lists.make.Tie as tie
 abbrev invariant-loop : tie.invariant-loop
 invariant-loop set layout points members table₀ threads t₀ table t =
     (t ≤ threads) × (threads ≤ 4) × (length (listed points) ≤ 8) × (length table ≡ length table₀)
-    × (table₀ ≡ replicate listsLength noStatement → Members (setBy set layout) members → Distinct (listed points) → Made (setBy set layout) (listed points) t table)
+    × (table₀ ≡ replicate lists_length no_statement → Members (set_by set layout) members → Distinct (listed points) → Made (set_by set layout) (listed points) t table)
 
 abbrev decreases-loop : tie.decreases-loop
 decreases-loop set layout points members table₀ threads t₀ table t = threads - t
@@ -29,7 +29,7 @@ returns c =
 loop-holds : tie.Need-loop-init invariant-loop decreases-loop
 loop-holds c =
     let a = c.before.before.before.before.args in
-    let S = setBy (now a.set) a.layout in
+    let S = set_by (now a.set) a.layout in
     let four = c.if1.false in
     let eight : length a.points.numbers ≡ 8 = search rules in
     let most = listed-most a.points eight in (
@@ -69,7 +69,7 @@ same_length c = search rules
 returns-2 : tie.Need-returns-2 invariant-loop decreases-loop
 returns-2 c =
     let a = c.before.before.before.before.before.before.args in
-    let S = setBy (now a.set) a.layout in
+    let S = set_by (now a.set) a.layout in
     let l = c.before.loop in (
       l.invariant.3,
       λ empty four (members : Members S (now a.members)) distinct.

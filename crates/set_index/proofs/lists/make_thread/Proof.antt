@@ -3,7 +3,7 @@ use Prim.Native.Nat.{ℕ, ◌+◌, ◌*◌, ◌<◌}
 use mathlib.Core.Path.{◌≡◌, ◌∙◌}
 use native.Mathlib.Omega.{arith}
 use lib.ListN.{length}
-use Rattle.records.specs.Sets.{setBy}
+use Rattle.records.specs.Sets.{set_by}
 use Rattle.set_index.specs.Points.{listed}
 use Rattle.set_index.specs.Members.{Members}
 use Rattle.set_index.specs.ListTables.{Made}
@@ -40,7 +40,7 @@ same_length c = search rules
 returns : tie.Need-returns
 returns c =
     let a = c.before.before.before.before.before.before.before.before.before.before.before.args in
-    let S = setBy a.set.now a.layout in
+    let S = set_by a.set.now a.layout in
     let cs = listed a.points in
     let eight : length a.points.numbers ≡ 8 = search rules in
     let most = listed-most a.points eight in
@@ -50,10 +50,10 @@ returns c =
       λ (row : a.t < 4) (members : Members S a.members.now) distinct (old : Made S cs a.t a.table.now).
           let whole = old.whole in
           let same = first.ensures.0 in
-          let one = first.ensures.1 (omega arith) row members distinct (omega arith) (omega arith) (λ (p : ℕ) (h : p < length cs). old.noChecks a.t p (omega arith) row (omega arith)) in
+          let one = first.ensures.1 (omega arith) row members distinct (omega arith) (omega arith) (λ (p : ℕ) (h : p < length cs). old.no_checks a.t p (omega arith) row (omega arith)) in
           let two = then.ensures.1 (omega arith) row members distinct (omega arith) (omega arith)
           (λ (j : ℕ) (h : j < 32). one.others (160 + 32 * a.t + j) (λ i (k : 160 + 32 * a.t + j < 8 * a.t + length cs). omega arith) (λ i (k : 160 + 32 * a.t + j < 32 + 32 * a.t + 32). omega arith)
-          ∙ old.noJumps a.t j (omega arith) row h) in
+          ∙ old.no_jumps a.t j (omega arith) row h) in
           made_more S cs most members.few a.t row a.table.now _ _ old (then.ensures.0 ∙ first.ensures.0) one two,
     )
 

@@ -3,7 +3,7 @@ use Rattle.records.specs.Sets.{Set}
 use native.Mathlib.Omega.{arith}
 use mathlib.Core.Path.{◌∙◌}
 use Prim.Native.Nat.{◌<◌}
-use Rattle.set_index.specs.Members.{Members, classCount}
+use Rattle.set_index.specs.Members.{Members, class_count}
 use Rattle.set_index.proofs.Listed.{members-few}
 use borrow.Author.Rules.{rules}
 use Rattle.set_index.proofs.members.count_of.Statement.{statement}
@@ -31,7 +31,7 @@ returns-2 : tie.Need-returns-2
 returns-2 c =
     let a = c.before.before.before.args in
     let b = c.before.byte_at in (
-      (λ (S : Set) (m : Members S (now a.members)) (p : a.class < classCount) (q : a.t < 4).
+      (λ (S : Set) (m : Members S (now a.members)) (p : a.class < class_count) (q : a.t < 4).
           let e = (m.row a.class a.t p q).many in
           let g = b.ensures in
           let most = m.few a.t q in

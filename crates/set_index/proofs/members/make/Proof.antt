@@ -2,8 +2,8 @@
 use native.Mathlib.Omega.{arith}
 use mathlib.Core.Path.{◌≡◌, sym, ◌∙◌, subst}
 use lib.ListN.{replicate}
-use Rattle.records.specs.Sets.{setBy}
-use Rattle.set_index.specs.Members.{Filled, membersLength}
+use Rattle.records.specs.Sets.{set_by}
+use Rattle.set_index.specs.Members.{Filled, members_length}
 use Rattle.set_index.proofs.Filling.{filled_none, filled-all}
 use borrow.Author.Rules.{rules}
 use Rattle.set_index.proofs.members.make.Statement.{statement}
@@ -31,9 +31,9 @@ returns c =
     let third = c.before.before.before.before.before.before.make-thread3.ensures in
     let fourth = c.before.before.make-thread4.ensures in
     let a = c.before.before.before.before.before.before.before.before.before.before.before.before.before.before.before.before.before.before.args in
-    let S = setBy (now a.set) a.layout in (
+    let S = set_by (now a.set) a.layout in (
       fourth.0 ∙ (third.0 ∙ (second.0 ∙ first.0)),
-      λ (e : now a.members ≡ replicate membersLength 0) few.
+      λ (e : now a.members ≡ replicate members_length 0) few.
           filled-all S _ (fourth.1 (omega arith) (third.1 (omega arith) (second.1 (omega arith) (first.1 (omega arith) (subst (Filled S 0 0 0) (sym e) (filled_none S few)))))),
     )
 

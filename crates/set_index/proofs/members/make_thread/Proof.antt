@@ -1,6 +1,6 @@
 -- `set_index::members::make_thread` meets its contract. Assumes nothing.
 use Rattle.records.specs.declared.Statement.{Statement}
-use Rattle.records.specs.Sets.{Set, setBy}
+use Rattle.records.specs.Sets.{Set, set_by}
 use native.Mathlib.Omega.{arith}
 use mathlib.Core.Path.{◌≡◌, refl, sym, ap, ◌∙◌}
 use Prim.Native.Nat.{◌-◌, ◌≤◌, ◌<◌}
@@ -93,7 +93,7 @@ returns-3 c =
     let end = c.before.before.listed-count in
     let count = c.before.before.before.count in
     let start = c.before.before.before.before.first in
-    let S = setBy a.set.now a.layout in (
+    let S = set_by a.set.now a.layout in (
       l.invariant.3,
       λ q (f : Filled S a.t 0 0 a.members.now).
           let most = f.few a.t q in

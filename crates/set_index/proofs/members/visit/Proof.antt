@@ -4,8 +4,8 @@ use native.Mathlib.Omega.{arith}
 use mathlib.Core.Path.{refl, sym, ◌∙◌}
 use Prim.Native.Nat.{◌+◌, ◌<◌}
 use lib.Seq.{lt-length-set}
-use Rattle.set_index.specs.Members.{rowIndex, Filled, classCount}
-use Rattle.set_index.proofs.Filling.{put-length, filled-add, filled-many, filled-pass}
+use Rattle.set_index.specs.Members.{row_index, Filled, class_count}
+use Rattle.set_index.proofs.Filling.{put-length, filled_add, filled-many, filled-pass}
 use borrow.Author.Rules.{rules}
 use Rattle.set_index.proofs.members.visit.Statement.{statement}
 use Rattle.set_index.proofs.members.visit.Tie as tie
@@ -40,7 +40,7 @@ add-members c = search rules
 slice-write-members-2 : tie.Need-slice-write-members-2
 slice-write-members-2 c =
     let a = c.before.before.before.before.before.before.args in
-    lt-length-set a.members.now (rowIndex a.class a.t + 1 + c.before.before.byte_at.result) _ (omega arith)
+    lt-length-set a.members.now (row_index a.class a.t + 1 + c.before.before.byte_at.result) _ (omega arith)
 
 same_length : tie.Need-same-length
 same_length c = search rules
@@ -49,8 +49,8 @@ returns : tie.Need-returns
 returns c =
     let a = c.before.before.before.before.before.before.args in
     let b = c.before.before.byte_at in (
-      put-length a.members.now (rowIndex a.class a.t) b.result a.i,
-      λ (S : Set) p q h e f. filled-add S a.t a.i a.class a.members.now p q h f b.result b.ensures (sym c.before.before.before.before.if1.true ∙ e),
+      put-length a.members.now (row_index a.class a.t) b.result a.i,
+      λ (S : Set) p q h e f. filled_add S a.t a.i a.class a.members.now p q h f b.result b.ensures (sym c.before.before.before.before.if1.true ∙ e),
     )
 
 same-length-2 : tie.Need-same-length-2
@@ -67,7 +67,7 @@ returns-3 c =
     let a = c.before.before.before.before.before.args in
     let b = c.before.byte_at in (
       refl,
-      λ (S : Set) (p : a.class < classCount) (q : a.t < 4) (h : a.i < 32) e (f : Filled S a.t a.i a.class a.members.now).
+      λ (S : Set) (p : a.class < class_count) (q : a.t < 4) (h : a.i < 32) e (f : Filled S a.t a.i a.class a.members.now).
           let few = filled-many S a.t a.i a.class a.members.now p q h f in
           let many = b.ensures in
           absurd (omega arith),

@@ -5,7 +5,7 @@ use mathlib.Core.Path.{◌≡◌, ap, ◌∙◌}
 use Prim.Native.Nat.{ℕ}
 use lib.Dec.{eqb}
 use Rattle.records.specs.Instructions.{STORE, MEM, HALT, CAS}
-use Rattle.encoding.specs.Steps.{setsAccu}
+use Rattle.encoding.specs.Steps.{sets_accu}
 use borrow.Author.Rules.{rules}
 use Rattle.set_index.proofs.members.visit_first.Statement.{statement}
 use Rattle.set_index.proofs.members.visit_first.Tie as tie
@@ -43,7 +43,7 @@ returns c =
       λ (S : Set) p q (e : a.n ≡ (S.statement a.t a.i).number) f.
           let after_store = store.1 S (omega arith) p q (ap (λ (n : ℕ). eqb n STORE) e) f in
           let after-mem = mem.1 S (omega arith) p q (ap (λ (n : ℕ). eqb n MEM) e) after_store in
-          let after-accu = accu.1 S (omega arith) p q (c.before.before.before.before.before.before.before.before.before.before.before.sets-accu.ensures ∙ ap setsAccu e) after-mem in
+          let after-accu = accu.1 S (omega arith) p q (c.before.before.before.before.before.before.before.before.before.before.before.sets-accu.ensures ∙ ap sets_accu e) after-mem in
           let after-halt = halt.1 S (omega arith) p q (ap (λ (n : ℕ). eqb n HALT) e) after-accu in
           cas.1 S (omega arith) p q (ap (λ (n : ℕ). eqb n CAS) e) after-halt,
     )

@@ -2,7 +2,7 @@
 use Rattle.records.specs.Sets.{Set}
 use native.Mathlib.Omega.{arith}
 use mathlib.Core.Path.{◌≡◌, ap, ◌∙◌}
-use Rattle.encoding.specs.Steps.{loads, isConditional}
+use Rattle.encoding.specs.Steps.{loads, is_conditional}
 use borrow.Author.Rules.{rules}
 use Rattle.set_index.proofs.members.visit_last.Statement.{statement}
 use Rattle.set_index.proofs.members.visit_last.Tie as tie
@@ -30,7 +30,7 @@ returns c =
       conditional.0 ∙ load.0,
       λ (S : Set) p q (e : a.n ≡ (S.statement a.t a.i).number) f.
           let after-load = load.1 S (omega arith) p q (c.before.before.before.before.before.before.before.before.loads.ensures ∙ ap loads e) f in
-          conditional.1 S (omega arith) p q (c.before.before.before.is-conditional.ensures ∙ ap isConditional e) after-load,
+          conditional.1 S (omega arith) p q (c.before.before.before.is-conditional.ensures ∙ ap is_conditional e) after-load,
     )
 
 pub visit-last-spec : {M : Type 1} → statement M

@@ -4,8 +4,8 @@ use native.Mathlib.Omega.{arith}
 use mathlib.Core.Path.{◌≡◌, ap, ◌∙◌}
 use Prim.Native.Nat.{ℕ}
 use lib.Dec.{eqb}
-use Rattle.records.specs.Instructions.{EXIT, CHECK, isJump}
-use Rattle.machine.specs.Machine.{needsEmpty}
+use Rattle.records.specs.Instructions.{EXIT, CHECK, is_jump}
+use Rattle.machine.specs.Machine.{needs_empty}
 use borrow.Author.Rules.{rules}
 use Rattle.set_index.proofs.members.visit_next.Statement.{statement}
 use Rattle.set_index.proofs.members.visit_next.Tie as tie
@@ -41,9 +41,9 @@ returns c =
       jump.0 ∙ (check.0 ∙ (empty.0 ∙ exit.0)),
       λ (S : Set) p q (e : a.n ≡ (S.statement a.t a.i).number) f.
           let after-exit = exit.1 S (omega arith) p q (ap (λ (n : ℕ). eqb n EXIT) e) f in
-          let after-empty = empty.1 S (omega arith) p q (c.before.before.before.before.before.before.before.before.before.before.before.before.needs-empty.ensures ∙ ap needsEmpty e) after-exit in
+          let after-empty = empty.1 S (omega arith) p q (c.before.before.before.before.before.before.before.before.before.before.before.before.needs-empty.ensures ∙ ap needs_empty e) after-exit in
           let after_check = check.1 S (omega arith) p q (ap (λ (n : ℕ). eqb n CHECK) e) after-empty in
-          jump.1 S (omega arith) p q (c.before.before.before.is-jump.ensures ∙ ap isJump e) after_check,
+          jump.1 S (omega arith) p q (c.before.before.before.is-jump.ensures ∙ ap is_jump e) after_check,
     )
 
 pub visit-next-spec : {M : Type 1} → statement M

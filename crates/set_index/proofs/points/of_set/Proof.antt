@@ -5,15 +5,15 @@ use native.Mathlib.Omega.{arith}
 use mathlib.Core.Path.{◌≡◌, ap, sym, ◌∙◌}
 use Prim.Native.Nat.{ℕ, ◌-◌, ◌≤◌}
 use Rattle.set_index.specs.Points.{listed}
-use Rattle.encoding.specs.Checkpoints.{notedBelow, checkpoints}
-use Rattle.records.specs.Sets.{setBy}
+use Rattle.encoding.specs.Checkpoints.{noted_below, checkpoints}
+use Rattle.records.specs.Sets.{set_by}
 use Rattle.set_index.proofs.Noted.{below-start, below_more}
 use Rattle.set_index.proofs.points.of_set.Statement.{statement}
 use Rattle.set_index.proofs.points.of_set.Tie as tie
 
 abbrev invariant-loop : tie.invariant-loop
 invariant-loop set layout threads points₀ t₀ points t =
-    (t ≤ threads) × (listed points ≡ take 8 (notedBelow (setBy set layout) t))
+    (t ≤ threads) × (listed points ≡ take 8 (noted_below (set_by set layout) t))
 
 abbrev decreases-loop : tie.decreases-loop
 decreases-loop set layout threads points₀ t₀ points t = threads - t
@@ -21,7 +21,7 @@ decreases-loop set layout threads points₀ t₀ points t = threads - t
 loop-holds : tie.Need-loop-init invariant-loop decreases-loop
 loop-holds c =
     let a = c.before.args in
-    (omega arith, ap (take 8) (sym (below-start (setBy a.set.now a.layout))))
+    (omega arith, ap (take 8) (sym (below-start (set_by a.set.now a.layout))))
 
 points-of-requires : tie.Need-points-of-requires invariant-loop decreases-loop
 points-of-requires c κs = search rules
@@ -36,8 +36,8 @@ loop-again : tie.Need-loop-preserved invariant-loop decreases-loop
 loop-again c =
     let a = c.before.before.before.before.args in
     let l = c.before.before.loop in
-    let S = setBy a.set.now a.layout in
-    (omega arith, c.points-of.ensures (notedBelow S l.t) l.invariant.1 ∙ ap (take 8) (below_more S l.t))
+    let S = set_by a.set.now a.layout in
+    (omega arith, c.points-of.ensures (noted_below S l.t) l.invariant.1 ∙ ap (take 8) (below_more S l.t))
 
 returns : tie.Need-returns invariant-loop decreases-loop
 unfolding checkpoints
@@ -45,7 +45,7 @@ returns c =
     let a = c.before.before.before.args in
     let l = c.before.loop in
     let t-is : l.t ≡ a.layout.threads = omega arith in
-    l.invariant.1 ∙ ap (λ (t : ℕ). take 8 (notedBelow (setBy a.set.now a.layout) t)) t-is
+    l.invariant.1 ∙ ap (λ (t : ℕ). take 8 (noted_below (set_by a.set.now a.layout) t)) t-is
 
 pub of-set-spec : {M : Type 1} → statement M
 of-set-spec =

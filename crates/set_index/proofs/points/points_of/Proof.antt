@@ -8,7 +8,7 @@ use Prim.Native.Nat.{ℕ, ◌-◌, ◌≤◌, ◌<◌}
 use Rattle.set_index.specs.Points.{listed}
 use Rattle.encoding.specs.Checkpoints.{noted, noted_in}
 use Rattle.records.specs.declared.Statement.{Statement}
-use Rattle.records.specs.Sets.{Set, setBy}
+use Rattle.records.specs.Sets.{Set, set_by}
 use Rattle.set_index.proofs.Noted.{noted-start, noted_more}
 use Rattle.records.specs.StatementRecords.{StandsFrom}
 use Rattle.records.proofs.StatementRecords.{stands_from}
@@ -74,7 +74,7 @@ returns c =
     let l = c.before.loop in
     let n = c.before.before.before.count in
     let first = c.before.before.first in
-    let S = setBy a.set.now a.layout in
+    let S = set_by a.set.now a.layout in
     let i-is : l.i ≡ n.result = omega arith in
     λ (before : List ℕ) (e : listed a.seen ≡ take 8 before).
     l.invariant.2 S (stands_from a.set.now a.layout a.t first.result n.result first.ensures.0 (let e = n.ensures in omega arith)) before e

@@ -8,21 +8,21 @@ use mathlib.Core.Path.{◌≡◌, refl, sym, ap, ap₂, ◌∙◌}
 use mathlib.Core.List.{List}
 use mathlib.Core.Bool.{Bool, true, false, cond, not, ◌&&◌}
 use borrow.Author.Tests.{ltb-true}
-use Rattle.base.proofs.Choice.{chosen, passed, and-true, and-false, and_left, and_right, and-right-false}
-use Rattle.records.specs.Sets.{Set, setBy, statementAt, nothing}
+use Rattle.base.proofs.Choice.{chosen, passed, and_true, and_false, and_left, and_right, and_right_false}
+use Rattle.records.specs.Sets.{Set, set_by, statement_at, nothing}
 use Rattle.records.specs.declared.Layout.{Layout}
 use Rattle.records.specs.declared.Statement.{Statement}
-use Rattle.machine.specs.Held.{memoryOf, memoryIn, known_of, known_in, permittedBy, cells_of}
-use Rattle.step.specs.Acting.{canStep, waits, threadBy, statementBy, written_by, readsBy, addressBy, addressedBy, outcomeBy}
-use Rattle.machine.specs.Machine.{unmarked, actor, memoryAfter}
-use Rattle.machine.specs.Maps.{knowsAll, knownAfter}
+use Rattle.machine.specs.Held.{memory_of, memory_in, known_of, known_in, permitted_by, cells_of}
+use Rattle.step.specs.Acting.{can_step, waits, thread_by, statement_by, written_by, reads_by, address_by, addressed_by, outcome_by}
+use Rattle.machine.specs.Machine.{unmarked, actor, memory_after}
+use Rattle.machine.specs.Maps.{knows_all, known_after}
 use Rattle.machine.specs.declared.Choice.{Choice}
 use Rattle.machine.specs.declared.Choice.TheVariants.{Execute, Flush}
 use Rattle.machine.specs.declared.Outcome.{Outcome}
 use Rattle.machine.specs.declared.Outcome.TheVariants.{Taken, NotPermitted, Lacking}
 use Rattle.machine.specs.declared.Thread.{Thread}
 use Rattle.machine.specs.declared.Written.{Written}
-use Rattle.step.proofs.Cells.{prefix-memory, prefix-known}
+use Rattle.step.proofs.Cells.{prefix_memory, prefix_known}
 use Rattle.step.proofs.Settled.{unmoved}
 use borrow.Author.Rules.{rules}
 use Rattle.step.proofs.acting.advance.Statement.{statement}
@@ -50,9 +50,9 @@ below count p i j e h n = go (ltb p count) refl
         absurd (omega arith)
 
 -- a statement that is there has a pc below its thread's count
-pc-fits : (set : List ℕ) (layout : Layout) (c : Choice) (x : Thread) (i : Statement) → i ≡ statementBy (setBy set layout) c x →
+pc-fits : (set : List ℕ) (layout : Layout) (c : Choice) (x : Thread) (i : Statement) → i ≡ statement_by (set_by set layout) c x →
     ((t : ℕ) → get_or layout.counts t 0 < 65536) → i.number < 20 → x.pc < 65535
-pc-fits set layout (Execute t) x i e fits h = below (get_or layout.counts t 0) x.pc i (statementAt set (get_or layout.starts t 0 + x.pc)) e h (fits t)
+pc-fits set layout (Execute t) x i e fits h = below (get_or layout.counts t 0) x.pc i (statement_at set (get_or layout.starts t 0 + x.pc)) e h (fits t)
 pc-fits set layout (Flush t) x i e fits h =
     let f : i.number ≡ 20 = ap (λ (s : Statement). s.number) e in
     absurd (omega arith)
@@ -63,25 +63,25 @@ counts-fit s t = search rules
 -- ---- what the places share
 
 abbrev set-of : tie.Start → Set
-set-of s = setBy s.args.set.now s.args.layout
+set-of s = set_by s.args.set.now s.args.layout
 
 abbrev memory-of : tie.Start → ℕ → ℕ
-memory-of s = memoryOf s.args.addresses.now s.args.values.now s.args.filled
+memory-of s = memory_of s.args.addresses.now s.args.values.now s.args.filled
 
 abbrev known-of : tie.Start → ℕ → Bool
 known-of s = known_of s.args.addresses.now s.args.filled
 
 abbrev can-of : tie.Start → Bool
-can-of s = canStep s.args.layout s.args.ended (length s.args.addresses.now) (length s.args.values.now) s.args.filled s.args.choice
+can-of s = can_step s.args.layout s.args.ended (length s.args.addresses.now) (length s.args.values.now) s.args.filled s.args.choice
 
 abbrev statement-by : tie.Start → Statement
-statement-by s = statementBy (set-of s) s.args.choice s.args.x
+statement-by s = statement_by (set-of s) s.args.choice s.args.x
 
 abbrev waiting-of : tie.Start → Bool
 waiting-of s = waits (set-of s) (λ u. get_or s.args.marks u unmarked) s.args.mark
 
 abbrev outcome-of : tie.Start → Outcome
-outcome-of s = outcomeBy (can-of s) s.args.choice (statement-by s) s.args.x (waiting-of s) (memory-of s) (known-of s)
+outcome-of s = outcome_by (can-of s) s.args.choice (statement-by s) s.args.x (waiting-of s) (memory-of s) (known-of s)
 
 abbrev start_of : tie.Then1 → tie.Start
 start_of c = c.before.before.before.before.before.before.before
@@ -106,26 +106,26 @@ rooms c =
     let t = ltb c.before.before.before.actor.result a.layout.threads in
     and_left r t (and_left (r && t) (not a.ended) c.if1.true)
 
-in-addresses : (c : tie.Then1) → (start_of c).args.filled < length (start_of c).args.addresses.now
-in-addresses c = let a = (start_of c).args in ltb-true _ _ (and_left (ltb a.filled (length a.addresses.now)) (ltb a.filled (length a.values.now)) (rooms c))
+in_addresses : (c : tie.Then1) → (start_of c).args.filled < length (start_of c).args.addresses.now
+in_addresses c = let a = (start_of c).args in ltb-true _ _ (and_left (ltb a.filled (length a.addresses.now)) (ltb a.filled (length a.values.now)) (rooms c))
 
-in-values : (c : tie.Then1) → (start_of c).args.filled < length (start_of c).args.values.now
-in-values c = let a = (start_of c).args in ltb-true _ _ (and_right (ltb a.filled (length a.addresses.now)) (ltb a.filled (length a.values.now)) (rooms c))
+in_values : (c : tie.Then1) → (start_of c).args.filled < length (start_of c).args.values.now
+in_values c = let a = (start_of c).args in ltb-true _ _ (and_right (ltb a.filled (length a.addresses.now)) (ltb a.filled (length a.values.now)) (rooms c))
 
 stated : (c : tie.Then1) → c.before.before.statement-of.result ≡ statement-by (start_of c)
 stated c = c.before.before.statement-of.ensures
 
 -- ---- whether the choice is allowed
 
-permits : (c : tie.After-may) → let s = start_of c.before in c.may.result ≡ permittedBy s.args.choice (statement-by s) s.args.x (waiting-of s)
+permits : (c : tie.After-may) → let s = start_of c.before in c.may.result ≡ permitted_by s.args.choice (statement-by s) s.args.x (waiting-of s)
 permits c =
     let s = start_of c.before in
-    c.may.ensures ∙ ap (λ (i : Statement). permittedBy s.args.choice i s.args.x (waiting-of s)) (stated c.before)
+    c.may.ensures ∙ ap (λ (i : Statement). permitted_by s.args.choice i s.args.x (waiting-of s)) (stated c.before)
 
 taking : (c : tie.Then2) →
     let s = start_of c.before.before in
-    outcome-of s ≡ cond (knowsAll (known-of s) (readsBy s.args.choice (statement-by s) s.args.x (memory-of s))) Taken Lacking
-taking c = chosen _ _ (and-true (can c.before.before) (sym (permits c.before) ∙ c.if2.true))
+    outcome-of s ≡ cond (knows_all (known-of s) (reads_by s.args.choice (statement-by s) s.args.x (memory-of s))) Taken Lacking
+taking c = chosen _ _ (and_true (can c.before.before) (sym (permits c.before) ∙ c.if2.true))
 
 -- ---- what the choice does, by the whole memory
 
@@ -133,22 +133,22 @@ given : {A : Type 0} (c : tie.After-effect-of) (G : (ℕ → Bool) → Statement
     let f = c.before.before.before.before.before in
     let s = start_of f in
     let a = s.args in
-    G (known_in (take a.filled a.addresses.now)) f.before.before.statement-of.result (memoryIn (take a.filled a.addresses.now) (take a.filled a.values.now))
+    G (known_in (take a.filled a.addresses.now)) f.before.before.statement-of.result (memory_in (take a.filled a.addresses.now) (take a.filled a.values.now))
     ≡ G (known-of s) (statement-by s) (memory-of s)
 given c G =
     let f = c.before.before.before.before.before in
     let s = start_of f in
     let a = s.args in
-    let l : a.filled ≤ length a.addresses.now = omega (arith, in-addresses f) in
-    ap₂ (λ (k : ℕ → Bool) (mem : ℕ → ℕ). G k f.before.before.statement-of.result mem) (prefix-known a.addresses.now a.values.now a.filled l) (prefix-memory a.addresses.now a.values.now a.filled l)
+    let l : a.filled ≤ length a.addresses.now = omega (arith, in_addresses f) in
+    ap₂ (λ (k : ℕ → Bool) (mem : ℕ → ℕ). G k f.before.before.statement-of.result mem) (prefix_known a.addresses.now a.values.now a.filled l) (prefix_memory a.addresses.now a.values.now a.filled l)
     ∙ ap (λ (i : Statement). G (known-of s) i (memory-of s)) (stated f)
 
 knows : (c : tie.After-effect-of) →
     let s = start_of c.before.before.before.before.before in
-    c.effect_of.result.known ≡ knowsAll (known-of s) (readsBy s.args.choice (statement-by s) s.args.x (memory-of s))
+    c.effect_of.result.known ≡ knows_all (known-of s) (reads_by s.args.choice (statement-by s) s.args.x (memory-of s))
 knows c =
     let s = start_of c.before.before.before.before.before in
-    c.effect_of.ensures.0 ∙ given c (λ k i mem. knowsAll k (readsBy s.args.choice i s.args.x mem))
+    c.effect_of.ensures.0 ∙ given c (λ k i mem. knows_all k (reads_by s.args.choice i s.args.x mem))
 
 wrote-is : (c : tie.After-effect-of) →
     let s = start_of c.before.before.before.before.before in
@@ -159,24 +159,24 @@ wrote-is c =
 
 read_is : (c : tie.After-effect-of) →
     let s = start_of c.before.before.before.before.before in
-    cells_of c.effect_of.result.read ≡ readsBy s.args.choice (statement-by s) s.args.x (memory-of s)
+    cells_of c.effect_of.result.read ≡ reads_by s.args.choice (statement-by s) s.args.x (memory-of s)
 read_is c =
     let s = start_of c.before.before.before.before.before in
-    c.effect_of.ensures.3 ∙ given c (λ k i mem. readsBy s.args.choice i s.args.x mem)
+    c.effect_of.ensures.3 ∙ given c (λ k i mem. reads_by s.args.choice i s.args.x mem)
 
-address_is : (c : tie.After-effect-of) →
+address_is_lem : (c : tie.After-effect-of) →
     let s = start_of c.before.before.before.before.before in
-    c.effect_of.result.address ≡ addressBy s.args.choice (statement-by s) s.args.x (memory-of s)
-address_is c =
+    c.effect_of.result.address ≡ address_by s.args.choice (statement-by s) s.args.x (memory-of s)
+address_is_lem c =
     let s = start_of c.before.before.before.before.before in
-    c.effect_of.ensures.4 ∙ given c (λ k i mem. addressBy s.args.choice i s.args.x mem)
+    c.effect_of.ensures.4 ∙ given c (λ k i mem. address_by s.args.choice i s.args.x mem)
 
 addressed-is : (c : tie.After-effect-of) →
     let s = start_of c.before.before.before.before.before in
-    c.effect_of.result.addressed ≡ addressedBy s.args.choice (statement-by s) s.args.x (known-of s)
+    c.effect_of.result.addressed ≡ addressed_by s.args.choice (statement-by s) s.args.x (known-of s)
 addressed-is c =
     let s = start_of c.before.before.before.before.before in
-    c.effect_of.ensures.5 ∙ given c (λ k i mem. addressedBy s.args.choice i s.args.x k)
+    c.effect_of.ensures.5 ∙ given c (λ k i mem. addressed_by s.args.choice i s.args.x k)
 
 actor-requires : tie.Need-actor-requires
 actor-requires c κs = search rules
@@ -188,16 +188,16 @@ may-requires : tie.Need-may-requires
 may-requires c κs = search rules
 
 slice-reshare-prefix-effect-of : tie.Need-slice-reshare-prefix-effect-of
-slice-reshare-prefix-effect-of c = omega (arith, in-addresses c.before.before)
+slice-reshare-prefix-effect-of c = omega (arith, in_addresses c.before.before)
 
 slice-aggregate-effect-of : tie.Need-slice-aggregate-effect-of
-slice-aggregate-effect-of c = let f = c.before.before.before in let a = (start_of f).args in sym (length-take-le a.filled a.addresses.now (omega (arith, in-addresses f)))
+slice-aggregate-effect-of c = let f = c.before.before.before in let a = (start_of f).args in sym (length-take-le a.filled a.addresses.now (omega (arith, in_addresses f)))
 
 slice-reshare-prefix-effect-of-2 : tie.Need-slice-reshare-prefix-effect-of-2
-slice-reshare-prefix-effect-of-2 c = omega (arith, in-values c.before.before.before)
+slice-reshare-prefix-effect-of-2 c = omega (arith, in_values c.before.before.before)
 
 slice-aggregate-effect-of-2 : tie.Need-slice-aggregate-effect-of-2
-slice-aggregate-effect-of-2 c = let f = c.before.before.before.before in let a = (start_of f).args in sym (length-take-le a.filled a.values.now (omega (arith, in-values f)))
+slice-aggregate-effect-of-2 c = let f = c.before.before.before.before in let a = (start_of f).args in sym (length-take-le a.filled a.values.now (omega (arith, in_values f)))
 
 effect-of-requires : tie.Need-effect-of-requires
 effect-of-requires c κs =
@@ -206,7 +206,7 @@ effect-of-requires c κs =
     pc-fits a.set.now a.layout a.choice a.x f.before.before.statement-of.result (stated f) (λ t. (counts-fit (start_of f) t).fits)
 
 write-requires : tie.Need-write-requires
-write-requires c κs = let f = c.before.before.before.before.before.before.before.before.before.before.before in (in-addresses f, in-values f)
+write-requires c κs = let f = c.before.before.before.before.before.before.before.before.before.before.before in (in_addresses f, in_values f)
 
 same_length : tie.Need-same-length
 same_length c = search rules
@@ -225,12 +225,12 @@ returns c =
     record {
       came = sym (taking e.before.before.before ∙ chosen _ _ (sym (knows e) ∙ k.if3.true));
       stated = stated f;
-      thread = e.effect_of.ensures.1 ∙ given e (λ n i mem. threadBy a.choice i a.x mem);
-      memory-is = w.write.ensures.0 ∙ ap {B = ℕ → ℕ} (λ (z : Written). memoryAfter z (memory-of s)) (wrote-is e);
-      known_is = w.write.ensures.1 ∙ ap {B = ℕ → Bool} (λ (z : Written). knownAfter z (known-of s)) (wrote-is e);
+      thread = e.effect_of.ensures.1 ∙ given e (λ n i mem. thread_by a.choice i a.x mem);
+      memory-is = w.write.ensures.0 ∙ ap {B = ℕ → ℕ} (λ (z : Written). memory_after z (memory-of s)) (wrote-is e);
+      known_is = w.write.ensures.1 ∙ ap {B = ℕ → Bool} (λ (z : Written). known_after z (known-of s)) (wrote-is e);
       wrote = wrote-is e;
       read = read_is e;
-      address_is = address_is e;
+      address_is_lem = address_is_lem e;
       addressed-is = addressed-is e;
       more = w.write.ensures.2;
     }
@@ -252,7 +252,7 @@ returns-2 c =
     let a = s.args in
     let l = taking e.before.before.before ∙ passed _ _ (sym (knows e) ∙ c.before.before.if3.false) in
     unmoved (can-of s) a.choice (statement-by s) a.x (waiting-of s) a.addresses.now a.values.now a.filled c.not_taken.result Lacking f.before.before.statement-of.result _ _ _ refl c.not_taken.ensures (stated f)
-    (read_is e) (address_is e) (addressed-is e) (sym l)
+    (read_is e) (address_is_lem e) (addressed-is e) (sym l)
 
 not-permitted-requires : tie.Need-not-permitted-requires
 not-permitted-requires c κs = search rules
@@ -264,7 +264,7 @@ returns-3 c =
     let s = start_of f in
     let a = s.args in
     unmoved (can-of s) a.choice (statement-by s) a.x (waiting-of s) a.addresses.now a.values.now a.filled c.not-permitted.result NotPermitted f.before.before.statement-of.result _ _ _ refl c.not-permitted.ensures (stated f)
-    refl refl refl (sym (passed _ _ (and-right-false (can-of s) (sym (permits p) ∙ c.before.if2.false))))
+    refl refl refl (sym (passed _ _ (and_right_false (can-of s) (sym (permits p) ∙ c.before.if2.false))))
 
 not-permitted-requires-2 : tie.Need-not-permitted-requires-2
 not-permitted-requires-2 c κs = search rules
@@ -275,7 +275,7 @@ returns-4 c =
     let s = k.before.before.before.before.before.before in
     let a = s.args in
     unmoved (can-of s) a.choice (statement-by s) a.x (waiting-of s) a.addresses.now a.values.now a.filled c.not-permitted2.result NotPermitted k.before.statement-of.result _ _ _ refl c.not-permitted2.ensures k.before.statement-of.ensures
-    refl refl refl (sym (passed _ _ (and-false (permittedBy a.choice (statement-by s) a.x (waiting-of s)) (tested k ∙ c.before.if1.false))))
+    refl refl refl (sym (passed _ _ (and_false (permitted_by a.choice (statement-by s) a.x (waiting-of s)) (tested k ∙ c.before.if1.false))))
 
 pub advance-spec : {M : Type 1} → statement M
 advance-spec =

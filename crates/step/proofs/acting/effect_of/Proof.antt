@@ -1,8 +1,8 @@
 -- `step::acting::effect_of` meets its contract. Assumes nothing.
 use mathlib.Core.Path.{sym, ap, ◌∙◌}
-use Rattle.machine.specs.Held.{memoryIn, known_in, cells_of}
-use Rattle.step.specs.Acting.{readsBy, threadBy, written_by, addressBy, addressedBy}
-use Rattle.machine.specs.Maps.{knowsAll}
+use Rattle.machine.specs.Held.{memory_in, known_in, cells_of}
+use Rattle.step.specs.Acting.{reads_by, thread_by, written_by, address_by, addressed_by}
+use Rattle.machine.specs.Maps.{knows_all}
 use Rattle.machine.specs.declared.Choice.{Choice}
 use borrow.Author.Rules.{rules}
 use Rattle.step.proofs.acting.effect_of.Statement.{statement}
@@ -28,28 +28,28 @@ returns : tie.Need-returns
 returns c =
     let a = c.before.before.before.before.before.before.args in
     let q = sym c.before.before.choice.given.1 in
-    let memory = memoryIn a.addresses.now a.values.now in
+    let memory = memory_in a.addresses.now a.values.now in
     let e = c.executing.ensures in (
-      e.0 ∙ ap (λ (k : Choice). knowsAll (known_in a.addresses.now) (readsBy k a.i a.x memory)) q,
-      e.1 ∙ ap (λ (k : Choice). threadBy k a.i a.x memory) q,
+      e.0 ∙ ap (λ (k : Choice). knows_all (known_in a.addresses.now) (reads_by k a.i a.x memory)) q,
+      e.1 ∙ ap (λ (k : Choice). thread_by k a.i a.x memory) q,
       e.2 ∙ ap (λ (k : Choice). written_by k a.i a.x memory) q,
-      e.3 ∙ ap (λ (k : Choice). readsBy k a.i a.x memory) q,
-      e.4 ∙ ap (λ (k : Choice). addressBy k a.i a.x memory) q,
-      e.5 ∙ ap (λ (k : Choice). addressedBy k a.i a.x (known_in a.addresses.now)) q,
+      e.3 ∙ ap (λ (k : Choice). reads_by k a.i a.x memory) q,
+      e.4 ∙ ap (λ (k : Choice). address_by k a.i a.x memory) q,
+      e.5 ∙ ap (λ (k : Choice). addressed_by k a.i a.x (known_in a.addresses.now)) q,
     )
 
 returns-2 : tie.Need-returns-2
 returns-2 c =
     let a = c.before.before.before.before.before.before.args in
     let q = sym c.before.before.choice2.given.1 in
-    let memory = memoryIn a.addresses.now a.values.now in
+    let memory = memory_in a.addresses.now a.values.now in
     let e = c.flushing.ensures in (
-      e.0 ∙ ap (λ (k : Choice). knowsAll (known_in a.addresses.now) (readsBy k a.i a.x memory)) q,
-      e.1 ∙ ap (λ (k : Choice). threadBy k a.i a.x memory) q,
+      e.0 ∙ ap (λ (k : Choice). knows_all (known_in a.addresses.now) (reads_by k a.i a.x memory)) q,
+      e.1 ∙ ap (λ (k : Choice). thread_by k a.i a.x memory) q,
       e.2 ∙ ap (λ (k : Choice). written_by k a.i a.x memory) q,
-      ap cells_of e.3 ∙ ap (λ (k : Choice). readsBy k a.i a.x memory) q,
-      e.4 ∙ ap (λ (k : Choice). addressBy k a.i a.x memory) q,
-      e.5 ∙ ap (λ (k : Choice). addressedBy k a.i a.x (known_in a.addresses.now)) q,
+      ap cells_of e.3 ∙ ap (λ (k : Choice). reads_by k a.i a.x memory) q,
+      e.4 ∙ ap (λ (k : Choice). address_by k a.i a.x memory) q,
+      e.5 ∙ ap (λ (k : Choice). addressed_by k a.i a.x (known_in a.addresses.now)) q,
     )
 
 pub effect-of-spec : {M : Type 1} → statement M

@@ -1,6 +1,6 @@
 -- `step::acting::executed` meets its contract. Assumes nothing.
 use mathlib.Core.Path.{ap₂}
-use Rattle.machine.specs.Machine.{withPc}
+use Rattle.machine.specs.Machine.{with_pc}
 use borrow.Author.Rules.{rules}
 use Rattle.step.proofs.acting.executed.Statement.{statement}
 use Rattle.step.proofs.acting.executed.Tie as tie
@@ -16,7 +16,7 @@ row-requires : tie.Need-row-requires
 row-requires c κs = search rules
 
 returns : tie.Need-returns
-returns c = ap₂ withPc c.before.next-pc.ensures c.row.ensures
+returns c = ap₂ with_pc c.before.next-pc.ensures c.row.ensures
 
 pub executed-spec : {M : Type 1} → statement M
 executed-spec = tie.close (tie.spec next-pc-requires row-requires returns)

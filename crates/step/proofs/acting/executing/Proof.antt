@@ -6,10 +6,10 @@ use mathlib.Core.Bool.{true, cond, ◌&&◌}
 use Rattle.base.proofs.Choice.{chosen, passed}
 use Rattle.records.specs.Instructions.{CAS}
 use Rattle.records.specs.declared.Statement.{Statement}
-use Rattle.machine.specs.Held.{memoryIn}
-use Rattle.machine.specs.Machine.{acted, executed, casMatches, wrote, noWrite, address}
+use Rattle.machine.specs.Held.{memory_in}
+use Rattle.machine.specs.Machine.{acted, executed, cas_matches, wrote, no_write, address}
 use Rattle.machine.specs.declared.Thread.{Thread}
-use Rattle.step.proofs.Settled.{setWith, stateWith}
+use Rattle.step.proofs.Settled.{set_with, state_with}
 use borrow.Author.Rules.{rules}
 use Rattle.step.proofs.acting.executing.Statement.{statement}
 use Rattle.step.proofs.acting.executing.Tie as tie
@@ -20,7 +20,7 @@ use Rattle.step.proofs.acting.updated.Reads as updated-reads
 use Rattle.machine.proofs.operands.operands.Reads as operands-reads
 
 abbrev memory-of : tie.After-operands → ℕ → ℕ
-memory-of c = let a = c.before.before.before.args in memoryIn a.addresses.now a.values.now
+memory-of c = let a = c.before.before.before.args in memory_in a.addresses.now a.values.now
 
 abbrev statement-of : tie.After-operands → Statement
 statement-of c = c.before.before.before.args.i
@@ -36,13 +36,13 @@ registers c =
     let i = statement-of c.before in
     let x = thread-of c.before in
     let o = c.before.operands.ensures in
-    c.updated.ensures (setWith i) (stateWith x (memory-of c.before)) refl (refl, o.1, o.2)
+    c.updated.ensures (set_with i) (state_with x (memory-of c.before)) refl (refl, o.1, o.2)
 
 -- whether a CAS matches
 cas : (c : tie.After-matches) →
     let o = c.before.before.before in
-    casMatches (statement-of o) (thread-of o) (memory-of o) ≡ c.matches.result
-unfolding casMatches
+    cas_matches (statement-of o) (thread-of o) (memory-of o) ≡ c.matches.result
+unfolding cas_matches
 cas c =
     let o = c.before.before.before in
     ap (λ (w : ℕ). eqb (statement-of o).number CAS && eqb w (thread-of o).mem) (sym o.operands.ensures.2) ∙ sym c.matches.ensures
@@ -50,7 +50,7 @@ cas c =
 wrote-cas : (c : tie.After-matches) → c.matches.result ≡ true →
     let o = c.before.before.before in
     wrote o.operands.result.address (thread-of o).accu
-    ≡ cond (casMatches (statement-of o) (thread-of o) (memory-of o)) (wrote (address (statement-of o) (thread-of o) (memory-of o)) (thread-of o).accu) noWrite
+    ≡ cond (cas_matches (statement-of o) (thread-of o) (memory-of o)) (wrote (address (statement-of o) (thread-of o) (memory-of o)) (thread-of o).accu) no_write
 wrote-cas c e =
     let o = c.before.before.before in
     ap (λ (a : ℕ). wrote a (thread-of o).accu) o.operands.ensures.1 ∙ sym (chosen _ _ (cas c ∙ e))

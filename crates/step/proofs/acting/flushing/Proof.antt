@@ -2,7 +2,7 @@
 use mathlib.Core.Path.{refl}
 use borrow.Author.Rules.{rules}
 use Rattle.machine.specs.Machine.{acted}
-use Rattle.step.proofs.Settled.{setWith, stateWith}
+use Rattle.step.proofs.Settled.{set_with, state_with}
 use Rattle.step.proofs.acting.flushing.Statement.{statement}
 use Rattle.step.proofs.acting.flushing.Tie as tie
 use Rattle.step.proofs.acting.flushing.Reads as reads
@@ -21,7 +21,7 @@ unfolding acted
 returns c =
     let a = c.before.before.before.args in
     let o = c.before.before.none.ensures in
-    (o.0, c.before.updated.ensures (setWith a.i) (stateWith a.x (λ b. 0)) refl tt, refl, o.3, o.1, o.4)
+    (o.0, c.before.updated.ensures (set_with a.i) (state_with a.x (λ b. 0)) refl tt, refl, o.3, o.1, o.4)
 
 pub flushing-spec : {M : Type 1} → statement M
 flushing-spec = tie.close (tie.spec none-requires updated-requires returns)

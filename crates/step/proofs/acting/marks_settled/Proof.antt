@@ -1,7 +1,7 @@
 -- `step::acting::marks_settled` meets its contract. Assumes nothing.
 use Rattle.machine.proofs.Four.{stored}
 use Rattle.step.proofs.Settled.{marks-cleared, marks-left}
-use Rattle.records.specs.Sets.{Set, setBy}
+use Rattle.records.specs.Sets.{Set, set_by}
 use Rattle.machine.specs.Machine.{unmarked}
 use Rattle.machine.specs.declared.Mark.{Mark}
 use borrow.Author.Tests.{eq-eqb, ne_eqb}
@@ -26,11 +26,11 @@ At = tie.After-clear
 abbrev start_of : At → tie.Start
 start_of x = x.before.before
 
-abbrev set-of : At → Set
-set-of x = setBy (start_of x).args.set.now (start_of x).args.layout
+abbrev set_of_lem : At → Set
+set_of_lem x = set_by (start_of x).args.set.now (start_of x).args.layout
 
-abbrev marks-of : At → ℕ → Mark
-marks-of x v = get_or (start_of x).args.marks v unmarked
+abbrev marks_of_lem : At → ℕ → Mark
+marks_of_lem x v = get_or (start_of x).args.marks v unmarked
 
 clear-requires : tie.Need-clear-requires
 clear-requires c κs = search rules
@@ -50,12 +50,12 @@ returns c =
     let v : Mark = record { on = true; checkpoint = i.argument } in
     stored x.clear.result t v unmarked (omega arith)
     ∙ ap {B = ℕ → Mark} (λ (f : ℕ → Mark) (u : ℕ). cond (eqb u t) v (f u)) x.clear.ensures
-    ∙ marks-left (set-of x) (marks-of x) t i (eq-eqb _ _ c.if1.true)
+    ∙ marks-left (set_of_lem x) (marks_of_lem x) t i (eq-eqb _ _ c.if1.true)
 
 returns-2 : tie.Need-returns-2
 returns-2 c =
     let x = c.before.before in
-    x.clear.ensures ∙ marks-cleared (set-of x) (marks-of x) (start_of x).args.t (start_of x).args.i (ne_eqb _ _ c.if1.false)
+    x.clear.ensures ∙ marks-cleared (set_of_lem x) (marks_of_lem x) (start_of x).args.t (start_of x).args.i (ne_eqb _ _ c.if1.false)
 
 pub marks-settled-spec : {M : Type 1} → statement M
 marks-settled-spec =

@@ -1,5 +1,5 @@
 -- `step::acting::not_taken` meets its contract. Assumes nothing.
-use Rattle.machine.specs.Machine.{noWrite}
+use Rattle.machine.specs.Machine.{no_write}
 use Rattle.machine.specs.declared.Thread.{Thread}
 use mathlib.Core.Path.{ap}
 use borrow.Author.Rules.{rules}
@@ -13,7 +13,7 @@ fresh-requires : tie.Need-fresh-requires
 fresh-requires c κs = search rules
 
 returns : tie.Need-returns
-returns c = ap (λ (x : Thread). record { outcome = c.before.args.outcome; statement = c.before.args.statement; thread = x; filled = c.before.args.filled; wrote = noWrite; read = c.before.args.read; address = c.before.args.address; addressed = c.before.args.addressed }) c.fresh.ensures
+returns c = ap (λ (x : Thread). record { outcome = c.before.args.outcome; statement = c.before.args.statement; thread = x; filled = c.before.args.filled; wrote = no_write; read = c.before.args.read; address = c.before.args.address; addressed = c.before.args.addressed }) c.fresh.ensures
 
 pub not-taken-spec : {M : Type 1} → statement M
 not-taken-spec = tie.close (tie.spec fresh-requires returns)

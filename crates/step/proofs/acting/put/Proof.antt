@@ -6,7 +6,7 @@ use mathlib.Core.Path.{◌≡◌, ◌∙◌, sym}
 use lib.ListN.{get_or}
 use lib.Dec.{eqb}
 use Rattle.records.specs.Maps.{cell_at}
-use Rattle.step.proofs.Cells.{prefix-cell, hit-memory, hit-known, miss-memory, miss-known}
+use Rattle.step.proofs.Cells.{prefix_cell, hit-memory, hit-known, miss_memory, miss_known}
 use Rattle.base.proofs.Below.{least-below}
 use borrow.Author.Rules.{rules}
 use Rattle.step.proofs.acting.put.Statement.{statement}
@@ -21,7 +21,7 @@ found : (c : tie.After-cell-at) →
     c.Cell-at.result ≡ cell_at (λ k. get_or a.addresses.now k 0) a.filled a.a
 found c =
     let a = c.before.before.before.before.args in
-    c.Cell-at.ensures ∙ prefix-cell a.addresses.now a.values.now a.filled (omega arith) a.a
+    c.Cell-at.ensures ∙ prefix_cell a.addresses.now a.values.now a.filled (omega arith) a.a
 
 at : (c : tie.After-cell-at) → c.Cell-at.result ≤ c.before.before.before.before.args.filled
 at c =
@@ -81,8 +81,8 @@ returns-2 c =
     let b = at c.before in
     let r : c.before.Cell-at.result ≡ a.filled = omega arith in
     let f : cell_at (λ k. get_or a.addresses.now k 0) a.filled a.a ≡ a.filled = sym e ∙ r in (
-      rw r (miss-memory a.addresses.now a.values.now a.filled a.a a.v (omega arith) (omega arith) f),
-      rw r (miss-known a.addresses.now a.values.now a.filled a.a a.v (omega arith) (omega arith) f),
+      rw r (miss_memory a.addresses.now a.values.now a.filled a.a a.v (omega arith) (omega arith) f),
+      rw r (miss_known a.addresses.now a.values.now a.filled a.a a.v (omega arith) (omega arith) f),
       search rules,
     )
 

@@ -1,7 +1,7 @@
 -- `step::acting::statement_of` meets its contract. Assumes nothing.
 use Rattle.machine.specs.declared.Choice.{Choice}
-use Rattle.step.specs.Acting.{statementBy}
-use Rattle.records.specs.Sets.{setBy}
+use Rattle.step.specs.Acting.{statement_by}
+use Rattle.records.specs.Sets.{set_by}
 use mathlib.Core.Path.{sym, ap, ◌∙◌}
 use borrow.Author.Rules.{rules}
 use Rattle.step.proofs.acting.statement_of.Statement.{statement}
@@ -22,12 +22,12 @@ enum_told c = search rules
 returns : tie.Need-returns
 returns c =
     let a = c.before.before.before.before.before.args in
-    c.fetch.ensures ∙ sym (ap (λ (k : Choice). statementBy (setBy a.set.now a.layout) k a.x) c.before.before.choice.given.1)
+    c.fetch.ensures ∙ sym (ap (λ (k : Choice). statement_by (set_by a.set.now a.layout) k a.x) c.before.before.choice.given.1)
 
 returns-2 : tie.Need-returns-2
 returns-2 c =
     let a = c.before.before.before.args in
-    sym (ap (λ (k : Choice). statementBy (setBy a.set.now a.layout) k a.x) c.enum_told.given.1)
+    sym (ap (λ (k : Choice). statement_by (set_by a.set.now a.layout) k a.x) c.enum_told.given.1)
 
 pub statement-of-spec : {M : Type 1} → statement M
 statement-of-spec =

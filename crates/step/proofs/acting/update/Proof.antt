@@ -40,7 +40,7 @@ use denote.Exit.{yes}
 use denote.Triple.Clauses.{ensured, lasts}
 use Rattle.records.specs.Sets.{Set}
 use Rattle.records.specs.declared.Statement.{Statement}
-use Rattle.step.specs.Acting.{threadFrom, PcFits, Operands}
+use Rattle.step.specs.Acting.{thread_from, PcFits, Operands}
 use Rattle.machine.specs.Machine.{State, actor, acted}
 use Rattle.machine.specs.declared.Choice.{Choice}
 use Rattle.machine.specs.declared.Thread.{Thread}
@@ -53,7 +53,7 @@ use Rattle.records.specs.contracts.Statement as S
 use Rattle.records.proofs.Statement.TheLaws as S'
 use Rattle.machine.specs.contracts.operands.Operand as O
 use Rattle.machine.proofs.operands.Operand.TheLaws as O'
-use Rattle.step.proofs.Local.{threadVal, choiceVal, statementVal, operandVal}
+use Rattle.step.proofs.Local.{thread_val, choice_val, statement_val, operand_val}
 use Rattle.step.proofs.Settled.{acted-from}
 use Rattle.step.specs.contracts.acting.acted as g
 use Rattle.step.proofs.acting.acted.Symbol as g-def
@@ -76,9 +76,9 @@ module _ {M : Type 1} {𝓤 : Ura M} (𝓛 : Logic 𝓤) (at_mem : Memory → SP
   G = triple_of 𝓛 g.signature (g.spec 𝓛 at_mem run)
 
 module _ {M : Type 1} {𝓤 : Ura M} (𝓛 : Logic 𝓤) (at_mem : Memory → SProp 𝓤) (run : Routine → Fun 𝓤) (κ : Lft) (q : Share) (b o : ℕ) (γ : GName)
-    (registers : Thread) (choice : Choice) (choice-is : Is E.the_row choice (choiceVal choice ∷ []))
-    (statement : Statement) (statement-is : Is S.the_row statement (statementVal statement ∷ []))
-    (operand : Operand) (operand-is : Is O.the_row operand (operandVal operand ∷ [])) (ok : PcFits statement registers) where
+    (registers : Thread) (choice : Choice) (choice-is : Is E.the_row choice (choice_val choice ∷ []))
+    (statement : Statement) (statement-is : Is S.the_row statement (statement_val statement ∷ []))
+    (operand : Operand) (operand-is : Is O.the_row operand (operand_val operand ∷ [])) (ok : PcFits statement registers) where
   -- what stands beside the registers, with its machine values, and the registers afterwards
   open 𝓛 use {H, A}
 
@@ -86,10 +86,10 @@ module _ {M : Type 1} {𝓤 : Ura M} (𝓛 : Logic 𝓤) (at_mem : Memory → SP
   others = (choice, (statement, (operand, tt)))
 
   abbrev at_others : List Val × (List Val × (List Val × Unit {0}))
-  at_others = (choiceVal choice ∷ [], (statementVal statement ∷ [], (operandVal operand ∷ [], tt)))
+  at_others = (choice_val choice ∷ [], (statement_val statement ∷ [], (operand_val operand ∷ [], tt)))
 
   abbrev after : Thread
-  after = threadFrom choice statement operand.address operand.word registers
+  after = thread_from choice statement operand.address operand.word registers
 
   abbrev x : Arg
   x = (record { ref_ptr = (b, o); ghost_name = γ; now = registers }, others)
@@ -98,7 +98,7 @@ module _ {M : Type 1} {𝓤 : Ura M} (𝓛 : Logic 𝓤) (at_mem : Memory → SP
   at = (vptr b o ∷ [], at_others)
 
   abbrev mach : Val
-  mach = threadVal registers
+  mach = thread_val registers
 
   abbrev Post : Val → SProp 𝓤
   Post = (walk_of 𝓛 f.ended stayed (f.clauses 𝓛 at_mem run)).post (((κ, tt), (q, tt), tt, x, at), tt)
@@ -129,11 +129,11 @@ module _ {M : Type 1} {𝓤 : Ura M} (𝓛 : Logic 𝓤) (at_mem : Memory → SP
       feq_i ! (List Val) (vunit ∷ []) (vunit ∷ []) refl $ move ! (1 ∷ 0 ∷ []) $ done !
 
   module _ (C : Calls 𝓤 H) (Λ : Loops 𝓤 H) (fm : FmC 𝓤 H 𝓛.laws C) (known : Triple 𝓤 (C #acting·acted) (G 𝓛 at_mem run)) where
-    walk : ent 𝓤 (on_entry 𝓛 f.signature (κ, tt) (q, tt) x at) (WpFn 𝓤 H C Λ code.function (vptr b o ∷ choiceVal choice ∷ statementVal statement ∷ operandVal operand ∷ []) Post)
+    walk : ent 𝓤 (on_entry 𝓛 f.signature (κ, tt) (q, tt) x at) (WpFn 𝓤 H C Λ code.function (vptr b o ∷ choice_val choice ∷ statement_val statement ∷ operand_val operand ∷ []) Post)
     walk =
         qed 𝓛 ((‵ (flft κ q) ⊛ ‵ ftrue) ∷ ‵ (owns (MutRef (named 0) κ T.the_row ∷ E.the_row ∷ S.the_row ∷ O.the_row ∷ []) x at) ∷ []) ∵ split ! $ move ! (2 ∷ []) $ fsplit ! $ fsplit3 ! $ drop ! $ move ! (0 ∷ 1 ∷ 3 ∷ []) $
         -- [obs; the borrow; the token; what the others own; true]
-        enter ! C Λ code.function (vptr b o ∷ choiceVal choice ∷ statementVal statement ∷ operandVal operand ∷ []) _ $
+        enter ! C Λ code.function (vptr b o ∷ choice_val choice ∷ statement_val statement ∷ operand_val operand ∷ []) _ $
         alloc1 ! (λ l₀. alloc1 ! (λ l₁. alloc1 ! (λ l₂. alloc1 ! (λ l₃. alloc1 ! (λ l₄. alloc1 ! (λ l₅. alloc1 ! (λ l₆. alloc0 ! $ params1 ! $ pass1 ! (init ! 10 refl (tt, tt)) $ pass1 ! (init ! 8 refl ((EL.lawful E.the_type E'.the_laws 𝓛 tt).typed choice _ choice-is).0) $
         pass1 ! (init ! 6 refl ((LL.lawful S.the_type S'.the_laws 𝓛).typed statement _ statement-is).0) $ pass1 ! (init ! 4 refl ((LL.lawful O.the_type O'.the_laws 𝓛).typed operand _ operand-is).0) $ pass0 ! $
         move ! (14 ∷ 15 ∷ 16 ∷ []) $ opens ! tt T.the_row {h = registers} b o (λ vs. spelt ! T.the_row (Is T.the_row) (shows 𝓛 T.the_row) (LL.vals T.the_type T'.the_laws) (LL.tells T.the_type T'.the_laws) full_share registers vs b o $
@@ -157,23 +157,23 @@ module _ {M : Type 1} {𝓤 : Ura M} (𝓛 : Logic 𝓤) (at_mem : Memory → SP
 module _ {M : Type 1} {𝓤 : Ura M} (𝓛 : Logic 𝓤) (at_mem : Memory → SProp 𝓤) (run : Routine → Fun 𝓤) where
   open 𝓛 use {H}
 
-  update-walks : (C : Calls 𝓤 H) (Λ : Loops 𝓤 H) → FmC 𝓤 H 𝓛.laws C → Triple 𝓤 (C #acting·acted) (G 𝓛 at_mem run) → Walks 𝓛 f.ended stayed (WpFn 𝓤 H C Λ code.function) (f.clauses 𝓛 at_mem run)
-  update-walks C Λ fm known = walked 𝓛 f.ended stayed (f.clauses 𝓛 at_mem run) (WpFn 𝓤 H C Λ code.function) (λ κs. (mut_vals, (EL.vals E.the_type E'.the_laws, (LL.vals S.the_type S'.the_laws, (LL.vals O.the_type O'.the_laws, tt))))) (λ κs. (mut_Tells (named 0) κs.0 T.the_row, (EL.tells E.the_type E'.the_laws, (LL.tells S.the_type S'.the_laws, (LL.tells O.the_type O'.the_laws, tt)))))
+  update_walks : (C : Calls 𝓤 H) (Λ : Loops 𝓤 H) → FmC 𝓤 H 𝓛.laws C → Triple 𝓤 (C #acting·acted) (G 𝓛 at_mem run) → Walks 𝓛 f.ended stayed (WpFn 𝓤 H C Λ code.function) (f.clauses 𝓛 at_mem run)
+  update_walks C Λ fm known = walked 𝓛 f.ended stayed (f.clauses 𝓛 at_mem run) (WpFn 𝓤 H C Λ code.function) (λ κs. (mut_vals, (EL.vals E.the_type E'.the_laws, (LL.vals S.the_type S'.the_laws, (LL.vals O.the_type O'.the_laws, tt))))) (λ κs. (mut_Tells (named 0) κs.0 T.the_row, (EL.tells E.the_type E'.the_laws, (LL.tells S.the_type S'.the_laws, (LL.tells O.the_type O'.the_laws, tt)))))
       (λ κs qs bounds a _ are. needs 𝓤 _ _ (λ ok. walk 𝓛 at_mem run κs.0 qs.0 a.0.ref_ptr.0 a.0.ref_ptr.1 a.0.ghost_name a.0.now a.1.0 are.1.0 a.1.1.0 are.1.1.0 a.1.1.1.0 are.1.1.1.0 ok C Λ fm known))
 
   goes : AllGo 𝓛 1 (f.signature).params (f.ended).kept stayed
   goes = (Goes-ref 𝓛 1 0 tt (plain (λ _. T.the_row)), (Goes-none 𝓛 1 (λ _. E.the_row) yes (λ κs x f. refl), (Goes-none 𝓛 1 (λ _. S.the_row) yes (λ κs x f. refl), (Goes-none 𝓛 1 (λ _. O.the_row) yes (λ κs x f. refl), tt))))
 
-update-meets : {M : Type 1} {𝓤 : Ura M} (𝓛 : Logic 𝓤) → (at_mem : Memory → SProp 𝓤) (run : Routine → Fun 𝓤) (𝓣 : Tables 𝓤 𝓛.H) → Triple 𝓤 (𝓣.C #acting·acted) (G 𝓛 at_mem run)
+update_meets : {M : Type 1} {𝓤 : Ura M} (𝓛 : Logic 𝓤) → (at_mem : Memory → SProp 𝓤) (run : Routine → Fun 𝓤) (𝓣 : Tables 𝓤 𝓛.H) → Triple 𝓤 (𝓣.C #acting·acted) (G 𝓛 at_mem run)
     → Meets 𝓛 f.signature (WpFn 𝓤 𝓛.H 𝓣.C 𝓣.Λ code.function) (f.spec 𝓛 at_mem run)
-update-meets {𝓤 = 𝓤} 𝓛 at_mem run 𝓣 known =
+update_meets {𝓤 = 𝓤} 𝓛 at_mem run 𝓣 known =
     walk_Meets 𝓛 f.ended stayed (goes 𝓛 at_mem run) (f.clauses 𝓛 at_mem run) (WpFn 𝓤 𝓛.H 𝓣.C 𝓣.Λ code.function) (WpFn-mono 𝓤 𝓛.H 𝓛.laws 𝓣 code.function)
-    (update-walks 𝓛 at_mem run 𝓣.C 𝓣.Λ (fm_of 𝓤 𝓛.H 𝓛.laws 𝓣) known)
+    (update_walks 𝓛 at_mem run 𝓣.C 𝓣.Λ (fm_of 𝓤 𝓛.H 𝓛.laws 𝓣) known)
 
 pub update-spec : {M : Type 1} → stated.statement M
 unfolding code.routine tables_of
 update-spec 𝓤 𝓛 𝓜 𝓡 =
     entered 𝓤 𝓛.H (triple_of 𝓛 f.signature (f.spec 𝓛 𝓜.mem 𝓡.run))
     (tables 𝓤 𝓛.H 𝓜 𝓡 code.env).C (tables 𝓤 𝓛.H 𝓜 𝓡 code.env).Λ #acting·update code.function (code.unfolded 𝓤 𝓛.H 𝓜 𝓡)
-    (update-meets 𝓛 𝓜.mem 𝓡.run (tables_of 𝓤 𝓛.H 𝓜 (tables 𝓤 𝓛.H 𝓜 𝓡 code.env))
+    (update_meets 𝓛 𝓜.mem 𝓡.run (tables_of 𝓤 𝓛.H 𝓜 (tables 𝓤 𝓛.H 𝓜 𝓡 code.env))
     (cited 𝓤 𝓛.H (G 𝓛 𝓜.mem 𝓡.run) 𝓜 𝓡 code.env #acting·acted g-def.routine code.calls-step::acting::acted (g-thm.met 𝓤 𝓛 𝓜 𝓡)))

@@ -55,7 +55,7 @@ use Rattle.records.specs.contracts.Statement as S
 use Rattle.records.proofs.Statement.TheLaws as S'
 use Rattle.machine.specs.contracts.operands.Operand as O
 use Rattle.machine.proofs.operands.Operand.TheLaws as O'
-use Rattle.step.proofs.Local.{threadVal, choiceVal, statementVal, operandVal, lies-of, of-lies}
+use Rattle.step.proofs.Local.{thread_val, choice_val, statement_val, operand_val, lies_of, of_lies}
 use Rattle.step.specs.contracts.acting.update as g
 use Rattle.step.proofs.acting.update.Symbol as g-def
 use Rattle.step.proofs.acting.update.Symbol.{name as #acting·update}
@@ -74,9 +74,9 @@ module _ {M : Type 1} {𝓤 : Ura M} (𝓛 : Logic 𝓤) (at_mem : Memory → SP
   G = triple_of 𝓛 g.signature (g.spec 𝓛 at_mem run)
 
 module _ {M : Type 1} {𝓤 : Ura M} (𝓛 : Logic 𝓤) (at_mem : Memory → SProp 𝓤) (run : Routine → Fun 𝓤)
-    (registers : Thread) (choice : Choice) (choice-is : Is E.the_row choice (choiceVal choice ∷ []))
-    (statement : Statement) (statement-is : Is S.the_row statement (statementVal statement ∷ []))
-    (operand : Operand) (operand-is : Is O.the_row operand (operandVal operand ∷ [])) (ok : PcFits statement registers) where
+    (registers : Thread) (choice : Choice) (choice-is : Is E.the_row choice (choice_val choice ∷ []))
+    (statement : Statement) (statement-is : Is S.the_row statement (statement_val statement ∷ []))
+    (operand : Operand) (operand-is : Is O.the_row operand (operand_val operand ∷ [])) (ok : PcFits statement registers) where
   -- what stands beside the registers, with its machine values, and what holds of the registers afterwards
   open 𝓛 use {H, A}
 
@@ -84,13 +84,13 @@ module _ {M : Type 1} {𝓤 : Ura M} (𝓛 : Logic 𝓤) (at_mem : Memory → SP
   others = (choice, (statement, (operand, tt)))
 
   abbrev at_others : List Val × (List Val × (List Val × Unit {0}))
-  at_others = (choiceVal choice ∷ [], (statementVal statement ∷ [], (operandVal operand ∷ [], tt)))
+  at_others = (choice_val choice ∷ [], (statement_val statement ∷ [], (operand_val operand ∷ [], tt)))
 
   abbrev After : Thread → Type 0
   After r = (S : Set) (s : State) → registers ≡ s.threads (actor choice) → Operands S s choice statement operand.address operand.word → r ≡ acted S s choice
 
   abbrev mach : Val
-  mach = threadVal registers
+  mach = thread_val registers
 
   abbrev Post : Val → SProp 𝓤
   Post = (walk_of 𝓛 f.ended stayed (f.clauses 𝓛 at_mem run)).post ((tt, tt, tt, (registers, others), (mach ∷ [], at_others)), tt)
@@ -111,18 +111,18 @@ module _ {M : Type 1} {𝓤 : Ura M} (𝓛 : Logic 𝓤) (at_mem : Memory → SP
       owned ! S.the_row (Is S.the_row) (LL.makes S.the_type S'.the_plain 𝓛) statement _ statement-is $ fjoin ! $ owned ! E.the_row (Is E.the_row) (EL.makes E.the_type E'.the_plain 𝓛) choice _ choice-is $ fjoin ! $
       move ! (2 ∷ 0 ∷ []) $ fjoin ! $ nothing ! $ move ! (2 ∷ 0 ∷ []) $ join ! $ done !
 
-  exits : (r : Thread) → After r → Is T.the_row registers (mach ∷ []) → ent 𝓤 (sem 𝓛 ((T.the_row).own_val r (threadVal r ∷ []))) (Post (threadVal r))
+  exits : (r : Thread) → After r → Is T.the_row registers (mach ∷ []) → ent 𝓤 (sem 𝓛 ((T.the_row).own_val r (thread_val r ∷ []))) (Post (thread_val r))
   exits r e is =
-      qed 𝓛 (‵ ((T.the_row).own_val r (threadVal r ∷ [])) ∷ []) ∵
-      suffices ! _ (ends_at 𝓛 f.ended stayed (f.clauses 𝓛 at_mem run) ((tt, tt, tt, (registers, others), (mach ∷ [], at_others)), tt) (threadVal r) r (tt, (tt, (tt, (tt, tt)))) (tt, (tt, (tt, (tt, tt))))) $ says ! e $
+      qed 𝓛 (‵ ((T.the_row).own_val r (thread_val r ∷ [])) ∷ []) ∵
+      suffices ! _ (ends_at 𝓛 f.ended stayed (f.clauses 𝓛 at_mem run) ((tt, tt, tt, (registers, others), (mach ∷ [], at_others)), tt) (thread_val r) r (tt, (tt, (tt, (tt, tt)))) (tt, (tt, (tt, (tt, tt))))) $ says ! e $
       nothing ! $ owned ! O.the_row (Is O.the_row) (LL.makes O.the_type O'.the_plain 𝓛) operand _ operand-is $ fjoin ! $
       owned ! S.the_row (Is S.the_row) (LL.makes S.the_type S'.the_plain 𝓛) statement _ statement-is $ fjoin ! $ owned ! E.the_row (Is E.the_row) (EL.makes E.the_type E'.the_plain 𝓛) choice _ choice-is $ fjoin ! $
       owned ! T.the_row (Is T.the_row) (LL.makes T.the_type T'.the_plain 𝓛) registers _ is $ fjoin ! $ nothing ! $ done !
 
   module _ (C : Calls 𝓤 H) (Λ : Loops 𝓤 H) (fm : FmC 𝓤 H 𝓛.laws C) (known : Triple 𝓤 (C #acting·update) (G 𝓛 at_mem run)) where
-    walk : Is T.the_row registers (mach ∷ []) → Holds (has_ty T'.mir mach) × WT mach → ent 𝓤 (on_entry 𝓛 f.signature tt tt (registers, others) (mach ∷ [], at_others)) (WpFn 𝓤 H C Λ code.function (mach ∷ choiceVal choice ∷ statementVal statement ∷ operandVal operand ∷ []) Post)
+    walk : Is T.the_row registers (mach ∷ []) → Holds (has_ty T'.mir mach) × WT mach → ent 𝓤 (on_entry 𝓛 f.signature tt tt (registers, others) (mach ∷ [], at_others)) (WpFn 𝓤 H C Λ code.function (mach ∷ choice_val choice ∷ statement_val statement ∷ operand_val operand ∷ []) Post)
     walk is wt =
-        qed 𝓛 (‵ ftrue ∷ ‵ (owns (T.the_row ∷ E.the_row ∷ S.the_row ∷ O.the_row ∷ []) (registers, others) (mach ∷ [], at_others)) ∷ []) ∵ enter ! C Λ code.function (mach ∷ choiceVal choice ∷ statementVal statement ∷ operandVal operand ∷ []) _ $
+        qed 𝓛 (‵ ftrue ∷ ‵ (owns (T.the_row ∷ E.the_row ∷ S.the_row ∷ O.the_row ∷ []) (registers, others) (mach ∷ [], at_others)) ∷ []) ∵ enter ! C Λ code.function (mach ∷ choice_val choice ∷ statement_val statement ∷ operand_val operand ∷ []) _ $
         alloc1 ! (λ l₀. alloc1 ! (λ l₁. alloc1 ! (λ l₂. alloc1 ! (λ l₃. alloc1 ! (λ l₄. alloc1 ! (λ l₅. alloc1 ! (λ l₆. alloc1 ! (λ l₇. alloc0 ! $ params1 ! $ pass1 ! (init ! 12 refl wt) $
         pass1 ! (init ! 10 refl ((EL.lawful E.the_type E'.the_laws 𝓛 tt).typed choice _ choice-is).0) $ pass1 ! (init ! 8 refl ((LL.lawful S.the_type S'.the_laws 𝓛).typed statement _ statement-is).0) $
         pass1 ! (init ! 6 refl ((LL.lawful O.the_type O'.the_laws 𝓛).typed operand _ operand-is).0) $ pass0 ! $
@@ -130,7 +130,7 @@ module _ {M : Type 1} {𝓤 : Ura M} (𝓛 : Logic 𝓤) (at_mem : Memory → SP
         assigns ! (of_opd ! (load ! (from ! (stop !)) (look ! 12 refl))) (from ! (stop !)) (init ! 4 refl wt) $
         assigns ! (addr ! (from ! (stop !))) (from ! (stop !)) (init ! 0 refl (tt, tt)) $
         -- the local is lent, for a lifetime ν of the call
-        owned ! T.the_row (Is T.the_row) (LL.makes T.the_type T'.the_plain 𝓛) registers (mach ∷ []) is $ move ! (5 ∷ 0 ∷ []) $ use2 𝓛 (‵ ((mem T.the_row).own_at registers l₅ 0)) (lies-of 𝓛 registers l₅ 0 mach) $
+        owned ! T.the_row (Is T.the_row) (LL.makes T.the_type T'.the_plain 𝓛) registers (mach ∷ []) is $ move ! (5 ∷ 0 ∷ []) $ use2 𝓛 (‵ ((mem T.the_row).own_at registers l₅ 0)) (lies_of 𝓛 registers l₅ 0 mach) $
         lft_new ! tt (λ ν. move ! (1 ∷ []) $
         use1 𝓛 (later (some (λ (γ : GName). ‵ ((MutRef (named 0) (ν ∷ []) T.the_row).own_val (x l₅ γ) (vptr l₅ 0 ∷ [])) ⊛ ‵ (flent (ν ∷ []) (Body (mem T.the_row) l₅ 0 γ))))) (lends_ref 𝓛 T.the_row (named 0) (ν ∷ []) registers l₅ 0) $ await ! tt $ pick ! (λ γ. split ! $
         -- [the reference; the lender's part; the token; _7; …; room for _6; …; what frees _5; _4; …; down to _1; …; room for _0; …]
@@ -144,8 +144,8 @@ module _ {M : Type 1} {𝓤 : Ura M} (𝓛 : Logic 𝓤) (at_mem : Memory → SP
         -- [the token and true; res; true; the lender's part; _7; …; room for _6; …; what frees _5; _4; …; down to _1; …; room for _0; …]
         land ! (from ! (stop !)) (init ! 6 refl (subst (λ (y : Val). Holds (has_ty ty_unit y) × WT y) (sym (ap only is-unit)) (tt, tt))) $
         split ! $ lft_end ! tt $ move ! (0 ∷ 4 ∷ 2 ∷ []) $ use3 𝓛 (later (‵ ((mem T.the_row).own_at zs.0 l₅ 0))) (ref_back 𝓛 T.the_row (ν ∷ []) γ zs.0 l₅ 0) $ await ! tt $
-        use1 𝓛 (‵ (fat full_share T'.mir l₅ 0 (threadVal zs.0)) ⊛ ‵ ((T.the_row).own_val zs.0 (threadVal zs.0 ∷ []))) (of-lies 𝓛 zs.0 l₅ 0) $ split ! $
-        move ! (1 ∷ []) $ peeks ! T.the_row (Is T.the_row) (shows 𝓛 T.the_row) zs.0 (threadVal zs.0 ∷ []) (λ was.
+        use1 𝓛 (‵ (fat full_share T'.mir l₅ 0 (thread_val zs.0)) ⊛ ‵ ((T.the_row).own_val zs.0 (thread_val zs.0 ∷ []))) (of_lies 𝓛 zs.0 l₅ 0) $ split ! $
+        move ! (1 ∷ []) $ peeks ! T.the_row (Is T.the_row) (shows 𝓛 T.the_row) zs.0 (thread_val zs.0 ∷ []) (λ was.
         -- [what the last value owns; _5; true; true; _7; …; _6; …; what frees _5; _4; …; down to _1; …; room for _0; …]
         assigns ! (of_opd ! (load ! (from ! (stop !)) (look ! 1 refl))) (from ! (stop !)) (init ! 17 refl ((LL.lawful T.the_type T'.the_laws 𝓛).typed zs.0 _ was).0) $
         returns ! (look ! 17 refl) $ forget ! 1 refl $ forget ! 4 refl $ forget ! 6 refl $ forget ! 9 refl $ forget ! 11 refl $ forget ! 13 refl $ forget ! 15 refl $ forget ! 17 refl $
@@ -155,20 +155,20 @@ module _ {M : Type 1} {𝓤 : Ura M} (𝓛 : Logic 𝓤) (at_mem : Memory → SP
 module _ {M : Type 1} {𝓤 : Ura M} (𝓛 : Logic 𝓤) (at_mem : Memory → SProp 𝓤) (run : Routine → Fun 𝓤) where
   open 𝓛 use {H}
 
-  updated-walks : (C : Calls 𝓤 H) (Λ : Loops 𝓤 H) → FmC 𝓤 H 𝓛.laws C → Triple 𝓤 (C #acting·update) (G 𝓛 at_mem run) → Walks 𝓛 f.ended stayed (WpFn 𝓤 H C Λ code.function) (f.clauses 𝓛 at_mem run)
-  updated-walks C Λ fm known = walked 𝓛 f.ended stayed (f.clauses 𝓛 at_mem run) (WpFn 𝓤 H C Λ code.function) (λ κs. (LL.vals T.the_type T'.the_laws, (EL.vals E.the_type E'.the_laws, (LL.vals S.the_type S'.the_laws, (LL.vals O.the_type O'.the_laws, tt))))) (λ κs. (LL.tells T.the_type T'.the_laws, (EL.tells E.the_type E'.the_laws, (LL.tells S.the_type S'.the_laws, (LL.tells O.the_type O'.the_laws, tt)))))
+  updated_walks : (C : Calls 𝓤 H) (Λ : Loops 𝓤 H) → FmC 𝓤 H 𝓛.laws C → Triple 𝓤 (C #acting·update) (G 𝓛 at_mem run) → Walks 𝓛 f.ended stayed (WpFn 𝓤 H C Λ code.function) (f.clauses 𝓛 at_mem run)
+  updated_walks C Λ fm known = walked 𝓛 f.ended stayed (f.clauses 𝓛 at_mem run) (WpFn 𝓤 H C Λ code.function) (λ κs. (LL.vals T.the_type T'.the_laws, (EL.vals E.the_type E'.the_laws, (LL.vals S.the_type S'.the_laws, (LL.vals O.the_type O'.the_laws, tt))))) (λ κs. (LL.tells T.the_type T'.the_laws, (EL.tells E.the_type E'.the_laws, (LL.tells S.the_type S'.the_laws, (LL.tells O.the_type O'.the_laws, tt)))))
       (λ κs qs bounds a _ are. needs 𝓤 _ _ (λ ok. walk 𝓛 at_mem run a.0 a.1.0 are.1.0 a.1.1.0 are.1.1.0 a.1.1.1.0 are.1.1.1.0 ok C Λ fm known are.0 ((LL.lawful T.the_type T'.the_laws 𝓛).typed a.0 _ are.0).0))
 
-updated-meets : {M : Type 1} {𝓤 : Ura M} (𝓛 : Logic 𝓤) → (at_mem : Memory → SProp 𝓤) (run : Routine → Fun 𝓤) (𝓣 : Tables 𝓤 𝓛.H) → Triple 𝓤 (𝓣.C #acting·update) (G 𝓛 at_mem run)
+updated_meets : {M : Type 1} {𝓤 : Ura M} (𝓛 : Logic 𝓤) → (at_mem : Memory → SProp 𝓤) (run : Routine → Fun 𝓤) (𝓣 : Tables 𝓤 𝓛.H) → Triple 𝓤 (𝓣.C #acting·update) (G 𝓛 at_mem run)
     → Meets 𝓛 f.signature (WpFn 𝓤 𝓛.H 𝓣.C 𝓣.Λ code.function) (f.spec 𝓛 at_mem run)
-updated-meets {𝓤 = 𝓤} 𝓛 at_mem run 𝓣 known =
+updated_meets {𝓤 = 𝓤} 𝓛 at_mem run 𝓣 known =
     walk_Meets 𝓛 f.ended stayed (Goes-none 𝓛 0 (λ _. T.the_row) yes (λ κs x f. refl), (Goes-none 𝓛 0 (λ _. E.the_row) yes (λ κs x f. refl), (Goes-none 𝓛 0 (λ _. S.the_row) yes (λ κs x f. refl), (Goes-none 𝓛 0 (λ _. O.the_row) yes (λ κs x f. refl), tt)))) (f.clauses 𝓛 at_mem run) (WpFn 𝓤 𝓛.H 𝓣.C 𝓣.Λ code.function) (WpFn-mono 𝓤 𝓛.H 𝓛.laws 𝓣 code.function)
-    (updated-walks 𝓛 at_mem run 𝓣.C 𝓣.Λ (fm_of 𝓤 𝓛.H 𝓛.laws 𝓣) known)
+    (updated_walks 𝓛 at_mem run 𝓣.C 𝓣.Λ (fm_of 𝓤 𝓛.H 𝓛.laws 𝓣) known)
 
 pub updated-spec : {M : Type 1} → stated.statement M
 unfolding code.routine tables_of
 updated-spec 𝓤 𝓛 𝓜 𝓡 =
     entered 𝓤 𝓛.H (triple_of 𝓛 f.signature (f.spec 𝓛 𝓜.mem 𝓡.run))
     (tables 𝓤 𝓛.H 𝓜 𝓡 code.env).C (tables 𝓤 𝓛.H 𝓜 𝓡 code.env).Λ #acting·updated code.function (code.unfolded 𝓤 𝓛.H 𝓜 𝓡)
-    (updated-meets 𝓛 𝓜.mem 𝓡.run (tables_of 𝓤 𝓛.H 𝓜 (tables 𝓤 𝓛.H 𝓜 𝓡 code.env))
+    (updated_meets 𝓛 𝓜.mem 𝓡.run (tables_of 𝓤 𝓛.H 𝓜 (tables 𝓤 𝓛.H 𝓜 𝓡 code.env))
     (cited 𝓤 𝓛.H (G 𝓛 𝓜.mem 𝓡.run) 𝓜 𝓡 code.env #acting·update g-def.routine code.calls-step::acting::update (g-thm.met 𝓤 𝓛 𝓜 𝓡)))

@@ -4,10 +4,10 @@ use native.Mathlib.Omega.{arith}
 use lib.Dec.{eqb}
 use mathlib.Core.Path.{◌≡◌, sym, ap, ◌∙◌, fun_ext}
 use mathlib.Core.Bool.{Bool, true, ◌||◌}
-use Rattle.base.proofs.Choice.{passed, and-false}
-use Rattle.machine.specs.Held.{memoryOf, known_of}
-use Rattle.machine.specs.Machine.{wrote, memoryAfter}
-use Rattle.machine.specs.Maps.{knownAfter}
+use Rattle.base.proofs.Choice.{passed, and_false}
+use Rattle.machine.specs.Held.{memory_of, known_of}
+use Rattle.machine.specs.Machine.{wrote, memory_after}
+use Rattle.machine.specs.Maps.{known_after}
 use Rattle.machine.specs.declared.Written.{Written}
 use borrow.Author.Rules.{rules}
 use Rattle.step.proofs.acting.write.Statement.{statement}
@@ -34,8 +34,8 @@ returns c =
     let p = c.before.before.before.before in
     let a = p.before.before.before.before.before.before.args in
     let e = all_of a.w p.before.before.before.if1.true in (
-      p.put.ensures.0 ∙ ap {B = ℕ → ℕ} (λ (w : Written). memoryAfter w (memoryOf a.addresses.now a.values.now a.filled)) e,
-      p.put.ensures.1 ∙ ap {B = ℕ → Bool} (λ (w : Written). knownAfter w (known_of a.addresses.now a.filled)) e,
+      p.put.ensures.0 ∙ ap {B = ℕ → ℕ} (λ (w : Written). memory_after w (memory_of a.addresses.now a.values.now a.filled)) e,
+      p.put.ensures.1 ∙ ap {B = ℕ → Bool} (λ (w : Written). known_after w (known_of a.addresses.now a.filled)) e,
       p.put.ensures.2,
     )
 
@@ -43,8 +43,8 @@ returns-2 : tie.Need-returns-2
 returns-2 c =
     let a = c.before.before.before.args in
     let e = c.if1.false in (
-      fun_ext (λ k. sym (passed _ _ (and-false (eqb a.w.address k) e))),
-      fun_ext (λ k. sym (ap (λ (b : Bool). b || known_of a.addresses.now a.filled k) (and-false (eqb a.w.address k) e))),
+      fun_ext (λ k. sym (passed _ _ (and_false (eqb a.w.address k) e))),
+      fun_ext (λ k. sym (ap (λ (b : Bool). b || known_of a.addresses.now a.filled k) (and_false (eqb a.w.address k) e))),
       omega arith,
     )
 

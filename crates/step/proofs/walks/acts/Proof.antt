@@ -5,9 +5,9 @@ use mathlib.Core.Bool.{Bool, ◌&&◌, ◌||◌}
 use Rattle.machine.specs.declared.Choice.TheVariants.{Execute, Flush}
 use Rattle.machine.specs.Machine.{permitted}
 use Rattle.machine.specs.Held.{state_of}
-use Rattle.records.specs.Sets.{setBy}
-use Rattle.base.proofs.Choice.{or-true}
-use Rattle.step.proofs.Tests.{and-or}
+use Rattle.records.specs.Sets.{set_by}
+use Rattle.base.proofs.Choice.{or_true}
+use Rattle.step.proofs.Tests.{and_or}
 use borrow.Author.Rules.{rules}
 use Rattle.step.proofs.walks.acts.Statement.{statement}
 use Rattle.step.proofs.walks.acts.Tie as tie
@@ -23,9 +23,9 @@ returns c =
     let a = c.before.before.before.args in
     λ memory.
     let s = state_of a.m memory in
-    let S = setBy a.set.now a.layout in
-    sym (and-or (leb a.layout.threads 4) (permitted S s (Execute a.t)) (permitted S s (Flush a.t))
-    ∙ or-true (leb a.layout.threads 4 && permitted S s (Flush a.t)) (sym (c.before.permits.ensures memory) ∙ c.if1.true))
+    let S = set_by a.set.now a.layout in
+    sym (and_or (leb a.layout.threads 4) (permitted S s (Execute a.t)) (permitted S s (Flush a.t))
+    ∙ or_true (leb a.layout.threads 4 && permitted S s (Flush a.t)) (sym (c.before.permits.ensures memory) ∙ c.if1.true))
 
 permits-requires-2 : tie.Need-permits-requires-2
 permits-requires-2 c κs = search rules
@@ -35,8 +35,8 @@ returns-2 c =
     let a = c.before.before.before.before.args in
     λ memory.
     let s = state_of a.m memory in
-    let S = setBy a.set.now a.layout in
-    c.permits2.ensures memory ∙ sym (and-or (leb a.layout.threads 4) (permitted S s (Execute a.t)) (permitted S s (Flush a.t))
+    let S = set_by a.set.now a.layout in
+    c.permits2.ensures memory ∙ sym (and_or (leb a.layout.threads 4) (permitted S s (Execute a.t)) (permitted S s (Flush a.t))
     ∙ ap (λ (b : Bool). b || (leb a.layout.threads 4 && permitted S s (Flush a.t))) (sym (c.before.before.permits.ensures memory) ∙ c.before.if1.false))
 
 pub acts-spec : {M : Type 1} → statement M

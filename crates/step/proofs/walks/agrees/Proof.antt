@@ -6,7 +6,7 @@ use lib.ListN.{length, take, drop}
 use lib.Seq.{length-take-le}
 use Rattle.base.specs.Bytes.{same}
 use Rattle.base.proofs.Choice.{chosen, passed}
-use Rattle.machine.specs.Traces.{stepLength}
+use Rattle.machine.specs.Traces.{step_length}
 use Rattle.step.proofs.Steps.{fields-first}
 use borrow.Author.Rules.{rules}
 use Rattle.step.proofs.walks.agrees.Statement.{statement}
@@ -15,7 +15,7 @@ use Rattle.step.proofs.walks.agrees.Reads as reads
 use Rattle.step.proofs.walks.agrees.Lts as lts
 use Rattle.base.proofs.same.Reads as same_Reads
 
-long : (s : tie.Start) → length s.args.t5 ≡ stepLength
+long : (s : tie.Start) → length s.args.t5 ≡ step_length
 long s = search rules
 
 mul_at : tie.Need-overflow-mul-at
@@ -42,8 +42,8 @@ same-requires c κs = search rules
 returns : tie.Need-returns
 returns c =
     let a = c.before.before.before.before.before.before.args in
-    let d : stepLength * a.i + stepLength - stepLength * a.i ≡ stepLength = omega arith in
-    c.same.ensures ∙ ap (λ (n : ℕ). same (take n (drop (stepLength * a.i) a.input.now)) a.t5) d
+    let d : step_length * a.i + step_length - step_length * a.i ≡ step_length = omega arith in
+    c.same.ensures ∙ ap (λ (n : ℕ). same (take n (drop (step_length * a.i) a.input.now)) a.t5) d
     ∙ sym (chosen _ _ c.before.before.before.before.if1.true ∙ chosen _ _ c.before.before.before.if2.true)
 
 add-end-2 : tie.Need-overflow-add-end-2
@@ -71,9 +71,9 @@ returns-2 : tie.Need-returns-2
 returns-2 c =
     let s = c.before.before.before.before.before.before in
     let a = s.args in
-    let d : stepLength * a.i + 22 - stepLength * a.i ≡ 22 = omega arith in
-    c.same2.ensures ∙ ap (λ (n : ℕ). same (take n (drop (stepLength * a.i) a.input.now)) (take 22 a.t5)) d
-    ∙ fields-first (drop (stepLength * a.i) a.input.now) a.t5 (long s)
+    let d : step_length * a.i + 22 - step_length * a.i ≡ 22 = omega arith in
+    c.same2.ensures ∙ ap (λ (n : ℕ). same (take n (drop (step_length * a.i) a.input.now)) (take 22 a.t5)) d
+    ∙ fields-first (drop (step_length * a.i) a.input.now) a.t5 (long s)
     ∙ sym (chosen _ _ c.before.before.before.before.if1.true ∙ passed _ _ c.before.before.before.if2.false)
 
 returns-3 : tie.Need-returns-3

@@ -6,8 +6,8 @@ use native.Mathlib.Omega.{arith}
 use mathlib.Core.Path.{◌≡◌, sym, refl}
 use borrow.Author.Tests.{le-leb, lt-leb}
 use borrow.Author.Rules.{rules}
-use Rattle.records.specs.Maps.{cells, addressAt, value_at}
-use Rattle.base.proofs.Choice.{chosen, passed, and-true, and-false, and-right-false}
+use Rattle.records.specs.Maps.{cells, address_at, value_at}
+use Rattle.base.proofs.Choice.{chosen, passed, and_true, and_false, and_right_false}
 use Rattle.base.specs.Below.{least}
 use Rattle.step.proofs.MapCells.{all_held, all-content, stored_more}
 use Rattle.step.proofs.walks.begin.Statement.{statement}
@@ -19,7 +19,7 @@ use Rattle.base.proofs.word_at.Reads as word-at-reads
 abbrev invariant-loop : tie.invariant-loop
 invariant-loop map addresses₀ values₀ n k₀ addresses values k =
     (k ≤ n) × (n ≡ length map / 4) × (n ≤ length addresses₀) × (n ≤ length values₀) × (length addresses ≡ length addresses₀) × (length values ≡ length values₀)
-    × ((j : ℕ) → j < k → get_or addresses j 0 ≡ addressAt map j) × ((j : ℕ) → j < k → get_or values j 0 ≡ value_at map j)
+    × ((j : ℕ) → j < k → get_or addresses j 0 ≡ address_at map j) × ((j : ℕ) → j < k → get_or values j 0 ≡ value_at map j)
 
 abbrev decreases-loop : tie.decreases-loop
 decreases-loop map addresses₀ values₀ n k₀ addresses values k = n - k
@@ -28,13 +28,13 @@ returns : tie.Need-returns invariant-loop decreases-loop
 unfolding least
 returns c =
     let a = c.before.before.before.before.args in
-    (sym (passed _ _ (and-false (leb (cells a.map.now) (length a.values.now)) (lt-leb _ _ c.if1.true))), refl, refl)
+    (sym (passed _ _ (and_false (leb (cells a.map.now) (length a.values.now)) (lt-leb _ _ c.if1.true))), refl, refl)
 
 returns-2 : tie.Need-returns-2 invariant-loop decreases-loop
 unfolding least
 returns-2 c =
     let a = c.before.before.before.before.before.args in
-    (sym (passed _ _ (and-right-false (leb (cells a.map.now) (length a.addresses.now)) (lt-leb _ _ c.if2.true))), refl, refl)
+    (sym (passed _ _ (and_right_false (leb (cells a.map.now) (length a.addresses.now)) (lt-leb _ _ c.if2.true))), refl, refl)
 
 loop-holds : tie.Need-loop-init invariant-loop decreases-loop
 loop-holds c = (search rules, search rules, search rules, search rules, refl, refl, (λ j h. absurd (omega arith)), (λ j h. absurd (omega arith)))
@@ -82,7 +82,7 @@ loop-again c =
       l.invariant.3,
       simp length-set l.invariant.4,
       simp length-set l.invariant.5,
-      stored_more l.addresses l.k c.before.word_at.result (addressAt a.map.now) (omega arith) l.invariant.6 c.before.word_at.ensures,
+      stored_more l.addresses l.k c.before.word_at.result (address_at a.map.now) (omega arith) l.invariant.6 c.before.word_at.ensures,
       stored_more l.values l.k c.word-at2.result (value_at a.map.now) (omega arith) l.invariant.7 c.word-at2.ensures,
     )
 
@@ -97,9 +97,9 @@ returns-3 c =
     let l = c.before.loop in
     let a = c.before.before.before.before.before.before.before.args in
     let e : l.k ≡ cells a.map.now = omega arith in (
-      sym (chosen _ _ (and-true (le-leb (cells a.map.now) (length a.addresses.now) (omega arith)) (le-leb (cells a.map.now) (length a.values.now) (omega arith)))),
-      all-content (λ k. get_or l.addresses k 0) (addressAt a.map.now) (cells a.map.now) (λ k h. l.invariant.6 k (omega arith)) (λ k. get_or l.values k 0) (value_at a.map.now) (λ k h. l.invariant.7 k (omega arith)),
-      all_held (λ k. get_or l.addresses k 0) (addressAt a.map.now) (cells a.map.now) (λ k h. l.invariant.6 k (omega arith)),
+      sym (chosen _ _ (and_true (le-leb (cells a.map.now) (length a.addresses.now) (omega arith)) (le-leb (cells a.map.now) (length a.values.now) (omega arith)))),
+      all-content (λ k. get_or l.addresses k 0) (address_at a.map.now) (cells a.map.now) (λ k h. l.invariant.6 k (omega arith)) (λ k. get_or l.values k 0) (value_at a.map.now) (λ k h. l.invariant.7 k (omega arith)),
+      all_held (λ k. get_or l.addresses k 0) (address_at a.map.now) (cells a.map.now) (λ k h. l.invariant.6 k (omega arith)),
     )
 
 pub begin-spec : {M : Type 1} → statement M

@@ -11,13 +11,13 @@ use lib.Dec.{ltb}
 use lib.Seq.{length-take-le}
 use Rattle.base.specs.Bytes.{placed}
 use Rattle.base.proofs.Choice.{chosen, passed}
-use Rattle.records.specs.Sets.{Set, setBy}
-use Rattle.machine.specs.Held.{state_of, memoryOf, known_of, held_of, cells_of}
-use Rattle.step.specs.Acting.{canStep, marksSettled}
-use Rattle.machine.specs.Machine.{State, fresh, unmarked, noWrite, actor, step, written, reads}
-use Rattle.machine.specs.Maps.{Held, addressKnown, outcome, advanced}
+use Rattle.records.specs.Sets.{Set, set_by}
+use Rattle.machine.specs.Held.{state_of, memory_of, known_of, held_of, cells_of}
+use Rattle.step.specs.Acting.{can_step, marks_settled}
+use Rattle.machine.specs.Machine.{State, fresh, unmarked, no_write, actor, step, written, reads}
+use Rattle.machine.specs.Maps.{Held, address_known, outcome, advanced}
 use Rattle.machine.specs.Runs.{choices}
-use Rattle.machine.specs.Traces.{stepBytes, traceStep, trace, stepLength}
+use Rattle.machine.specs.Traces.{step_bytes, trace_step, trace, step_length}
 use Rattle.machine.specs.declared.RunAnswer.{RunAnswer}
 use Rattle.machine.specs.declared.RunAnswer.TheVariants.{Ran}
 use Rattle.machine.specs.declared.Choice.{Choice}
@@ -28,12 +28,12 @@ use Rattle.machine.specs.declared.Outcome.TheVariants.{Taken}
 use Rattle.step.specs.declared.acting.Stepped.{Stepped}
 use Rattle.machine.specs.declared.Written.{Written}
 use Rattle.step.specs.Runs.{unknown}
-use Rattle.step.specs.Step.{onTaken}
-use Rattle.step.specs.Walks.{steps_of, agrees, stepRefusal, onRefusal, walked, walkedLacks}
+use Rattle.step.specs.Step.{on_taken}
+use Rattle.step.specs.Walks.{steps_of, agrees, step_refusal, on_refusal, walked, walked_lacks}
 use Rattle.machine.proofs.Runs.{refused-ran}
 use Rattle.step.proofs.Arrays.{four-threads, four-marks}
-use Rattle.step.proofs.Steps.{on-refused, refused-begins, stands, lacks, rest, walked_next, Told, refused-so, shown-bytes, acting, permits, wrote_so, quiet-held, loud-held, has_room, end_is, trace-more, refused-number, lacks-next, came-out, lacks-cell}
-use Rattle.step.proofs.Cells.{prefix-known}
+use Rattle.step.proofs.Steps.{on-refused, refused-begins, stands, lacks, rest, walked_next, Told, refused_so, shown-bytes, acting, permits, wrote_so, quiet-held, loud_held, has_room_lem, end_is, trace-more, refused-number, lacks-next, came-out, lacks-cell}
+use Rattle.step.proofs.Cells.{prefix_known}
 use Rattle.step.proofs.walks.run.Statement.{statement}
 use Rattle.step.proofs.walks.run.Tie as tie
 use Rattle.step.proofs.walks.run.Reads as reads
@@ -59,17 +59,17 @@ Running S replaying input count h₀ bytes m addresses values filled wrote steps
     (steps + budget ≡ count)
     × (filled + budget ≤ length addresses)
     × (filled + budget ≤ length values)
-    × (walked S replaying input h₀ noWrite 0 count ≡ walked S replaying input (held_of m addresses values filled) wrote steps budget)
-    × (replaying ≡ false → (stepLength * count ≤ length bytes)
-    × (trace S h₀.state noWrite (choices input) ≡ take (stepLength * steps) bytes ++ trace S (state_of m (memoryOf addresses values filled)) wrote (choices (drop steps input))))
+    × (walked S replaying input h₀ no_write 0 count ≡ walked S replaying input (held_of m addresses values filled) wrote steps budget)
+    × (replaying ≡ false → (step_length * count ≤ length bytes)
+    × (trace S h₀.state no_write (choices input) ≡ take (step_length * steps) bytes ++ trace S (state_of m (memory_of addresses values filled)) wrote (choices (drop steps input))))
     × (length m.threads ≡ 4)
     × (length m.marks ≡ 4)
-    × (walkedLacks S replaying input h₀ 0 count ≡ walkedLacks S replaying input (held_of m addresses values filled) steps budget)
+    × (walked_lacks S replaying input h₀ 0 count ≡ walked_lacks S replaying input (held_of m addresses values filled) steps budget)
 
 abbrev invariant-loop : tie.invariant-loop
 invariant-loop set layout replaying input count addresses₀ values₀ cells trace₀ m₀ filled₀ wrote₀ steps₀ budget₀ addresses values trace m filled wrote steps budget =
     (layout.threads ≤ 4) × (count ≤ 64) × (count ≡ steps_of replaying (length input)) × (length addresses ≡ length addresses₀) × (length values ≡ length values₀) × (length trace ≡ length trace₀)
-    × Running (setBy set layout) replaying input count (held_of m₀ addresses₀ values₀ filled₀) trace m addresses values filled wrote steps budget
+    × Running (set_by set layout) replaying input count (held_of m₀ addresses₀ values₀ filled₀) trace m addresses values filled wrote steps budget
 
 abbrev decreases-loop : tie.decreases-loop
 decreases-loop set layout replaying input count addresses₀ values₀ cells trace₀ m₀ filled₀ wrote₀ steps₀ budget₀ addresses values trace m filled wrote steps budget = budget
@@ -93,168 +93,168 @@ actor-at x = (step-at x).before.before.before.before.before.before
 abbrev made_at : Turn → tie.After-made invariant-loop decreases-loop
 made_at x = (actor-at x).before
 
-abbrev loop-at : Turn → tie.At-loop invariant-loop decreases-loop
-loop-at x = (made_at x).before.before
+abbrev loop_at : Turn → tie.At-loop invariant-loop decreases-loop
+loop_at x = (made_at x).before.before
 
 abbrev start_of : Turn → tie.Start invariant-loop decreases-loop
-start_of x = (loop-at x).before.before.before.before.before.before
+start_of x = (loop_at x).before.before.before.before.before.before
 
-abbrev set-of : Turn → Set
-set-of x = setBy (start_of x).args.set.now (start_of x).args.layout
+abbrev set_of_lem : Turn → Set
+set_of_lem x = set_by (start_of x).args.set.now (start_of x).args.layout
 
 abbrev input_of : Turn → List ℕ
 input_of x = (start_of x).args.input.now
 
-abbrev replaying-of : Turn → Bool
-replaying-of x = (start_of x).args.replaying
+abbrev replaying_of : Turn → Bool
+replaying_of x = (start_of x).args.replaying
 
-abbrev machine-of : Turn → Machine
-machine-of x = (loop-at x).loop.m
+abbrev machine_of : Turn → Machine
+machine_of x = (loop_at x).loop.m
 
-abbrev memory-of : Turn → ℕ → ℕ
-memory-of x = let l = (loop-at x).loop in memoryOf l.addresses l.values l.filled
+abbrev memory_of_lem : Turn → ℕ → ℕ
+memory_of_lem x = let l = (loop_at x).loop in memory_of l.addresses l.values l.filled
 
-abbrev known-of : Turn → ℕ → Bool
-known-of x = let l = (loop-at x).loop in known_of l.addresses l.filled
+abbrev known_of_lem : Turn → ℕ → Bool
+known_of_lem x = let l = (loop_at x).loop in known_of l.addresses l.filled
 
-abbrev held-of : Turn → Held
-held-of x = record { state = state_of (machine-of x) (memory-of x); known = known-of x }
+abbrev held_of_lem : Turn → Held
+held_of_lem x = record { state = state_of (machine_of x) (memory_of_lem x); known = known_of_lem x }
 
-abbrev choice-of : Turn → Choice
-choice-of x = (made_at x).made.result
+abbrev choice_of : Turn → Choice
+choice_of x = (made_at x).made.result
 
-abbrev result-of : Turn → Stepped
-result-of x = (step-at x).advance.result
+abbrev result_of : Turn → Stepped
+result_of x = (step-at x).advance.result
 
-abbrev steps-of : Turn → ℕ
-steps-of x = (loop-at x).loop.steps
+abbrev steps_of_lem : Turn → ℕ
+steps_of_lem x = (loop_at x).loop.steps
 
 abbrev wrote_of : Turn → Written
-wrote_of x = (loop-at x).loop.wrote
+wrote_of x = (loop_at x).loop.wrote
 
-few : (x : Turn) → (set-of x).threads ≤ 4
-few x = (loop-at x).loop.inv.0
+few : (x : Turn) → (set_of_lem x).threads ≤ 4
+few x = (loop_at x).loop.inv.0
 
-goes : (x : Turn) → 0 < (loop-at x).loop.budget
+goes : (x : Turn) → 0 < (loop_at x).loop.budget
 goes x = (made_at x).before.loop-test.taken
 
-abbrev can-of : Turn → Bool
-can-of x = let l = (loop-at x).loop in canStep (start_of x).args.layout l.m.ended (length l.addresses) (length l.values) l.filled (choice-of x)
+abbrev can_of : Turn → Bool
+can_of x = let l = (loop_at x).loop in can_step (start_of x).args.layout l.m.ended (length l.addresses) (length l.values) l.filled (choice_of x)
 
-room : (x : Turn) → can-of x ≡ (ltb (actor (choice-of x)) (set-of x).threads && not (machine-of x).ended)
+room : (x : Turn) → can_of x ≡ (ltb (actor (choice_of x)) (set_of_lem x).threads && not (machine_of x).ended)
 room x =
-    let l = (loop-at x).loop in
-    has_room (start_of x).args.layout l.m.ended (length l.addresses) (length l.values) l.filled (choice-of x) (omega (arith, goes x, l.inv.6.1)) (omega (arith, goes x, l.inv.6.2))
+    let l = (loop_at x).loop in
+    has_room_lem (start_of x).args.layout l.m.ended (length l.addresses) (length l.values) l.filled (choice_of x) (omega (arith, goes x, l.inv.6.1)) (omega (arith, goes x, l.inv.6.2))
 
 abbrev later_of : Turn → ℕ → ℕ
-later_of x = memoryOf (step-at x).advance.last.1.1.1.1.1.1.0 (step-at x).advance.last.1.1.1.1.1.1.1.0 (result-of x).filled
+later_of x = memory_of (step-at x).advance.last.1.1.1.1.1.1.0 (step-at x).advance.last.1.1.1.1.1.1.1.0 (result_of x).filled
 
-abbrev knows-of : Turn → ℕ → Bool
-knows-of x = known_of (step-at x).advance.last.1.1.1.1.1.1.0 (result-of x).filled
+abbrev knows_of : Turn → ℕ → Bool
+knows_of x = known_of (step-at x).advance.last.1.1.1.1.1.1.0 (result_of x).filled
 
-told : (x : Turn) → Told (set-of x) (machine-of x) (memory-of x) (known-of x) (choice-of x) (few x) (can-of x) (actor (choice-of x) % 4) (loop-at x).loop.filled (result-of x) (later_of x) (knows-of x)
+told : (x : Turn) → Told (set_of_lem x) (machine_of x) (memory_of_lem x) (known_of_lem x) (choice_of x) (few x) (can_of x) (actor (choice_of x) % 4) (loop_at x).loop.filled (result_of x) (later_of x) (knows_of x)
 told x =
-    subst (λ (u : ℕ). Told (set-of x) (machine-of x) (memory-of x) (known-of x) (choice-of x) (few x) (can-of x) (u % 4) (loop-at x).loop.filled (result-of x) (later_of x) (knows-of x))
+    subst (λ (u : ℕ). Told (set_of_lem x) (machine_of x) (memory_of_lem x) (known_of_lem x) (choice_of x) (few x) (can_of x) (u % 4) (loop_at x).loop.filled (result_of x) (later_of x) (knows_of x))
     (actor-at x).actor.ensures (step-at x).advance.ensures
 
-bytes-at : (x : Turn) → x.before.before.before.before.before.before.before.step-bytes.result ≡ stepBytes (actor (choice-of x)) (result-of x).statement (get_or (machine-of x).threads (actor (choice-of x) % 4) fresh) (wrote_of x) (result-of x).address
+bytes-at : (x : Turn) → x.before.before.before.before.before.before.before.step-bytes.result ≡ step_bytes (actor (choice_of x)) (result_of x).statement (get_or (machine_of x).threads (actor (choice_of x) % 4) fresh) (wrote_of x) (result_of x).address
 bytes-at x =
     x.before.before.before.before.before.before.before.step-bytes.ensures
-    ∙ ap (λ (u : ℕ). stepBytes u (result-of x).statement (get_or (machine-of x).threads (u % 4) fresh) (wrote_of x) (result-of x).address) (actor-at x).actor.ensures
+    ∙ ap (λ (u : ℕ). step_bytes u (result_of x).statement (get_or (machine_of x).threads (u % 4) fresh) (wrote_of x) (result_of x).address) (actor-at x).actor.ensures
 
 refusal_is : (x : Turn) →
-    x.refusal-of.result ≡ stepRefusal (outcome (set-of x) (held-of x) (choice-of x)) (agrees (replaying-of x) (input_of x) (steps-of x) (addressKnown (set-of x) (held-of x) (choice-of x)) (traceStep (set-of x) (held-of x).state (wrote_of x) (choice-of x)))
+    x.refusal-of.result ≡ step_refusal (outcome (set_of_lem x) (held_of_lem x) (choice_of x)) (agrees (replaying_of x) (input_of x) (steps_of_lem x) (address_known (set_of_lem x) (held_of_lem x) (choice_of x)) (trace_step (set_of_lem x) (held_of_lem x).state (wrote_of x) (choice_of x)))
 refusal_is x =
-    let agreed = agrees (replaying-of x) (input_of x) (steps-of x) in
+    let agreed = agrees (replaying_of x) (input_of x) (steps_of_lem x) in
     x.refusal-of.ensures
-    ∙ ap (stepRefusal (result-of x).outcome) (x.before.agrees.ensures ∙ ap (agreed (result-of x).addressed) (bytes-at x))
-    ∙ refused-so (set-of x) (machine-of x) (memory-of x) (known-of x) (choice-of x) (few x) (told x) (room x) agreed (wrote_of x)
+    ∙ ap (step_refusal (result_of x).outcome) (x.before.agrees.ensures ∙ ap (agreed (result_of x).addressed) (bytes-at x))
+    ∙ refused_so (set_of_lem x) (machine_of x) (memory_of_lem x) (known_of_lem x) (choice_of x) (few x) (told x) (room x) agreed (wrote_of x)
 
 abbrev rest_of : Turn → RunAnswer
-rest_of x = rest (set-of x) (replaying-of x) (input_of x) (held-of x) (wrote_of x) (steps-of x) (choice-of x) (made_at x).made.ensures ((loop-at x).loop.budget - 1)
+rest_of x = rest (set_of_lem x) (replaying_of x) (input_of x) (held_of_lem x) (wrote_of x) (steps_of_lem x) (choice_of x) (made_at x).made.ensures ((loop_at x).loop.budget - 1)
 
 -- the refusal decides
 judged : (x : Turn) →
     let a = (start_of x).args in
-    walked (set-of x) (replaying-of x) (input_of x) (held_of a.first a.addresses.now a.values.now a.cells) noWrite 0 a.count
-    ≡ onRefusal x.refusal-of.result (steps-of x) (rest_of x)
+    walked (set_of_lem x) (replaying_of x) (input_of x) (held_of a.first a.addresses.now a.values.now a.cells) no_write 0 a.count
+    ≡ on_refusal x.refusal-of.result (steps_of_lem x) (rest_of x)
 judged x =
-    let l = (loop-at x).loop in
+    let l = (loop_at x).loop in
     l.inv.6.3
-    ∙ walked_next (set-of x) (replaying-of x) (input_of x) (held-of x) (wrote_of x) (steps-of x) (choice-of x) (made_at x).made.ensures l.budget (goes x)
-    ∙ ap (λ (n : ℕ). onRefusal n (steps-of x) (rest_of x)) (sym (refusal_is x))
+    ∙ walked_next (set_of_lem x) (replaying_of x) (input_of x) (held_of_lem x) (wrote_of x) (steps_of_lem x) (choice_of x) (made_at x).made.ensures l.budget (goes x)
+    ∙ ap (λ (n : ℕ). on_refusal n (steps_of_lem x) (rest_of x)) (sym (refusal_is x))
 
 -- ---- a turn that is taken
 
-module _ (x : Turn) (taken : (result-of x).outcome ≡ Taken) where
+module _ (x : Turn) (taken : (result_of x).outcome ≡ Taken) where
   -- a schedule's trace so far has one step more
-  traced-on : replaying-of x ≡ false →
+  traced-on : replaying_of x ≡ false →
       let a = (start_of x).args in
-      let i = steps-of x in
-      (stepLength * a.count ≤ length (place_at x).place.last.0)
-      × (trace (set-of x) (state_of a.first (memoryOf a.addresses.now a.values.now a.cells)) noWrite (choices (input_of x))
-      ≡ take (stepLength * (i + 1)) (place_at x).place.last.0 ++ trace (set-of x) (step (set-of x) (held-of x).state (choice-of x)) (written (set-of x) (held-of x).state (choice-of x)) (choices (drop (i + 1) (input_of x))))
+      let i = steps_of_lem x in
+      (step_length * a.count ≤ length (place_at x).place.last.0)
+      × (trace (set_of_lem x) (state_of a.first (memory_of a.addresses.now a.values.now a.cells)) no_write (choices (input_of x))
+      ≡ take (step_length * (i + 1)) (place_at x).place.last.0 ++ trace (set_of_lem x) (step (set_of_lem x) (held_of_lem x).state (choice_of x)) (written (set_of_lem x) (held_of_lem x).state (choice_of x)) (choices (drop (i + 1) (input_of x))))
   traced-on f =
-      let l = (loop-at x).loop in
-      let i = steps-of x in
-      let s = (held-of x).state in
+      let l = (loop_at x).loop in
+      let i = steps_of_lem x in
+      let s = (held_of_lem x).state in
       let more = l.inv.6.4 f in
       let n = l.inv.2 ∙ passed _ _ f in
       let left : i < length (input_of x) = omega (arith, goes x, l.inv.6.0, n) in (
         omega (arith, more.0, (place_at x).place.kept.0),
         more.1
-            ∙ trace-more (set-of x) (input_of x) i left (choice-of x) ((made_at x).made.ensures ∙ passed _ _ f) s (wrote_of x) l.trace (omega (arith, more.0, goes x, l.inv.6.0))
-            ∙ ap (λ (bytes : List ℕ). take (stepLength * (i + 1)) bytes ++ trace (set-of x) (step (set-of x) s (choice-of x)) (written (set-of x) s (choice-of x)) (choices (drop (i + 1) (input_of x))))
-            (sym ((place_at x).place.ensures ∙ ap (placed l.trace (stepLength * i)) (bytes-at x ∙ shown-bytes (set-of x) (machine-of x) (memory-of x) (known-of x) (choice-of x) (few x) (told x) (room x)
-            (acting (set-of x) (machine-of x) (memory-of x) (known-of x) (choice-of x) (few x) (told x) (room x) taken)
-            (permits (set-of x) (machine-of x) (memory-of x) (known-of x) (choice-of x) (few x) (told x) (room x) taken refl) (wrote_of x)))),
+            ∙ trace-more (set_of_lem x) (input_of x) i left (choice_of x) ((made_at x).made.ensures ∙ passed _ _ f) s (wrote_of x) l.trace (omega (arith, more.0, goes x, l.inv.6.0))
+            ∙ ap (λ (bytes : List ℕ). take (step_length * (i + 1)) bytes ++ trace (set_of_lem x) (step (set_of_lem x) s (choice_of x)) (written (set_of_lem x) s (choice_of x)) (choices (drop (i + 1) (input_of x))))
+            (sym ((place_at x).place.ensures ∙ ap (placed l.trace (step_length * i)) (bytes-at x ∙ shown-bytes (set_of_lem x) (machine_of x) (memory_of_lem x) (known_of_lem x) (choice_of x) (few x) (told x) (room x)
+            (acting (set_of_lem x) (machine_of x) (memory_of_lem x) (known_of_lem x) (choice_of x) (few x) (told x) (room x) taken)
+            (permits (set_of_lem x) (machine_of x) (memory_of_lem x) (known_of_lem x) (choice_of x) (few x) (told x) (room x) taken refl) (wrote_of x)))),
       )
 
 -- ---- a turn that lacks a first cell
 
-abbrev lacks-of : Turn → ℕ
-lacks-of x = walkedLacks (set-of x) (replaying-of x) (input_of x) (advanced (set-of x) (held-of x) (choice-of x)) (steps-of x + 1) ((loop-at x).loop.budget - 1)
+abbrev lacks_of : Turn → ℕ
+lacks_of x = walked_lacks (set_of_lem x) (replaying_of x) (input_of x) (advanced (set_of_lem x) (held_of_lem x) (choice_of x)) (steps_of_lem x + 1) ((loop_at x).loop.budget - 1)
 
 lacked : (x : Turn) →
     let a = (start_of x).args in
-    walkedLacks (set-of x) (replaying-of x) (input_of x) (held_of a.first a.addresses.now a.values.now a.cells) 0 a.count
-    ≡ onTaken (result-of x).outcome (lacks-of x) (unknown (known-of x) (reads (set-of x) (held-of x).state (choice-of x)))
+    walked_lacks (set_of_lem x) (replaying_of x) (input_of x) (held_of a.first a.addresses.now a.values.now a.cells) 0 a.count
+    ≡ on_taken (result_of x).outcome (lacks_of x) (unknown (known_of_lem x) (reads (set_of_lem x) (held_of_lem x).state (choice_of x)))
 lacked x =
-    let l = (loop-at x).loop in
+    let l = (loop_at x).loop in
     l.inv.6.7
-    ∙ lacks-next (set-of x) (replaying-of x) (input_of x) (held-of x) (wrote_of x) (steps-of x) (choice-of x) (made_at x).made.ensures l.budget (goes x)
-    ∙ ap (λ (o : Outcome). onTaken o (lacks-of x) (unknown (known-of x) (reads (set-of x) (held-of x).state (choice-of x))))
-    (sym (came-out (set-of x) (machine-of x) (memory-of x) (known-of x) (choice-of x) (few x) (told x) (room x)))
+    ∙ lacks-next (set_of_lem x) (replaying_of x) (input_of x) (held_of_lem x) (wrote_of x) (steps_of_lem x) (choice_of x) (made_at x).made.ensures l.budget (goes x)
+    ∙ ap (λ (o : Outcome). on_taken o (lacks_of x) (unknown (known_of_lem x) (reads (set_of_lem x) (held_of_lem x).state (choice_of x))))
+    (sym (came-out (set_of_lem x) (machine_of x) (memory_of_lem x) (known_of_lem x) (choice_of x) (few x) (told x) (room x)))
 
 -- ---- a turn that is not refused
 
 module _ (x : Turn) (zero : x.refusal-of.result ≡ 0) where
-  taken : (result-of x).outcome ≡ Taken
-  taken = stands (result-of x).outcome x.before.agrees.result (sym x.refusal-of.ensures ∙ zero)
+  taken : (result_of x).outcome ≡ Taken
+  taken = stands (result_of x).outcome x.before.agrees.result (sym x.refusal-of.ensures ∙ zero)
 
   -- the loop goes on with a machine that the step made
-  goes_on : (n : Machine) → length n.threads ≡ 4 → length n.marks ≡ 4 → record { state = state_of n (later_of x); known = knows-of x } ≡ advanced (set-of x) (held-of x) (choice-of x) →
+  goes_on_lem : (n : Machine) → length n.threads ≡ 4 → length n.marks ≡ 4 → record { state = state_of n (later_of x); known = knows_of x } ≡ advanced (set_of_lem x) (held_of_lem x) (choice_of x) →
       let a = (start_of x).args in
-      Running (set-of x) (replaying-of x) (input_of x) a.count (held_of a.first a.addresses.now a.values.now a.cells) (place_at x).place.last.0 n
-      (step-at x).advance.last.1.1.1.1.1.1.0 (step-at x).advance.last.1.1.1.1.1.1.1.0 (result-of x).filled (result-of x).wrote (steps-of x + 1) ((loop-at x).loop.budget - 1)
+      Running (set_of_lem x) (replaying_of x) (input_of x) a.count (held_of a.first a.addresses.now a.values.now a.cells) (place_at x).place.last.0 n
+      (step-at x).advance.last.1.1.1.1.1.1.0 (step-at x).advance.last.1.1.1.1.1.1.1.0 (result_of x).filled (result_of x).wrote (steps_of_lem x + 1) ((loop_at x).loop.budget - 1)
   unfolding advanced
-  goes_on n threads marks h =
-      let l = (loop-at x).loop in
-      let i = steps-of x in
+  goes_on_lem n threads marks h =
+      let l = (loop_at x).loop in
+      let i = steps_of_lem x in
       let k = (step-at x).advance.kept in
       let more = (step-at x).advance.ensures.more in
-      let w = wrote_so (set-of x) (machine-of x) (memory-of x) (known-of x) (choice-of x) (few x) (told x) (room x) taken in (
+      let w = wrote_so (set_of_lem x) (machine_of x) (memory_of_lem x) (known_of_lem x) (choice_of x) (few x) (told x) (room x) taken in (
         omega (arith, goes x, l.inv.6.0),
         omega (arith, goes x, l.inv.6.1, k.1.1.1.1.1.1.0, more),
         omega (arith, goes x, l.inv.6.2, k.1.1.1.1.1.1.1.0, more),
-        judged x ∙ ap (λ (n : ℕ). onRefusal n i (rest_of x)) zero
-            ∙ ap₂ (λ (k : Held) (w : Written). walked (set-of x) (replaying-of x) (input_of x) k w (i + 1) (l.budget - 1)) (sym h) (sym w),
+        judged x ∙ ap (λ (n : ℕ). on_refusal n i (rest_of x)) zero
+            ∙ ap₂ (λ (k : Held) (w : Written). walked (set_of_lem x) (replaying_of x) (input_of x) k w (i + 1) (l.budget - 1)) (sym h) (sym w),
         λ f. let t = traced-on x taken f in
-            (t.0, t.1 ∙ ap₂ (λ (s : State) (w : Written). take (stepLength * (i + 1)) (place_at x).place.last.0 ++ trace (set-of x) s w (choices (drop (i + 1) (input_of x)))) (ap (λ (k : Held). k.state) (sym h)) (sym w)),
+            (t.0, t.1 ∙ ap₂ (λ (s : State) (w : Written). take (step_length * (i + 1)) (place_at x).place.last.0 ++ trace (set_of_lem x) s w (choices (drop (i + 1) (input_of x)))) (ap (λ (k : Held). k.state) (sym h)) (sym w)),
         threads,
         marks,
-        lacked x ∙ ap (λ (o : Outcome). onTaken o (lacks-of x) (unknown (known-of x) (reads (set-of x) (held-of x).state (choice-of x)))) taken
-            ∙ ap (λ (k : Held). walkedLacks (set-of x) (replaying-of x) (input_of x) k (i + 1) (l.budget - 1)) (sym h),
+        lacked x ∙ ap (λ (o : Outcome). on_taken o (lacks_of x) (unknown (known_of_lem x) (reads (set_of_lem x) (held_of_lem x).state (choice_of x)))) taken
+            ∙ ap (λ (k : Held). walked_lacks (set_of_lem x) (replaying_of x) (input_of x) k (i + 1) (l.budget - 1)) (sym h),
       )
 
 marks-made : (c : tie.After-marks-after invariant-loop decreases-loop) → length c.marks-after.result ≡ 4
@@ -318,9 +318,9 @@ refusal-of-requires : tie.Need-refusal-of-requires invariant-loop decreases-loop
 refusal-of-requires c κs = search rules
 
 -- the cells are those of the step
-fits : (x : Turn) → (result-of x).filled ≤ length (step-at x).advance.last.1.1.1.1.1.1.0
+fits : (x : Turn) → (result_of x).filled ≤ length (step-at x).advance.last.1.1.1.1.1.1.0
 fits x =
-    let l = (loop-at x).loop in
+    let l = (loop_at x).loop in
     omega (arith, goes x, l.inv.6.1, (step-at x).advance.kept.1.1.1.1.1.1.0, (step-at x).advance.ensures.more)
 
 slice-reshare-prefix-unknown : tie.Need-slice-reshare-prefix-unknown invariant-loop decreases-loop
@@ -336,36 +336,36 @@ abbrev turn-of : tie.After-unknown invariant-loop decreases-loop → Turn
 turn-of c = c.before.before.before
 
 refused-requires : tie.Need-refused-requires invariant-loop decreases-loop
-refused-requires c κs = let x = turn-of c in let l = (loop-at x).loop in omega (arith, goes x, l.inv.6.0, l.inv.1)
+refused-requires c κs = let x = turn-of c in let l = (loop_at x).loop in omega (arith, goes x, l.inv.6.0, l.inv.1)
 
 same_length : tie.Need-same-length invariant-loop decreases-loop
-same_length c = let x = turn-of c.before in (step-at x).advance.kept.1.1.1.1.1.1.0 ∙ (loop-at x).loop.inv.3
+same_length c = let x = turn-of c.before in (step-at x).advance.kept.1.1.1.1.1.1.0 ∙ (loop_at x).loop.inv.3
 
 same-length-2 : tie.Need-same-length-2 invariant-loop decreases-loop
-same-length-2 c = let x = turn-of c.before in (step-at x).advance.kept.1.1.1.1.1.1.1.0 ∙ (loop-at x).loop.inv.4
+same-length-2 c = let x = turn-of c.before in (step-at x).advance.kept.1.1.1.1.1.1.1.0 ∙ (loop_at x).loop.inv.4
 
 same-length-3 : tie.Need-same-length-3 invariant-loop decreases-loop
-same-length-3 c = let x = turn-of c.before in (place_at x).place.kept.0 ∙ (loop-at x).loop.inv.5
+same-length-3 c = let x = turn-of c.before in (place_at x).place.kept.0 ∙ (loop_at x).loop.inv.5
 
 -- the cell that the step lacks, where 14 refuses it
-lacking-is : (c : tie.After-unknown invariant-loop decreases-loop) → let x = turn-of c in
+lacking_is : (c : tie.After-unknown invariant-loop decreases-loop) → let x = turn-of c in
     x.refusal-of.result ≡ 14 →
     let a = (start_of x).args in
-    c.unknown.result ≡ walkedLacks (set-of x) (replaying-of x) (input_of x) (held_of a.first a.addresses.now a.values.now a.cells) 0 a.count
-lacking-is c e =
+    c.unknown.result ≡ walked_lacks (set_of_lem x) (replaying_of x) (input_of x) (held_of a.first a.addresses.now a.values.now a.cells) 0 a.count
+lacking_is c e =
     let x = turn-of c in
-    let o = lacks (result-of x).outcome x.before.agrees.result (sym x.refusal-of.ensures ∙ e) in
+    let o = lacks (result_of x).outcome x.before.agrees.result (sym x.refusal-of.ensures ∙ e) in
     c.unknown.ensures
-    ∙ ap (λ (k : ℕ → Bool). unknown k (cells_of (result-of x).read)) (prefix-known (step-at x).advance.last.1.1.1.1.1.1.0 (step-at x).advance.last.1.1.1.1.1.1.1.0 (result-of x).filled (fits x))
-    ∙ lacks-cell (set-of x) (machine-of x) (memory-of x) (known-of x) (choice-of x) (few x) (told x) (room x) o
-    ∙ sym (lacked x ∙ ap (λ (z : Outcome). onTaken z (lacks-of x) (unknown (known-of x) (reads (set-of x) (held-of x).state (choice-of x)))) o)
+    ∙ ap (λ (k : ℕ → Bool). unknown k (cells_of (result_of x).read)) (prefix_known (step-at x).advance.last.1.1.1.1.1.1.0 (step-at x).advance.last.1.1.1.1.1.1.1.0 (result_of x).filled (fits x))
+    ∙ lacks-cell (set_of_lem x) (machine_of x) (memory_of_lem x) (known_of_lem x) (choice_of x) (few x) (told x) (room x) o
+    ∙ sym (lacked x ∙ ap (λ (z : Outcome). on_taken z (lacks_of x) (unknown (known_of_lem x) (reads (set_of_lem x) (held_of_lem x).state (choice_of x)))) o)
 
 returns : tie.Need-returns invariant-loop decreases-loop
 returns c =
     let u = c.before in
     let x = turn-of u in (
       c.refused.ensures ∙ sym (judged x ∙ on-refused _ _ _ u.before.before.if1.true),
-      λ place e. lacking-is u (refused-number (sym c.refused.ensures ∙ e)),
+      λ place e. lacking_is u (refused-number (sym c.refused.ensures ∙ e)),
       refused-begins _ _ _ _ _ c.refused.ensures,
     )
 
@@ -376,7 +376,7 @@ element-set-from-y : tie.Need-element-set-from-y invariant-loop decreases-loop
 element-set-from-y c = search rules
 
 add-steps : tie.Need-overflow-add-steps invariant-loop decreases-loop
-add-steps c = let x = c.before.before in let l = (loop-at x).loop in omega (arith, goes x, l.inv.6.0, l.inv.1)
+add-steps c = let x = c.before.before in let l = (loop_at x).loop in omega (arith, goes x, l.inv.6.0, l.inv.1)
 
 sub-budget : tie.Need-overflow-sub-budget invariant-loop decreases-loop
 sub-budget c = omega (arith, goes c.before.before)
@@ -400,21 +400,21 @@ loop-again : tie.Need-loop-preserved invariant-loop decreases-loop
 loop-again c =
     let x = c.before.before.before.before.before.before.before.before in
     let zero = c.before.before.before.before.before.before.before.if1.false in
-    let l = (loop-at x).loop in
-    let m = machine-of x in
+    let l = (loop_at x).loop in
+    let m = machine_of x in
     let t = (actor-at x).actor in
     let k = (step-at x).advance.auto in
     let marks = c.before.before.marks-after in
     let ended = c.before.ended-after in
-    let n : Machine = record { threads = set m.threads (t.result % 4) (result-of x).thread; marks = marks.result; ended = ended.result; code = c.code-after.result } in (
+    let n : Machine = record { threads = set m.threads (t.result % 4) (result_of x).thread; marks = marks.result; ended = ended.result; code = c.code-after.result } in (
       l.inv.0,
       l.inv.1,
       l.inv.2,
       k.1.1.1.1.1.1.0 ∙ l.inv.3,
       k.1.1.1.1.1.1.1.0 ∙ l.inv.4,
       (place_at x).place.auto.0 ∙ l.inv.5,
-      goes_on x zero n (length-set m.threads (t.result % 4) (result-of x).thread ∙ l.inv.6.5) (marks-made c.before.before) (loud-held (set-of x) m (memory-of x) (known-of x) (choice-of x) (few x) (told x) (room x) (taken x zero) n (ap (λ (u : ℕ). set m.threads (u % 4) (result-of x).thread) t.ensures) l.inv.6.5
-          (marks.ensures ∙ ap {B = ℕ → Mark} (λ (u : ℕ). cond (ltb u 4) (marksSettled (set-of x) (λ v. get_or m.marks v unmarked) u (result-of x).statement) (λ v. get_or m.marks v unmarked)) t.ensures)
+      goes_on_lem x zero n (length-set m.threads (t.result % 4) (result_of x).thread ∙ l.inv.6.5) (marks-made c.before.before) (loud_held (set_of_lem x) m (memory_of_lem x) (known_of_lem x) (choice_of x) (few x) (told x) (room x) (taken x zero) n (ap (λ (u : ℕ). set m.threads (u % 4) (result_of x).thread) t.ensures) l.inv.6.5
+          (marks.ensures ∙ ap {B = ℕ → Mark} (λ (u : ℕ). cond (ltb u 4) (marks_settled (set_of_lem x) (λ v. get_or m.marks v unmarked) u (result_of x).statement) (λ v. get_or m.marks v unmarked)) t.ensures)
           ended.ensures
           c.code-after.ensures),
     )
@@ -426,18 +426,18 @@ loop-again-2 : tie.Need-loop-preserved-2 invariant-loop decreases-loop
 loop-again-2 c =
     let x = c.before.before.before.before in
     let zero = c.before.before.before.if1.false in
-    let l = (loop-at x).loop in
-    let m = machine-of x in
+    let l = (loop_at x).loop in
+    let m = machine_of x in
     let t = (actor-at x).actor in
     let k = (step-at x).advance.auto in
-    let n : Machine = record { threads = set m.threads (t.result % 4) (result-of x).thread; marks = m.marks; ended = m.ended; code = m.code } in (
+    let n : Machine = record { threads = set m.threads (t.result % 4) (result_of x).thread; marks = m.marks; ended = m.ended; code = m.code } in (
       l.inv.0,
       l.inv.1,
       l.inv.2,
       k.1.1.1.1.1.1.0 ∙ l.inv.3,
       k.1.1.1.1.1.1.1.0 ∙ l.inv.4,
       (place_at x).place.auto.0 ∙ l.inv.5,
-      goes_on x zero n (length-set m.threads (t.result % 4) (result-of x).thread ∙ l.inv.6.5) l.inv.6.6 (quiet-held (set-of x) m (memory-of x) (known-of x) (choice-of x) (few x) (told x) (room x) (taken x zero) n (ap (λ (u : ℕ). set m.threads (u % 4) (result-of x).thread) t.ensures) l.inv.6.5
+      goes_on_lem x zero n (length-set m.threads (t.result % 4) (result_of x).thread ∙ l.inv.6.5) l.inv.6.6 (quiet-held (set_of_lem x) m (memory_of_lem x) (known_of_lem x) (choice_of x) (few x) (told x) (room x) (taken x zero) n (ap (λ (u : ℕ). set m.threads (u % 4) (result_of x).thread) t.ensures) l.inv.6.5
           refl refl refl l.inv.6.6 (sym c.before.quiet.ensures ∙ not-false _ c.if2.false)),
     )
 
@@ -461,20 +461,20 @@ unfolding walked trace choices
 returns-2 c =
     let l = c.before.before.loop in
     let a = c.before.before.before.before.before.before.before.before.args in
-    let S = setBy a.set.now a.layout in
-    let memory = memoryOf l.addresses l.values l.filled in
+    let S = set_by a.set.now a.layout in
+    let memory = memory_of l.addresses l.values l.filled in
     let z : l.budget ≡ 0 = omega (arith, c.before.loop-test.false) in (
       sym (l.invariant.6.3 ∙ ap (λ (n : ℕ). walked S a.replaying a.input.now (held_of l.m l.addresses l.values l.filled) l.wrote l.steps n) z
           ∙ ap (Ran l.steps) (sym (c.end_of_lem.ensures memory ∙ end_is a.layout S (state_of l.m memory) l.invariant.0))),
       λ place e. refused-ran (sym e),
-      ended_so a.replaying l.trace (trace S (state_of a.first (memoryOf a.addresses.now a.values.now a.cells)) noWrite (choices a.input.now))
+      ended_so a.replaying l.trace (trace S (state_of a.first (memory_of a.addresses.now a.values.now a.cells)) no_write (choices a.input.now))
           (λ f.
           let n = l.invariant.2 ∙ passed _ _ f in
           let g : length a.input.now ≤ l.steps = omega (arith, n, z, l.invariant.6.0) in
           let d : drop l.steps a.input.now ≡ [] = drop_of_length-le a.input.now g in
           let more = l.invariant.6.4 f in
-          let q = more.1 ∙ ap (λ (ks : List ℕ). take (stepLength * l.steps) l.trace ++ trace S (state_of l.m memory) l.wrote (choices ks)) d ∙ append-nil (take (stepLength * l.steps) l.trace) in
-          ap (λ (n : ℕ). take n l.trace) (ap length q ∙ length-take-le (stepLength * l.steps) l.trace (omega (arith, more.0, l.invariant.6.0))) ∙ sym q),
+          let q = more.1 ∙ ap (λ (ks : List ℕ). take (step_length * l.steps) l.trace ++ trace S (state_of l.m memory) l.wrote (choices ks)) d ∙ append-nil (take (step_length * l.steps) l.trace) in
+          ap (λ (n : ℕ). take n l.trace) (ap length q ∙ length-take-le (step_length * l.steps) l.trace (omega (arith, more.0, l.invariant.6.0))) ∙ sym q),
     )
 
 pub run_spec : {M : Type 1} → statement M

@@ -1,5 +1,5 @@
 -- `step::walks::step_bytes` meets its contract. Assumes nothing.
-use Rattle.machine.specs.Traces.{stepBytes}
+use Rattle.machine.specs.Traces.{step_bytes}
 use native.Mathlib.Omega.{arith}
 use borrow.Author.Rules.{rules}
 use Rattle.step.proofs.walks.step_bytes.Statement.{statement}
@@ -72,7 +72,7 @@ cast-t43 : tie.Need-overflow-cast-t43
 cast-t43 c = omega (arith, (fits c.before.before.before.before.before.before.before.before.before.before.before.before.before.before.before.before.before.before).fits)
 
 returns : tie.Need-returns
-unfolding stepBytes
+unfolding step_bytes
 returns c = rw (c.before.before.before.before.before.before.before.before.before.before.before.before.before.before.before.before.bit-of2.ensures, c.before.before.before.before.before.before.before.before.before.before.before.before.before.before.before.before.before.bit-of.ensures)
 
 pub step-bytes-spec : {M : Type 1} → statement M

@@ -9,13 +9,13 @@ use borrow.Author.Tests.{leb-true}
 use lib.Dec.{leb}
 use lib.ListN.{length}
 use Rattle.base.proofs.Choice.{chosen, passed, and_left, and_right}
-use Rattle.records.specs.Maps.{cells, mapValue}
-use Rattle.records.specs.Sets.{setBy}
-use Rattle.machine.specs.Held.{state_of, memoryOf, held_of}
-use Rattle.machine.specs.Machine.{State, start, noWrite}
+use Rattle.records.specs.Maps.{cells, map_value}
+use Rattle.records.specs.Sets.{set_by}
+use Rattle.machine.specs.Held.{state_of, memory_of, held_of}
+use Rattle.machine.specs.Machine.{State, start, no_write}
 use Rattle.machine.specs.Maps.{Held, begin}
 use Rattle.step.specs.Runs.{Begins}
-use Rattle.step.specs.Walks.{steps_of, walked, walkedOver, within, traced, walkedLacks}
+use Rattle.step.specs.Walks.{steps_of, walked, walked_over, within, traced, walked_lacks}
 use Rattle.step.proofs.Steps.{refused-begins, begun, all-cells, refused-number}
 use Rattle.step.proofs.walks.walk.Statement.{statement}
 use Rattle.step.proofs.walks.walk.Tie as tie
@@ -26,7 +26,7 @@ use Rattle.step.proofs.walks.count_of.Reads as count-of-reads
 use Rattle.step.proofs.walks.fresh_machine.Reads as fresh-machine-reads
 use Rattle.step.proofs.walks.refused.Reads as refused-reads
 use Rattle.step.proofs.walks.run.Reads as run-reads
-use Rattle.machine.specs.Traces.{stepLength}
+use Rattle.machine.specs.Traces.{step_length}
 
 -- ---- the limits
 
@@ -43,15 +43,15 @@ abbrev count-test : tie.After-struct-known → Bool
 count-test k = leb k.before.count_of.result 64
 
 abbrev room-test : tie.After-struct-known → Bool
-room-test k = (start_of k).args.replaying || leb k.before.count_of.result (length (start_of k).args.trace.now / stepLength)
+room-test k = (start_of k).args.replaying || leb k.before.count_of.result (length (start_of k).args.trace.now / step_length)
 
 tested : (k : tie.After-struct-known) →
     let a = (start_of k).args in
-    within (setBy a.set.now a.layout) a.map.now a.replaying (steps_of a.replaying (length a.input.now)) (length a.trace.now)
+    within (set_by a.set.now a.layout) a.map.now a.replaying (steps_of a.replaying (length a.input.now)) (length a.trace.now)
     ≡ (threads-test k && cells-test k && count-test k && room-test k)
 tested k =
     let a = (start_of k).args in
-    ap (λ (n : ℕ). threads-test k && cells-test k && leb n 64 && (a.replaying || leb n (length a.trace.now / stepLength))) (sym k.before.count_of.ensures)
+    ap (λ (n : ℕ). threads-test k && cells-test k && leb n 64 && (a.replaying || leb n (length a.trace.now / step_length))) (sym k.before.count_of.ensures)
 
 module _ (c : tie.Then1) where
   abbrev k : tie.After-struct-known
@@ -69,9 +69,9 @@ module _ (c : tie.Then1) where
   few-steps : k.before.count_of.result ≤ 64
   few-steps = leb-true _ _ (and_right (threads-test k && cells-test k) (count-test k) three)
 
-  roomy : (start_of k).args.replaying ≡ false → stepLength * k.before.count_of.result ≤ length (start_of k).args.trace.now
+  roomy : (start_of k).args.replaying ≡ false → step_length * k.before.count_of.result ≤ length (start_of k).args.trace.now
   roomy f =
-      let n = length (start_of k).args.trace.now / stepLength in
+      let n = length (start_of k).args.trace.now / step_length in
       let q = ap (λ (r : Bool). r || leb k.before.count_of.result n) (sym f) ∙ and_right (threads-test k && cells-test k && count-test k) (room-test k) c.if1.true in
       let h = leb-true k.before.count_of.result n q in
       omega (arith, h)
@@ -96,7 +96,7 @@ starts r =
     begun (map_of r) r.before.before.before.before.fresh-machine.result b.begin.last.1.0 b.begin.last.1.1.0 b.begin.result
     r.before.before.before.before.fresh-machine.ensures b.begin.ensures.1 b.begin.ensures.2 (filled b)
 
-first-state : (r : tie.After-run) → let b = begin-at r in state_of r.before.before.before.before.fresh-machine.result (memoryOf b.begin.last.1.0 b.begin.last.1.1.0 b.begin.result) ≡ start (mapValue (map_of r))
+first-state : (r : tie.After-run) → let b = begin-at r in state_of r.before.before.before.before.fresh-machine.result (memory_of b.begin.last.1.0 b.begin.last.1.1.0 b.begin.result) ≡ start (map_value (map_of r))
 unfolding begin
 first-state r = ap (λ (h : Held). h.state) (starts r)
 
@@ -137,18 +137,18 @@ same_length : tie.Need-same-length
 same_length c = search rules
 
 returns : tie.Need-returns
-unfolding walkedOver
+unfolding walked_over
 returns c =
     let r = c.before.before.before.before in
     let a = r.before.before.before.before.before.before.before.before.before.before.before.before.before.before.before.before.before.args in
     let t = r.before.before.before.before.before.before.before.before.before.before in
-    let S = setBy a.set.now a.layout in (
+    let S = set_by a.set.now a.layout in (
       r.run.ensures.0
-          ∙ ap₂ (λ (h : Held) (n : ℕ). walked S a.replaying a.input.now h noWrite 0 n) (starts r) t.before.before.count_of.ensures
+          ∙ ap₂ (λ (h : Held) (n : ℕ). walked S a.replaying a.input.now h no_write 0 n) (starts r) t.before.before.count_of.ensures
           ∙ sym (chosen _ _ (tested t.before ∙ t.if1.true)),
       λ place e.
           r.run.ensures.1 place e
-          ∙ ap₂ (λ (h : Held) (n : ℕ). walkedLacks S a.replaying a.input.now h 0 n) (starts r) t.before.before.count_of.ensures,
+          ∙ ap₂ (λ (h : Held) (n : ℕ). walked_lacks S a.replaying a.input.now h 0 n) (starts r) t.before.before.count_of.ensures,
       subst (λ (s : State). Begins r.run.result.answer (traced S a.replaying s a.input.now) r.run.new.1.1.1.1.1.1.1.1.1.0) (first-state r) r.run.ensures.2,
     )
 
@@ -156,7 +156,7 @@ refused-requires : tie.Need-refused-requires
 refused-requires c κs = search rules
 
 returns-2 : tie.Need-returns-2
-unfolding walkedOver
+unfolding walked_over
 returns-2 c = (
   c.refused.ensures ∙ sym (passed _ _ (tested c.before.before ∙ c.before.if1.false)),
   λ place e. let z : ◌≡◌ {A = ℕ} 17 14 = refused-number (sym c.refused.ensures ∙ e) in absurd (omega arith),

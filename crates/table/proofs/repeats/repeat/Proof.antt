@@ -9,21 +9,21 @@ use borrow.Author.Tests.{not-true, not-false}
 use Rattle.base.specs.Bytes.{placed}
 use Rattle.table.specs.Repeats.{repeated}
 use Rattle.table.specs.Programs.{upto}
-use Rattle.table.specs.Formulas.{formulaBytes, writtenAt, formulaAt}
+use Rattle.table.specs.Formulas.{formula_bytes, written_at, formula_at}
 use Rattle.table.specs.declared.Formula.{Formula}
-use Rattle.table.proofs.Repeated.{record-before, repeatable-room, repeats, repeats-nothing}
+use Rattle.table.proofs.Repeated.{record_before, repeatable-room, repeats, repeats-nothing}
 use Rattle.table.proofs.Numbered.{numbered-none, numbered_more}
 use Rattle.table.proofs.repeats.repeat.Statement.{statement}
 use Rattle.table.proofs.repeats.repeat.Tie as tie
 
 -- the record that number j becomes
 abbrev record_of : (out : List ℕ) (at first stride j : ℕ) → Formula
-record_of out at first stride j = repeated first stride (formulaAt out (at - stride + j))
+record_of out at first stride j = repeated first stride (formula_at out (at - stride + j))
 
 abbrev invariant-loop : tie.invariant-loop
 invariant-loop out₀ at count first stride j₀ out j =
     (j ≤ count) × (count ≤ stride) × (stride ≤ at) × (at + count ≤ 2000000000) × (16 * (at + count) ≤ length out₀) × (length out ≡ length out₀)
-    × (out ≡ writtenAt out₀ at (upto (λ i. record_of out₀ at first stride i ∷ []) j))
+    × (out ≡ written_at out₀ at (upto (λ i. record_of out₀ at first stride i ∷ []) j))
 
 abbrev decreases-loop : tie.decreases-loop
 decreases-loop out₀ at count first stride j₀ out j = count - j
@@ -69,8 +69,8 @@ loop-again c =
     let l = c.before.before.before.before.before.loop in
     let i = a.at - a.stride + l.j in
     let f = record_of a.out.now a.at a.first a.stride in
-    let old : formulaAt l.out i ≡ formulaAt a.out.now i = ap (λ (o : List ℕ). formulaAt o i) l.invariant.6 ∙ record-before a.out.now a.at (upto (λ k. f k ∷ []) l.j) i (omega arith) in
-    let formula : repeated a.first a.stride (formulaAt l.out i) ≡ f l.j = ap (repeated a.first a.stride) old in (
+    let old : formula_at l.out i ≡ formula_at a.out.now i = ap (λ (o : List ℕ). formula_at o i) l.invariant.6 ∙ record_before a.out.now a.at (upto (λ k. f k ∷ []) l.j) i (omega arith) in
+    let formula : repeated a.first a.stride (formula_at l.out i) ≡ f l.j = ap (repeated a.first a.stride) old in (
       omega arith,
       l.invariant.1,
       l.invariant.2,
@@ -78,7 +78,7 @@ loop-again c =
       l.invariant.4,
       c.before.before.repeat-record.auto.0 ∙ l.invariant.5,
       c.before.before.repeat-record.ensures
-          ∙ (ap (λ (x : Formula). placed l.out (16 * (a.at + l.j)) (formulaBytes x)) formula
+          ∙ (ap (λ (x : Formula). placed l.out (16 * (a.at + l.j)) (formula_bytes x)) formula
           ∙ numbered_more f a.out.now l.out a.at l.j l.invariant.6),
     )
 
@@ -92,7 +92,7 @@ returns-2 c =
     let j-is : l.j ≡ a.count = omega arith in
     let f = record_of a.out.now a.at a.first a.stride in
     l.invariant.6
-    ∙ (ap (λ (n : ℕ). writtenAt a.out.now a.at (upto (λ i. f i ∷ []) n)) j-is
+    ∙ (ap (λ (n : ℕ). written_at a.out.now a.at (upto (λ i. f i ∷ []) n)) j-is
     ∙ sym (repeats a.out.now a.at a.count a.first a.stride l.invariant.1 l.invariant.2 l.invariant.3 l.invariant.4))
 
 pub repeat-spec : {M : Type 1} → statement M

@@ -2,7 +2,7 @@
 use Prim.Native.Nat.{◌*◌}
 use mathlib.Core.Path.{ap, ◌∙◌}
 use Rattle.base.specs.Bytes.{placed}
-use Rattle.table.specs.Repeats.{movedBy}
+use Rattle.table.specs.Repeats.{moved_by}
 use Rattle.table.proofs.Repeated.{repeated-bytes}
 use borrow.Author.Rules.{rules}
 use Rattle.table.proofs.repeats.repeat_record.Statement.{statement}
@@ -57,9 +57,9 @@ returns : tie.Need-returns
 returns c =
     let args = c.before.before.before.before.before.before.before.before.before.before.before.before.before.before.before.before.before.args in
     let head = c.before.before.before.before.before.before.before.before.before.before.before.before.before.before.long-at in
-    let a = c.before.before.before.before.before.before.before.before.before.before.moved.ensures ∙ ap (movedBy args.first c.before.before.before.before.before.before.before.before.before.before.before.before.before.distance.result) c.before.before.before.before.before.before.before.before.before.before.before.long-at2.ensures.0 in
-    let b = c.before.before.before.before.before.before.before.moved2.ensures ∙ ap (movedBy args.first c.before.before.before.before.before.before.before.before.before.before.before.before.before.distance.result) c.before.before.before.before.before.before.before.before.long-at3.ensures.0 in
-    let third = c.before.before.before.before.moved3.ensures ∙ ap (movedBy args.first c.before.before.before.before.before.before.before.before.before.before.before.before.before.distance.result) c.before.before.before.before.before.long-at4.ensures.0 in
+    let a = c.before.before.before.before.before.before.before.before.before.before.moved.ensures ∙ ap (moved_by args.first c.before.before.before.before.before.before.before.before.before.before.before.before.before.distance.result) c.before.before.before.before.before.before.before.before.before.before.before.long-at2.ensures.0 in
+    let b = c.before.before.before.before.before.before.before.moved2.ensures ∙ ap (moved_by args.first c.before.before.before.before.before.before.before.before.before.before.before.before.before.distance.result) c.before.before.before.before.before.before.before.before.long-at3.ensures.0 in
+    let third = c.before.before.before.before.moved3.ensures ∙ ap (moved_by args.first c.before.before.before.before.before.before.before.before.before.before.before.before.before.distance.result) c.before.before.before.before.before.long-at4.ensures.0 in
     c.before.before.put-longs.ensures
     ∙ ap (placed args.out.now (16 * args.n))
     (repeated-bytes args.first args.stride args.out.now args.from head.result c.before.before.before.before.before.before.before.before.before.before.before.before.before.distance.result _ _ _ head.ensures.1 c.before.before.before.before.before.before.before.before.before.before.before.before.before.distance.ensures a b third)

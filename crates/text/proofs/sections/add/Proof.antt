@@ -1,6 +1,6 @@
 -- `text::sections::add` meets its contract. Assumes nothing.
 use Rattle.text_drafts.proofs.Blocks.{stored-length, stored-block}
-use Rattle.text.specs.Drafts.{threadsIn}
+use Rattle.text.specs.Drafts.{threads_in}
 use Rattle.text.proofs.Kept.{added-kept, bounded-more}
 use Rattle.base.proofs.Choice.{and_left, and_right, clash}
 use borrow.Author.Tests.{ltb-true}
@@ -67,7 +67,7 @@ returns c = let s = c.before.before.before.before.before.before.before.before.be
       cells = refl;
       line = refl;
       sound = λ sound. ((λ t. rw counts.0 (bounded-more s.args.draft.now put.new.0 r.counts r.ended n.result s.args.x (rw counts.1 four) n.ensures few sound.0 (block (omega (arith, four, few, sound.1))) t)), stored-length s.args.x k s.args.draft.now put.new.0 put.ensures.0 ∙ sound.1);
-      threads = λ sound fits. ap (threadsIn put.new.0 r.ended) counts.0 ∙ added-kept s.args.draft.now put.new.0 r.counts r.ended n.result s.args.x (rw counts.1 four) n.ensures few sound.0 (block (omega (arith, four, few, sound.1)));
+      threads = λ sound fits. ap (threads_in put.new.0 r.ended) counts.0 ∙ added-kept s.args.draft.now put.new.0 r.counts r.ended n.result s.args.x (rw counts.1 four) n.ensures few sound.0 (block (omega (arith, four, few, sound.1)));
     }
 
 returns-2 : tie.Need-returns-2

@@ -1,11 +1,11 @@
 -- `text::sections::close` meets its contract. Assumes nothing.
 use Rattle.text_lines.specs.declared.Stated.{Stated}
 use Rattle.text.specs.Sections.{added}
-use Rattle.text.specs.Readings.{threadsKept}
-use Rattle.text.specs.Drafts.{threadsIn}
-use Rattle.text.proofs.Kept.{closed-complete, closed-gains}
-use Rattle.records.specs.Instructions.{isLast}
-use Rattle.base.proofs.Choice.{and_left, and_right, and-true, and-false, or-true, clash}
+use Rattle.text.specs.Readings.{threads_kept}
+use Rattle.text.specs.Drafts.{threads_in}
+use Rattle.text.proofs.Kept.{closed-complete, closed_gains}
+use Rattle.records.specs.Instructions.{is_last}
+use Rattle.base.proofs.Choice.{and_left, and_right, and_true, and_false, or_true, clash}
 use borrow.Author.Tests.{ltb-true}
 use lib.ListN.{get_or}
 use lib.Dec.{ltb}
@@ -60,10 +60,10 @@ returns c = let s = c.before.before.before.before.before.before.before.before.be
     let r = s.args.r in
     let n = c.before.before.before.before.before.before.before.count.ensures in
     let test = ap (λ (m : ℕ). r.fits && ltb r.ended 4 && ltb 0 m) (sym n) ∙ c.before.before.before.before.before.if1.true in
-    let last = ap (λ (m : ℕ). isLast (get_or s.args.draft.now (36 * (32 * r.ended + (m - 1))) 0)) (sym n) ∙ sym (c.before.before.is_last.ensures ∙ ap isLast c.before.before.before.number.ensures) ∙ c.before.if2.true in
+    let last = ap (λ (m : ℕ). is_last (get_or s.args.draft.now (36 * (32 * r.ended + (m - 1))) 0)) (sym n) ∙ sym (c.before.before.is_last.ensures ∙ ap is_last c.before.before.before.number.ensures) ∙ c.before.if2.true in
     let yes₁ = and_left (r.fits && ltb r.ended 4) (ltb 0 (get_or r.counts r.ended 0)) test in
     record {
-      fits = and_left r.fits (ltb r.ended 4) yes₁ ∙ sym (and-true test (or-true (ltb (get_or r.counts r.ended 0) 32) last));
+      fits = and_left r.fits (ltb r.ended 4) yes₁ ∙ sym (and_true test (or_true (ltb (get_or r.counts r.ended 0) 32) last));
       ended = refl;
       cells = refl;
       line = refl;
@@ -88,7 +88,7 @@ returns-2 c = let s = c.before.before.before.before.before.before.before.before.
     let r = s.args.r in
     let n = c.before.before.before.before.before.before.before.before.before.before.before.before.count.ensures in
     let test = ap (λ (m : ℕ). r.fits && ltb r.ended 4 && ltb 0 m) (sym n) ∙ c.before.before.before.before.before.before.before.before.before.before.if1.true in
-    let last = ap (λ (m : ℕ). isLast (get_or s.args.draft.now (36 * (32 * r.ended + (m - 1))) 0)) (sym n) ∙ sym (c.before.before.before.before.before.before.before.is_last.ensures ∙ ap isLast c.before.before.before.before.before.before.before.before.number.ensures) ∙ c.before.before.before.before.before.before.if2.false in
+    let last = ap (λ (m : ℕ). is_last (get_or s.args.draft.now (36 * (32 * r.ended + (m - 1))) 0)) (sym n) ∙ sym (c.before.before.before.before.before.before.before.is_last.ensures ∙ ap is_last c.before.before.before.before.before.before.before.before.number.ensures) ∙ c.before.before.before.before.before.before.if2.false in
     let yes₁ = and_left (r.fits && ltb r.ended 4) (ltb 0 (get_or r.counts r.ended 0)) test in
     let add = c.before.before.before.add.ensures in
     record {
@@ -97,8 +97,8 @@ returns-2 c = let s = c.before.before.before.before.before.before.before.before.
       cells = add.cells;
       line = add.line;
       sound = add.sound;
-      threads = λ sound fits. closed-gains s.args.draft.now r.counts r.ended (ltb-true 0 _ (and_right (r.fits && ltb r.ended 4) (ltb 0 (get_or r.counts r.ended 0)) test)) c.before.before.before.add.new.1.0 c.before.before.before.add.result.counts last
-          (ap (λ (e : ℕ). threadsIn c.before.before.before.add.new.1.0 e c.before.before.before.add.result.counts) (sym add.ended) ∙ add.threads sound fits ∙ ap (λ (x : Stated). added x (threadsKept r s.args.draft.now)) c.before.before.before.before.halt.ensures);
+      threads = λ sound fits. closed_gains s.args.draft.now r.counts r.ended (ltb-true 0 _ (and_right (r.fits && ltb r.ended 4) (ltb 0 (get_or r.counts r.ended 0)) test)) c.before.before.before.add.new.1.0 c.before.before.before.add.result.counts last
+          (ap (λ (e : ℕ). threads_in c.before.before.before.add.new.1.0 e c.before.before.before.add.result.counts) (sym add.ended) ∙ add.threads sound fits ∙ ap (λ (x : Stated). added x (threads_kept r s.args.draft.now)) c.before.before.before.before.halt.ensures);
     }
 
 add-t34 : tie.Need-overflow-add-t34
@@ -110,7 +110,7 @@ returns-3 c = let s = c.before.before.before.before.before.before in
     let n = c.before.before.before.count.ensures in
     let test = ap (λ (m : ℕ). r.fits && ltb r.ended 4 && ltb 0 m) (sym n) ∙ c.before.if1.false in
     record {
-      fits = sym (and-false _ test);
+      fits = sym (and_false _ test);
       ended = refl;
       cells = refl;
       line = refl;

@@ -1,9 +1,9 @@
 -- `text::sections::count_dots` meets its contract. Assumes nothing.
 use Rattle.text_reader.specs.Readers.{lines_from}
-use Rattle.text_reader.proofs.Pieces.{Bounds, line-bounds, lines_next, lines_start, lines_end}
+use Rattle.text_reader.proofs.Pieces.{Bounds, line_bounds, lines_next, lines_start, lines_end}
 use Rattle.text.specs.Sections.{dots}
 use Rattle.text_lines.specs.Lines.{lines}
-use Rattle.base.proofs.Choice.{cast-test}
+use Rattle.base.proofs.Choice.{cast_test}
 use lib.ListN.{length}
 use borrow.Author.Rules.{rules}
 use native.Mathlib.Omega.{arith}
@@ -32,7 +32,7 @@ decreases-loop text found₀ i₀ found i = length text + 1 - i
 
 -- the line found: where it ends, and where the next one starts
 found_at : (c : tie.After-line-from invariant-loop decreases-loop) → Bounds c.before.before.before.before.args.text.now c.before.before.loop.i c.line-from.result
-found_at c = line-bounds c.before.before.before.before.args.text.now c.before.before.loop.i c.line-from.result c.before.loop-test.true c.line-from.ensures
+found_at c = line_bounds c.before.before.before.before.args.text.now c.before.before.loop.i c.line-from.result c.before.loop-test.true c.line-from.ensures
 
 loop-holds : tie.Need-loop-init invariant-loop decreases-loop
 loop-holds c = let e = ap dots (sym (lines_start c.before.args.text.now)) in (search rules, search rules, omega (arith, e))
@@ -67,7 +67,7 @@ loop-again c = let l = c.before.before.before.before.loop in
     let s = c.before.before.before.before.before.before.args.text.now in
     let b = found_at c.before.before in
     let next = lines_next s l.i c.before.before.line-from.result c.before.before.before.loop-test.true c.before.before.line-from.ensures in
-    let dot = cast-test c.is-dot.result ∙ ap (λ (b : Bool). cond b 1 0) c.is-dot.ensures in
+    let dot = cast_test c.is-dot.result ∙ ap (λ (b : Bool). cond b 1 0) c.is-dot.ensures in
     let all = l.invariant.2 ∙ ap (λ (ls : List (List ℕ)). l.found + dots ls) next in
     (omega (arith, test-counts c.is-dot.result, l.invariant.0, b), omega (arith, b), omega (arith, all, dot))
 

@@ -2,7 +2,7 @@
 use Rattle.text.proofs.Loop.{turn, At, begins, ends, stops, refused-here, next-at}
 use Rattle.text.specs.Sections.{dots}
 use Rattle.text_reader.specs.Readers.{lines_from}
-use Rattle.text_reader.proofs.Pieces.{Bounds, line-bounds, lines_start, lines_end}
+use Rattle.text_reader.proofs.Pieces.{Bounds, line_bounds, lines_start, lines_end}
 use Rattle.text_lines.specs.Lines.{lines}
 use lib.ListN.{length}
 use lib.Dec.{ltb, leb}
@@ -27,7 +27,7 @@ decreases-loop text draft₀ keys₀ total r₀ i₀ draft keys r i = length tex
 
 -- the line found: where it ends, and where the next one starts
 found_at : (c : tie.After-line-from invariant-loop decreases-loop) → Bounds c.before.before.before.before.before.before.before.args.text.now c.before.before.loop.i c.line-from.result
-found_at c = line-bounds c.before.before.before.before.before.before.before.args.text.now c.before.before.loop.i c.line-from.result c.before.loop-test.true c.line-from.ensures
+found_at c = line_bounds c.before.before.before.before.before.before.before.args.text.now c.before.before.loop.i c.line-from.result c.before.loop-test.true c.line-from.ensures
 
 count-dots-requires : tie.Need-count-dots-requires invariant-loop decreases-loop
 count-dots-requires c κs = search rules

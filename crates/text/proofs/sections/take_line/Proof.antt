@@ -1,7 +1,7 @@
 -- `text::sections::take_line` meets its contract. Assumes nothing.
 use mathlib.Core.Path.{subst, sym, ◌∙◌}
 use Rattle.text.specs.Readings.{States, Maps}
-use Rattle.text.proofs.Turns.{took-dot, took-cell, took-statement}
+use Rattle.text.proofs.Turns.{took_dot, took_cell, took_statement}
 use Rattle.text_lines.specs.declared.Cell.{Cell}
 use Rattle.text_lines.specs.declared.Stated.{Stated}
 use borrow.Author.Tests.{eq-eqb, ne_eqb}
@@ -31,7 +31,7 @@ same_length c = search rules
 
 returns : tie.Need-returns
 returns c = let a = c.before.before.before.before.before.before.before.before.before.before.before.args in
-    took-dot a.l.now a.left a.r a.draft.now a.keys.now (sym c.before.before.before.before.before.before.is-dot.ensures ∙ c.before.before.before.before.before.if1.true) _ _ c.before.before.before.close.ensures
+    took_dot a.l.now a.left a.r a.draft.now a.keys.now (sym c.before.before.before.before.before.before.is-dot.ensures ∙ c.before.before.before.before.before.if1.true) _ _ c.before.before.before.close.ensures
 
 map-line-requires : tie.Need-map-line-requires
 map-line-requires c κs = search rules
@@ -44,7 +44,7 @@ same-length-2 c = search rules
 
 returns-2 : tie.Need-returns-2
 returns-2 c = let a = c.before.before.before.before.before.before.before.before.before.before.before.before.before.args in
-    took-cell a.l.now a.left a.r a.draft.now a.keys.now (sym c.before.before.before.before.before.before.before.before.is-dot.ensures ∙ c.before.before.before.before.before.before.before.if1.false) (eq-eqb a.left 0 c.before.before.before.before.before.before.if2.true) c.before.before.before.take.result c.before.before.before.take.new.1.0 (subst (λ (x : Cell). Maps x a.r a.keys.now c.before.before.before.take.result c.before.before.before.take.new.1.0) c.before.before.before.before.map-line.ensures c.before.before.before.take.ensures)
+    took_cell a.l.now a.left a.r a.draft.now a.keys.now (sym c.before.before.before.before.before.before.before.before.is-dot.ensures ∙ c.before.before.before.before.before.before.before.if1.false) (eq-eqb a.left 0 c.before.before.before.before.before.before.if2.true) c.before.before.before.take.result c.before.before.before.take.new.1.0 (subst (λ (x : Cell). Maps x a.r a.keys.now c.before.before.before.take.result c.before.before.before.take.new.1.0) c.before.before.before.before.map-line.ensures c.before.before.before.take.ensures)
 
 statement-line-requires : tie.Need-statement-line-requires
 statement-line-requires c κs = search rules
@@ -57,7 +57,7 @@ same-length-3 c = search rules
 
 returns-3 : tie.Need-returns-3
 returns-3 c = let a = c.before.before.before.before.before.before.before.before.before.before.before.before.before.args in
-    took-statement a.l.now a.left a.r a.draft.now a.keys.now (sym c.before.before.before.before.before.before.before.before.is-dot.ensures ∙ c.before.before.before.before.before.before.before.if1.false) (ne_eqb a.left 0 c.before.before.before.before.before.before.if2.false) c.before.before.before.take2.result c.before.before.before.take2.new.1.0 (subst (λ (x : Stated). States x a.r a.draft.now c.before.before.before.take2.result c.before.before.before.take2.new.1.0) c.before.before.before.before.statement-line.ensures c.before.before.before.take2.ensures)
+    took_statement a.l.now a.left a.r a.draft.now a.keys.now (sym c.before.before.before.before.before.before.before.before.is-dot.ensures ∙ c.before.before.before.before.before.before.before.if1.false) (ne_eqb a.left 0 c.before.before.before.before.before.before.if2.false) c.before.before.before.take2.result c.before.before.before.take2.new.1.0 (subst (λ (x : Stated). States x a.r a.draft.now c.before.before.before.take2.result c.before.before.before.take2.new.1.0) c.before.before.before.before.statement-line.ensures c.before.before.before.take2.ensures)
 
 pub take-line-spec : {M : Type 1} → statement M
 take-line-spec =

@@ -1,6 +1,6 @@
 -- `text::threads::argument` meets its contract. Assumes nothing.
 use Rattle.text.proofs.Labels.{argument-named, argument-plain}
-use Rattle.base.specs.Bytes.{wordAt}
+use Rattle.base.specs.Bytes.{word_at}
 use lib.ListN.{take, drop}
 use Prim.Native.Nat.{ℕ, ◌+◌, ◌*◌}
 use mathlib.Core.Path.{sym, ap, ◌∙◌}
@@ -38,7 +38,7 @@ argument-requires c κs = search rules
 returns-2 : tie.Need-returns-2
 returns-2 c = let a = c.before.before.before.before.before.before.args in
     let e = c.before.before.before.target.ensures ∙ ap (λ (k : ℕ). take 16 (drop (36 * k + 20) a.draft.now)) c.before.before.before.before.block.ensures in
-    c.argument.ensures ∙ ap (λ (k : ℕ). wordAt a.draft.now (36 * k + 2)) c.before.before.before.before.block.ensures ∙ argument-plain a.draft.now a.t a.n a.p (search rules) _ e (sym c.before.before.is-named.ensures ∙ c.before.if1.false)
+    c.argument.ensures ∙ ap (λ (k : ℕ). word_at a.draft.now (36 * k + 2)) c.before.before.before.before.block.ensures ∙ argument-plain a.draft.now a.t a.n a.p (search rules) _ e (sym c.before.before.is-named.ensures ∙ c.before.if1.false)
 
 pub argument-spec : {M : Type 1} → statement M
 argument-spec =

@@ -1,6 +1,6 @@
 -- `text::threads::assemble` meets its contract. Assumes nothing.
 use Rattle.text.proofs.Fitting.{four-few, few-four}
-use Rattle.base.proofs.Choice.{and_left, and_right, and-true, clash}
+use Rattle.base.proofs.Choice.{and_left, and_right, and_true, clash}
 use lib.ListN.{length}
 use lib.Dec.{leb}
 use borrow.Author.Tests.{leb-true, le-leb}
@@ -30,7 +30,7 @@ returns c = search rules
 
 returns-2 : tie.Need-returns-2
 returns-2 c = let a = c.before.before.before.before.args in let f = c.before.counts-fit in
-    ((λ four few room. clash (and-true (and-true (le-leb a.ended 4 four) (f.ensures.0 ∙ few-four a.counts few)) (le-leb 1024 (length a.set.now) room)) c.if1.false), refl)
+    ((λ four few room. clash (and_true (and_true (le-leb a.ended 4 four) (f.ensures.0 ∙ few-four a.counts few)) (le-leb 1024 (length a.set.now) room)) c.if1.false), refl)
 
 pub assemble-spec : {M : Type 1} → statement M
 assemble-spec =

@@ -1,5 +1,5 @@
 -- `text::threads::bytes_of` meets its contract. Assumes nothing.
-use Rattle.text.specs.Records.{statementBytes}
+use Rattle.text.specs.Records.{statement_bytes}
 use Rattle.text.proofs.Labels.{drafted-at}
 use lib.ListN.{get_or}
 use Prim.Native.Nat.{ℕ, ◌+◌, ◌*◌, ◌/◌, ◌%◌}
@@ -43,7 +43,7 @@ cast-t17 : tie.Need-overflow-cast-t17
 cast-t17 c = search rules
 
 returns : tie.Need-returns
-unfolding statementBytes
+unfolding statement_bytes
 returns c = let a = c.before.before.before.before.before.args in
     let d = a.draft.now in
     let k = c.before.before.before.block.ensures in

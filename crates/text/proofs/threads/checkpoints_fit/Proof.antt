@@ -1,5 +1,5 @@
 -- `text::threads::checkpoints_fit` meets its contract. Assumes nothing.
-use Rattle.text.specs.Answers.{checkpointsFit}
+use Rattle.text.specs.Answers.{checkpoints_fit}
 use Prim.Native.Nat.{◌*◌}
 use lib.Seq.{length-take-le}
 use native.Mathlib.Omega.{arith}
@@ -21,7 +21,7 @@ few-checkpoints-requires : tie.Need-few-checkpoints-requires
 few-checkpoints-requires c κs = search rules
 
 returns : tie.Need-returns
-unfolding checkpointsFit
+unfolding checkpoints_fit
 returns c = λ h. c.few-checkpoints.ensures
 
 returns-2 : tie.Need-returns-2

@@ -1,9 +1,9 @@
 -- `text::threads::fits` meets its contract. Assumes nothing.
 use borrow.Author.Tests.{not-true, not-false}
-use Rattle.text.specs.Answers.{doubledAt, targetFits, threadFits}
+use Rattle.text.specs.Answers.{doubled_at, target_fits, thread_fits}
 use Rattle.text.specs.Drafts.{drafted}
 use Rattle.base.specs.Below.{every}
-use Rattle.base.proofs.Choice.{and-true, and-false, and-right-false}
+use Rattle.base.proofs.Choice.{and_true, and_false, and_right_false}
 use Rattle.base.proofs.Below.{every_more, every-not}
 use borrow.Author.Rules.{rules}
 use native.Mathlib.Omega.{arith}
@@ -18,7 +18,7 @@ use Rattle.text.proofs.threads.is_doubled.Reads as is-doubled-reads
 use Rattle.text.proofs.threads.target_fits.Reads as target-fits-reads
 
 abbrev invariant-loop : tie.invariant-loop
-invariant-loop draft t n p₀ p = (p ≤ n) × (every p (λ q. not (doubledAt (drafted draft t n) q) && targetFits n (drafted draft t n) q) ≡ true)
+invariant-loop draft t n p₀ p = (p ≤ n) × (every p (λ q. not (doubled_at (drafted draft t n) q) && target_fits n (drafted draft t n) q) ≡ true)
 
 abbrev decreases-loop : tie.decreases-loop
 decreases-loop draft t n p₀ p = n - p
@@ -31,17 +31,17 @@ is-doubled-requires : tie.Need-is-doubled-requires invariant-loop decreases-loop
 is-doubled-requires c κs = search rules
 
 returns : tie.Need-returns invariant-loop decreases-loop
-unfolding threadFits
+unfolding thread_fits
 returns c = let a = c.before.before.before.before.before.args in let l = c.before.before.before.loop in
-    sym (every-not (λ q. not (doubledAt (drafted a.draft.now a.t a.n) q) && targetFits a.n (drafted a.draft.now a.t a.n) q) a.n l.p c.before.before.loop-test.true (and-false _ (ap not (sym c.before.is-doubled.ensures ∙ c.if1.true))))
+    sym (every-not (λ q. not (doubled_at (drafted a.draft.now a.t a.n) q) && target_fits a.n (drafted a.draft.now a.t a.n) q) a.n l.p c.before.before.loop-test.true (and_false _ (ap not (sym c.before.is-doubled.ensures ∙ c.if1.true))))
 
 target-fits-requires : tie.Need-target-fits-requires invariant-loop decreases-loop
 target-fits-requires c κs = search rules
 
 returns-2 : tie.Need-returns-2 invariant-loop decreases-loop
-unfolding threadFits
+unfolding thread_fits
 returns-2 c = let a = c.before.before.before.before.before.before.before.args in let l = c.before.before.before.before.before.loop in
-    sym (every-not (λ q. not (doubledAt (drafted a.draft.now a.t a.n) q) && targetFits a.n (drafted a.draft.now a.t a.n) q) a.n l.p c.before.before.before.before.loop-test.true (and-right-false (not (doubledAt (drafted a.draft.now a.t a.n) l.p)) (sym c.before.target-fits.ensures ∙ not-true _ c.if2.true)))
+    sym (every-not (λ q. not (doubled_at (drafted a.draft.now a.t a.n) q) && target_fits a.n (drafted a.draft.now a.t a.n) q) a.n l.p c.before.before.before.before.loop-test.true (and_right_false (not (doubled_at (drafted a.draft.now a.t a.n) l.p)) (sym c.before.target-fits.ensures ∙ not-true _ c.if2.true)))
 
 add-p : tie.Need-overflow-add-p invariant-loop decreases-loop
 add-p c = search rules
@@ -51,10 +51,10 @@ loop-less c = search rules
 
 loop-again : tie.Need-loop-preserved invariant-loop decreases-loop
 loop-again c = let a = c.before.before.before.before.before.before.before.args in let l = c.before.before.before.before.before.loop in
-    (search rules, every_more (λ q. not (doubledAt (drafted a.draft.now a.t a.n) q) && targetFits a.n (drafted a.draft.now a.t a.n) q) l.p l.invariant.1 (and-true (ap not (sym c.before.before.before.is-doubled.ensures ∙ c.before.before.if1.false)) (sym c.before.target-fits.ensures ∙ not-false _ c.if2.false)))
+    (search rules, every_more (λ q. not (doubled_at (drafted a.draft.now a.t a.n) q) && target_fits a.n (drafted a.draft.now a.t a.n) q) l.p l.invariant.1 (and_true (ap not (sym c.before.before.before.is-doubled.ensures ∙ c.before.before.if1.false)) (sym c.before.target-fits.ensures ∙ not-false _ c.if2.false)))
 
 returns-3 : tie.Need-returns-3 invariant-loop decreases-loop
-unfolding threadFits
+unfolding thread_fits
 returns-3 c = let e : c.before.loop.p ≡ c.before.before.before.args.n = omega arith in
     sym (rw e at c.before.loop.invariant.1)
 

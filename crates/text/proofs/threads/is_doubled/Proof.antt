@@ -1,5 +1,5 @@
 -- `text::threads::is_doubled` meets its contract. Assumes nothing.
-use Rattle.text.proofs.Labels.{doubled-named, doubled-plain}
+use Rattle.text.proofs.Labels.{doubled_named, doubled_plain}
 use lib.Dec.{ltb}
 use lib.ListN.{take, drop}
 use Prim.Native.Nat.{ℕ, ◌+◌, ◌*◌}
@@ -29,12 +29,12 @@ find-requires c κs = search rules
 returns : tie.Need-returns
 returns c = let a = c.before.before.before.before.before.before.args in
     let e = c.before.before.before.label.ensures ∙ ap (λ (k : ℕ). take 16 (drop (36 * k + 4) a.draft.now)) c.before.before.before.before.block.ensures in
-    ap (λ (k : ℕ). ltb k a.p) c.find.ensures ∙ doubled-named a.draft.now a.t a.n a.p (search rules) _ e (sym c.before.before.is-named.ensures ∙ c.before.if1.true)
+    ap (λ (k : ℕ). ltb k a.p) c.find.ensures ∙ doubled_named a.draft.now a.t a.n a.p (search rules) _ e (sym c.before.before.is-named.ensures ∙ c.before.if1.true)
 
 returns-2 : tie.Need-returns-2
 returns-2 c = let a = c.before.before.before.before.before.args in
     let e = c.before.before.label.ensures ∙ ap (λ (k : ℕ). take 16 (drop (36 * k + 4) a.draft.now)) c.before.before.before.block.ensures in
-    doubled-plain a.draft.now a.t a.n a.p (search rules) _ e (sym c.before.is-named.ensures ∙ c.if1.false)
+    doubled_plain a.draft.now a.t a.n a.p (search rules) _ e (sym c.before.is-named.ensures ∙ c.if1.false)
 
 pub is-doubled-spec : {M : Type 1} → statement M
 is-doubled-spec =

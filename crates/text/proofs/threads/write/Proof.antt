@@ -1,5 +1,5 @@
 -- `text::threads::write` meets its contract. Assumes nothing.
-use Rattle.text.specs.Records.{joined, statementBytes}
+use Rattle.text.specs.Records.{joined, statement_bytes}
 use Rattle.text.specs.Drafts.{drafted}
 use Rattle.text.proofs.Following.{joined-more}
 use Rattle.base.proofs.Bytes.{length-placed}
@@ -19,7 +19,7 @@ use Rattle.base.proofs.place.Reads as place-reads
 use Rattle.text.proofs.threads.bytes_of.Reads as bytes-of-reads
 
 abbrev invariant-loop : tie.invariant-loop
-invariant-loop draft t n set₀ k start p₀ set p = (p ≤ n) × (length set ≡ length set₀) × (take (start + 8 * p) set ≡ take start set₀ ++ joined p (statementBytes t n (drafted draft t n)))
+invariant-loop draft t n set₀ k start p₀ set p = (p ≤ n) × (length set ≡ length set₀) × (take (start + 8 * p) set ≡ take start set₀ ++ joined p (statement_bytes t n (drafted draft t n)))
 
 abbrev decreases-loop : tie.decreases-loop
 decreases-loop draft t n set₀ k start p₀ set p = n - p
@@ -56,10 +56,10 @@ loop-less : tie.Need-loop-smaller invariant-loop decreases-loop
 loop-less c = search rules
 
 loop-again : tie.Need-loop-preserved invariant-loop decreases-loop
-unfolding statementBytes
+unfolding statement_bytes
 loop-again c = let a = c.before.before.before.before.before.before.before.before.before.before.args in
     let l = c.before.before.before.before.before.before.before.loop in
-    let item = statementBytes a.t a.n (drafted a.draft.now a.t a.n) in
+    let item = statement_bytes a.t a.n (drafted a.draft.now a.t a.n) in
     let e = c.before.before.place.ensures ∙ ap (placed l.set (8 * a.k + 8 * l.p)) c.before.before.before.before.before.bytes_of.ensures in
     let room : 8 * a.k + 8 * l.p + 8 ≤ length l.set = rw l.invariant.1 (search rules) in (
       search rules,
@@ -76,7 +76,7 @@ returns : tie.Need-returns invariant-loop decreases-loop
 returns c = let a = c.before.before.before.before.args in
     let l = c.before.loop in
     let e : l.p ≡ a.n = omega arith in
-    let item = statementBytes a.t a.n (drafted a.draft.now a.t a.n) in
+    let item = statement_bytes a.t a.n (drafted a.draft.now a.t a.n) in
     (ap (λ (i : ℕ). take (8 * a.k + 8 * i) l.set) (sym e) ∙ l.invariant.2 ∙ ap (λ (i : ℕ). take (8 * a.k) a.set.now ++ joined i item) e, l.invariant.1)
 
 pub write_spec : {M : Type 1} → statement M

@@ -6,7 +6,7 @@ use borrow.Author.Rules.{rules}
 use lib.Dec.{ltb}
 use lib.ListN.{drop}
 use Rattle.base.proofs.Choice.{chosen, passed}
-use Rattle.text_lines.specs.Characters.{isBlank, digits, skip, pastDigits, value, first}
+use Rattle.text_lines.specs.Characters.{is_blank, digits, skip, past_digits, value, first}
 use Rattle.text_lines.specs.Lines.{valued, addressed}
 use Rattle.text_lines.proofs.Values.{valued-capped}
 use Rattle.text_lines.proofs.cells.addressed.Statement.{statement}
@@ -15,12 +15,12 @@ use Rattle.text_lines.proofs.cells.addressed.Tie as tie
 -- what the code tests is the definition's test
 parted : (c : tie.After-is-blank) →
     let s = c.before.before.before.before.before.args.s.now in
-    (ltb 0 c.before.before.before.run.result && c.is-blank.result) ≡ (ltb 0 (digits s) && isBlank (first (pastDigits s)))
+    (ltb 0 c.before.before.before.run.result && c.is-blank.result) ≡ (ltb 0 (digits s) && is_blank (first (past_digits s)))
 parted c =
     let s = c.before.before.before.before.before.args.s.now in
     let n = c.before.before.before.run.ensures.0 in
     ap₂ (λ (n : ℕ) (t : Bool). ltb 0 n && t) n
-    (c.is-blank.ensures ∙ ap isBlank (c.before.byte_at.ensures ∙ ap first (c.before.before.past.ensures ∙ ap (λ (n : ℕ). drop n s) n)))
+    (c.is-blank.ensures ∙ ap is_blank (c.before.byte_at.ensures ∙ ap first (c.before.before.past.ensures ∙ ap (λ (n : ℕ). drop n s) n)))
 
 run-requires : tie.Need-run-requires
 run-requires c κs = search rules
@@ -53,7 +53,7 @@ returns c =
     let n = c.before.before.before.before.before.before.before.before.run.ensures.0 in
     c.valued.ensures
     ∙ ap₂ valued c.before.before.before.value.ensures (c.before.skip.ensures ∙ ap skip (c.before.before.past2.ensures ∙ ap (λ (n : ℕ). drop n s) n))
-    ∙ valued-capped (skip (pastDigits s)) (value s)
+    ∙ valued-capped (skip (past_digits s)) (value s)
     ∙ sym (chosen _ _ (sym (parted c.before.before.before.before.before) ∙ c.before.before.before.before.if1.true))
 
 none-requires : tie.Need-none-requires

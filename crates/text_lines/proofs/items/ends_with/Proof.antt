@@ -4,7 +4,7 @@ use mathlib.Core.Bool.{Bool, ◌&&◌}
 use mathlib.Core.Path.{ap, ap₂, ◌∙◌}
 use borrow.Author.Rules.{rules}
 use lib.Dec.{eqb}
-use Rattle.text_lines.specs.Characters.{onlyBlanks}
+use Rattle.text_lines.specs.Characters.{only_blanks}
 use Rattle.text_lines.proofs.items.ends_with.Statement.{statement}
 use Rattle.text_lines.proofs.items.ends_with.Tie as tie
 
@@ -20,7 +20,7 @@ only-blanks-requires c κs = search rules
 returns : tie.Need-returns
 returns c =
     ap₂ (λ (a : ℕ) (t : Bool). eqb a c.before.before.before.before.args.b && t) c.before.before.byte_at.ensures
-    (c.only-blanks.ensures ∙ ap onlyBlanks c.before.past.ensures)
+    (c.only-blanks.ensures ∙ ap only_blanks c.before.past.ensures)
 
 pub ends-with-spec : {M : Type 1} → statement M
 ends-with-spec = tie.close (tie.spec byte-at-requires past-requires only-blanks-requires returns)

@@ -5,7 +5,7 @@ use native.Mathlib.Omega.{arith}
 use borrow.Author.Rules.{rules}
 use lib.ListN.{length, drop}
 use Rattle.text_lines.specs.Characters.{test_of, run}
-use Rattle.text_lines.proofs.Runs.{run_on, run-stopped, run-ended}
+use Rattle.text_lines.proofs.Runs.{run_on, run_stopped, run-ended}
 use Rattle.text_lines.proofs.items.run.Statement.{statement}
 use Rattle.text_lines.proofs.items.run.Tie as tie
 
@@ -41,7 +41,7 @@ loop-again c =
 returns : tie.Need-returns invariant-loop decreases-loop
 returns c =
     let l = c.before.before.before.before.loop in
-    (run-stopped _ _ _ l.invariant.1 c.before.before.before.loop-test.true (sym c.before.passes.ensures ∙ c.if1.false), search rules)
+    (run_stopped _ _ _ l.invariant.1 c.before.before.before.loop-test.true (sym c.before.passes.ensures ∙ c.if1.false), search rules)
 
 returns-2 : tie.Need-returns-2 invariant-loop decreases-loop
 returns-2 c = (run-ended _ _ _ c.before.loop.invariant.1 (omega arith), search rules)

@@ -5,13 +5,13 @@ use native.Mathlib.Nat.{min-eq_left}
 use native.Mathlib.Omega.{arith}
 use borrow.Author.Rules.{rules}
 use lib.ListN.{length, drop}
-use Rattle.text_lines.specs.Characters.{value, valueAfter}
-use Rattle.text_lines.proofs.Values.{value-capped, value_on, value-stopped, value-ended, digit-least}
+use Rattle.text_lines.specs.Characters.{value, value_after}
+use Rattle.text_lines.proofs.Values.{value-capped, value_on, value_stopped, value-ended, digit_least}
 use Rattle.text_lines.proofs.items.value.Statement.{statement}
 use Rattle.text_lines.proofs.items.value.Tie as tie
 
 abbrev invariant-loop : tie.invariant-loop
-invariant-loop s v₀ i₀ v i = (i ≤ length s) × (v ≤ 65536) × (min (value s) 65536 ≡ min (valueAfter v (drop i s)) 65536)
+invariant-loop s v₀ i₀ v i = (i ≤ length s) × (v ≤ 65536) × (min (value s) 65536 ≡ min (value_after v (drop i s)) 65536)
 
 abbrev decreases-loop : tie.decreases-loop
 decreases-loop s v₀ i₀ v i = length s - i
@@ -26,7 +26,7 @@ is-digit-requires : tie.Need-is-digit-requires invariant-loop decreases-loop
 is-digit-requires c κs = search rules
 
 more-requires : tie.Need-more-requires invariant-loop decreases-loop
-more-requires c κs = (search rules, digit-least _ (sym c.before.is_digit.ensures ∙ c.if1.true))
+more-requires c κs = (search rules, digit_least _ (sym c.before.is_digit.ensures ∙ c.if1.true))
 
 add-i : tie.Need-overflow-add-i invariant-loop decreases-loop
 add-i c = search rules
@@ -42,13 +42,13 @@ loop-again c =
       search rules,
       omega (arith, more),
       l.invariant.2 ∙ ap (λ (n : ℕ). min n 65536) (value_on s l.i l.v c.before.before.before.before.loop-test.true (sym c.before.before.is_digit.ensures ∙ c.before.if1.true))
-          ∙ sym (value-capped (drop (l.i + 1) s) _) ∙ ap (λ (n : ℕ). min (valueAfter n (drop (l.i + 1) s)) 65536) (sym more),
+          ∙ sym (value-capped (drop (l.i + 1) s) _) ∙ ap (λ (n : ℕ). min (value_after n (drop (l.i + 1) s)) 65536) (sym more),
     )
 
 returns : tie.Need-returns invariant-loop decreases-loop
 returns c =
     let l = c.before.before.before.before.loop in
-    sym (l.invariant.2 ∙ ap (λ (n : ℕ). min n 65536) (value-stopped _ _ l.v c.before.before.before.loop-test.true (sym c.before.is_digit.ensures ∙ c.if1.false)) ∙ min-eq_left l.invariant.1)
+    sym (l.invariant.2 ∙ ap (λ (n : ℕ). min n 65536) (value_stopped _ _ l.v c.before.before.before.loop-test.true (sym c.before.is_digit.ensures ∙ c.if1.false)) ∙ min-eq_left l.invariant.1)
 
 returns-2 : tie.Need-returns-2 invariant-loop decreases-loop
 returns-2 c =

@@ -3,20 +3,20 @@ use mathlib.Core.Path.{◌≡◌, ap, sym, ◌∙◌}
 use borrow.Author.Rules.{rules}
 use borrow.Author.Tests.{le-leb, lt-leb}
 use Rattle.base.proofs.Choice.{chosen, passed}
-use Rattle.text_lines.specs.Characters.{isBlank, first}
-use Rattle.text_lines.specs.Lines.{argued, afterWord}
+use Rattle.text_lines.specs.Characters.{is_blank, first}
+use Rattle.text_lines.specs.Lines.{argued, after_word}
 use Rattle.text_lines.proofs.statements.after_word.Statement.{statement}
 use Rattle.text_lines.proofs.statements.after_word.Tie as tie
 
 -- what the code tests is the definition's test
-parted : (c : tie.After-is-blank) → c.is-blank.result ≡ isBlank (first c.before.before.before.before.before.before.args.s.now)
-parted c = c.is-blank.ensures ∙ ap isBlank c.before.byte_at.ensures
+parted : (c : tie.After-is-blank) → c.is-blank.result ≡ is_blank (first c.before.before.before.before.before.before.args.s.now)
+parted c = c.is-blank.ensures ∙ ap is_blank c.before.byte_at.ensures
 
 none-requires : tie.Need-none-requires
 none-requires c κs = search rules
 
 returns : tie.Need-returns
-unfolding afterWord
+unfolding after_word
 returns c = c.none.ensures ∙ sym (chosen _ _ (le-leb _ _ c.before.if1.true))
 
 is-bare-requires : tie.Need-is-bare-requires
@@ -29,7 +29,7 @@ stated-requires : tie.Need-stated-requires
 stated-requires c κs = search rules
 
 returns-2 : tie.Need-returns-2
-unfolding afterWord
+unfolding after_word
 returns-2 c =
     c.stated.ensures
     ∙ sym
@@ -40,7 +40,7 @@ none-requires-2 : tie.Need-none-requires-2
 none-requires-2 c κs = search rules
 
 returns-3 : tie.Need-returns-3
-unfolding afterWord
+unfolding after_word
 returns-3 c =
     c.none2.ensures
     ∙ sym
@@ -60,7 +60,7 @@ argued-requires : tie.Need-argued-requires
 argued-requires c κs = search rules
 
 returns-4 : tie.Need-returns-4
-unfolding afterWord
+unfolding after_word
 returns-4 c =
     let a = c.before.before.before.before.before.before.before.before.before.args in
     c.argued.ensures ∙ ap (argued a.label a.number) c.before.skip.ensures
@@ -73,7 +73,7 @@ none-requires-3 : tie.Need-none-requires-3
 none-requires-3 c κs = search rules
 
 returns-5 : tie.Need-returns-5
-unfolding afterWord
+unfolding after_word
 returns-5 c =
     c.none3.ensures
     ∙ sym

@@ -5,8 +5,8 @@ use mathlib.Core.Path.{◌≡◌, ap, ap₂, sym, ◌∙◌}
 use borrow.Author.Rules.{rules}
 use lib.Dec.{eqb}
 use Rattle.base.proofs.Choice.{chosen, passed}
-use Rattle.records.specs.Instructions.{isMemory, isJump}
-use Rattle.text_lines.specs.Characters.{isDigit, skip, first}
+use Rattle.records.specs.Instructions.{is_memory, is_jump}
+use Rattle.text_lines.specs.Characters.{is_digit, skip, first}
 use Rattle.text_lines.specs.Lines.{bracketed, argued}
 use Rattle.text_lines.proofs.statements.argued.Statement.{statement}
 use Rattle.text_lines.proofs.statements.argued.Tie as tie
@@ -14,14 +14,14 @@ use Rattle.text_lines.proofs.statements.argued.Tie as tie
 -- what the code tests is the definition's test
 indirect : (c : tie.After-is-memory) →
     let a = c.before.before.before.args in
-    (c.is-memory.result && eqb c.before.byte_at.result 91) ≡ (isMemory a.number && eqb (first a.s.now) 91)
+    (c.is-memory.result && eqb c.before.byte_at.result 91) ≡ (is_memory a.number && eqb (first a.s.now) 91)
 indirect c = ap₂ (λ (t : Bool) (b : ℕ). t && eqb b 91) c.is-memory.ensures c.before.byte_at.ensures
 
 named : (c : tie.After-is-digit) →
     let a = c.before.before.before.before.before.before.args in
-    (c.before.is-jump.result && not c.is_digit.result) ≡ (isJump a.number && not (isDigit (first a.s.now)))
+    (c.before.is-jump.result && not c.is_digit.result) ≡ (is_jump a.number && not (is_digit (first a.s.now)))
 named c =
-    ap₂ (λ (t u : Bool). t && not u) c.before.is-jump.ensures (c.is_digit.ensures ∙ ap isDigit c.before.before.before.before.byte_at.ensures)
+    ap₂ (λ (t u : Bool). t && not u) c.before.is-jump.ensures (c.is_digit.ensures ∙ ap is_digit c.before.before.before.before.byte_at.ensures)
 
 byte-at-requires : tie.Need-byte-at-requires
 byte-at-requires c κs = search rules

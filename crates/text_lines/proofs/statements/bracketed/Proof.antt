@@ -6,7 +6,7 @@ use borrow.Author.Rules.{rules}
 use lib.Dec.{ltb}
 use lib.ListN.{drop}
 use Rattle.base.proofs.Choice.{chosen, passed}
-use Rattle.text_lines.specs.Characters.{digits, skip, pastDigits, value, endsWith}
+use Rattle.text_lines.specs.Characters.{digits, skip, past_digits, value, ends_with}
 use Rattle.text_lines.specs.Lines.{stated, bracketed}
 use Rattle.text_lines.proofs.Values.{stated-capped}
 use Rattle.text_lines.proofs.statements.bracketed.Statement.{statement}
@@ -15,12 +15,12 @@ use Rattle.text_lines.proofs.statements.bracketed.Tie as tie
 -- what the code tests is the definition's test
 whole : (c : tie.After-ends-with) →
     let s = c.before.before.before.before.before.args.s.now in
-    (ltb 0 c.before.before.before.run.result && c.ends_with.result) ≡ (ltb 0 (digits s) && endsWith 93 (skip (pastDigits s)))
+    (ltb 0 c.before.before.before.run.result && c.ends_with.result) ≡ (ltb 0 (digits s) && ends_with 93 (skip (past_digits s)))
 whole c =
     let s = c.before.before.before.before.before.args.s.now in
     let n = c.before.before.before.run.ensures.0 in
     ap₂ (λ (n : ℕ) (t : Bool). ltb 0 n && t) n
-    (c.ends_with.ensures ∙ ap (endsWith 93) (c.before.skip.ensures ∙ ap skip (c.before.before.past.ensures ∙ ap (λ (n : ℕ). drop n s) n)))
+    (c.ends_with.ensures ∙ ap (ends_with 93) (c.before.skip.ensures ∙ ap skip (c.before.before.past.ensures ∙ ap (λ (n : ℕ). drop n s) n)))
 
 run-requires : tie.Need-run-requires
 run-requires c κs = search rules

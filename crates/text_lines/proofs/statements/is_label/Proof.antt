@@ -4,8 +4,8 @@ use mathlib.Core.Path.{ap, ◌∙◌}
 use borrow.Author.Rules.{rules}
 use lib.Dec.{ltb, leb}
 use lib.ListN.{length}
-use Rattle.text_lines.specs.Characters.{isDigit}
-use Rattle.text_lines.specs.Lines.{isLabel}
+use Rattle.text_lines.specs.Characters.{is_digit}
+use Rattle.text_lines.specs.Lines.{is_label}
 use Rattle.text_lines.proofs.statements.is_label.Statement.{statement}
 use Rattle.text_lines.proofs.statements.is_label.Tie as tie
 
@@ -16,10 +16,10 @@ is-digit-requires : tie.Need-is-digit-requires
 is-digit-requires c κs = search rules
 
 returns : tie.Need-returns
-unfolding isLabel
+unfolding is_label
 returns c =
     let w = c.before.before.before.args.w.now in
-    ap (λ (t : Bool). ltb 0 (length w) && leb (length w) 16 && not t) (c.is_digit.ensures ∙ ap isDigit c.before.byte_at.ensures)
+    ap (λ (t : Bool). ltb 0 (length w) && leb (length w) 16 && not t) (c.is_digit.ensures ∙ ap is_digit c.before.byte_at.ensures)
 
 pub is-label-spec : {M : Type 1} → statement M
 is-label-spec = tie.close (tie.spec byte-at-requires is-digit-requires returns)

@@ -6,8 +6,8 @@ use borrow.Author.Tests.{eq-eqb, ne_eqb}
 use lib.Dec.{eqb}
 use lib.ListN.{take, drop}
 use Rattle.base.proofs.Choice.{chosen, passed}
-use Rattle.text_lines.specs.Characters.{skip, name, pastName, first}
-use Rattle.text_lines.specs.Lines.{padded, isLabel, worded, labelled}
+use Rattle.text_lines.specs.Characters.{skip, name, past_name, first}
+use Rattle.text_lines.specs.Lines.{padded, is_label, worded, labelled}
 use Rattle.text_lines.proofs.Runs.{label-short}
 use Rattle.text_lines.proofs.statements.labelled.Statement.{statement}
 use Rattle.text_lines.proofs.statements.labelled.Tie as tie
@@ -16,10 +16,10 @@ use Rattle.text_lines.proofs.statements.labelled.Tie as tie
 named : (c : tie.After-front) → c.front.result.now ≡ name c.before.before.before.args.s.now
 named c = c.front.ensures ∙ ap (λ (n : ℕ). take n c.before.before.before.args.s.now) c.before.run.ensures.0
 
-rest : (c : tie.After-skip) → c.skip.result.now ≡ skip (pastName c.before.before.before.before.before.args.s.now)
+rest : (c : tie.After-skip) → c.skip.result.now ≡ skip (past_name c.before.before.before.before.before.args.s.now)
 rest c = c.skip.ensures ∙ ap skip (c.before.past.ensures ∙ ap (λ (n : ℕ). drop n c.before.before.before.before.before.args.s.now) c.before.before.before.run.ensures.0)
 
-next : (c : tie.After-byte-at) → c.byte_at.result ≡ first (skip (pastName c.before.before.before.before.before.before.args.s.now))
+next : (c : tie.After-byte-at) → c.byte_at.result ≡ first (skip (past_name c.before.before.before.before.before.before.args.s.now))
 next c = c.byte_at.ensures ∙ ap first (rest c.before)
 
 run-requires : tie.Need-run-requires
@@ -61,7 +61,7 @@ returns c =
     (c.before.skip2.ensures ∙ ap skip (c.before.before.past2.ensures ∙ ap (drop 1) (rest c.before.before.before.before.before.before.before.before)))
     ∙ sym
     (chosen _ _ (sym (ap (λ (b : ℕ). eqb b 58) (next c.before.before.before.before.before.before.before)) ∙ eq-eqb _ _ c.before.before.before.before.before.before.if1.true)
-    ∙ chosen _ _ (sym (c.before.before.before.before.before.is-label.ensures ∙ ap isLabel word) ∙ c.before.before.before.before.if2.true))
+    ∙ chosen _ _ (sym (c.before.before.before.before.before.is-label.ensures ∙ ap is_label word) ∙ c.before.before.before.before.if2.true))
 
 none-requires : tie.Need-none-requires
 none-requires c κs = search rules
@@ -73,7 +73,7 @@ returns-2 c =
     c.none.ensures
     ∙ sym
     (chosen _ _ (sym (ap (λ (b : ℕ). eqb b 58) (next c.before.before.before.before)) ∙ eq-eqb _ _ c.before.before.before.if1.true)
-    ∙ passed _ _ (sym (c.before.before.is-label.ensures ∙ ap isLabel word) ∙ c.before.if2.false))
+    ∙ passed _ _ (sym (c.before.before.is-label.ensures ∙ ap is_label word) ∙ c.before.if2.false))
 
 worded-requires-2 : tie.Need-worded-requires-2
 worded-requires-2 c κs = search rules

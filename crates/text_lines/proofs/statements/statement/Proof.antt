@@ -2,7 +2,7 @@
 use mathlib.Core.Path.{ap, sym, ◌∙◌}
 use borrow.Author.Rules.{rules}
 use Rattle.base.proofs.Choice.{chosen, passed}
-use Rattle.text_lines.specs.Lines.{labelled, statement as statementOf}
+use Rattle.text_lines.specs.Lines.{labelled, statement as statement_of}
 use Rattle.text_lines.proofs.statements.statement.Statement.{statement}
 use Rattle.text_lines.proofs.statements.statement.Tie as tie
 
@@ -13,7 +13,7 @@ none-requires : tie.Need-none-requires
 none-requires c κs = search rules
 
 returns : tie.Need-returns
-unfolding statementOf
+unfolding statement_of
 returns c = c.none.ensures ∙ sym (chosen _ _ (sym c.before.before.only-blanks.ensures ∙ c.before.if1.true))
 
 skip-requires : tie.Need-skip-requires
@@ -23,7 +23,7 @@ labelled-requires : tie.Need-labelled-requires
 labelled-requires c κs = search rules
 
 returns-2 : tie.Need-returns-2
-unfolding statementOf
+unfolding statement_of
 returns-2 c =
     c.labelled.ensures ∙ ap labelled c.before.skip.ensures
     ∙ sym (passed _ _ (sym c.before.before.before.only-blanks.ensures ∙ c.before.before.if1.false))

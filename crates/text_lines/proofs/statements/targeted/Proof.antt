@@ -6,8 +6,8 @@ use mathlib.Core.Path.{◌≡◌, ap, ap₂, sym, ◌∙◌}
 use borrow.Author.Rules.{rules}
 use lib.ListN.{take, drop}
 use Rattle.base.proofs.Choice.{chosen, passed, and_left}
-use Rattle.text_lines.specs.Characters.{onlyBlanks, name, pastName}
-use Rattle.text_lines.specs.Lines.{padded, isLabel, targeted}
+use Rattle.text_lines.specs.Characters.{only_blanks, name, past_name}
+use Rattle.text_lines.specs.Lines.{padded, is_label, targeted}
 use Rattle.text_lines.specs.declared.Form.TheVariants.{Good}
 use Rattle.text_lines.specs.declared.Stated.{Stated}
 use Rattle.text_lines.proofs.Runs.{label-short}
@@ -21,10 +21,10 @@ named c = c.front.ensures ∙ ap (λ (n : ℕ). take n c.before.before.before.ar
 -- what the code tests is the definition's test
 whole : (c : tie.After-only-blanks) →
     let s = c.before.before.before.before.before.before.args.s.now in
-    (c.before.before.is-label.result && c.only-blanks.result) ≡ (isLabel (name s) && onlyBlanks (pastName s))
+    (c.before.before.is-label.result && c.only-blanks.result) ≡ (is_label (name s) && only_blanks (past_name s))
 whole c =
-    ap₂ (λ (t u : Bool). t && u) (c.before.before.is-label.ensures ∙ ap isLabel (named c.before.before.before))
-    (c.only-blanks.ensures ∙ ap onlyBlanks (c.before.past.ensures ∙ ap (λ (n : ℕ). drop n c.before.before.before.before.before.before.args.s.now) c.before.before.before.before.run.ensures.0))
+    ap₂ (λ (t u : Bool). t && u) (c.before.before.is-label.ensures ∙ ap is_label (named c.before.before.before))
+    (c.only-blanks.ensures ∙ ap only_blanks (c.before.past.ensures ∙ ap (λ (n : ℕ). drop n c.before.before.before.before.before.before.args.s.now) c.before.before.before.before.run.ensures.0))
 
 run-requires : tie.Need-run-requires
 run-requires c κs = search rules

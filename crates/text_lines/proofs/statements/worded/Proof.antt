@@ -7,7 +7,7 @@ use lib.ListN.{take, drop}
 use Rattle.base.specs.Below.{least}
 use Rattle.base.specs.Bytes.{same}
 use Rattle.records.specs.Instructions.{instructions, word_of}
-use Rattle.text_lines.specs.Lines.{afterWord, worded}
+use Rattle.text_lines.specs.Lines.{after_word, worded}
 use Rattle.text_lines.proofs.statements.worded.Statement.{statement}
 use Rattle.text_lines.proofs.statements.worded.Tie as tie
 
@@ -33,7 +33,7 @@ returns c =
     let n = c.before.before.before.before.run.ensures.0 in
     let named = c.before.before.before.front.ensures ∙ ap (λ (n : ℕ). take n a.s.now) n in
     let number = c.before.before.number_of.ensures ∙ ap (λ (w : List ℕ). least instructions (λ n. same w (word_of n))) named in
-    c.after-word.ensures ∙ ap₂ (afterWord a.label) number (c.before.past.ensures ∙ ap (λ (n : ℕ). drop n a.s.now) n)
+    c.after-word.ensures ∙ ap₂ (after_word a.label) number (c.before.past.ensures ∙ ap (λ (n : ℕ). drop n a.s.now) n)
 
 pub worded-spec : {M : Type 1} → statement M
 worded-spec =
