@@ -1,5 +1,7 @@
 // Words of 16 bits, little-endian fields of byte slices, and bytes written at a place.
 // Every function has an answer for every input, so that callers need no proof of an index.
+#![tactic(auto)]
+
 ghost use Rattle.std.specs.Prelude.{◌≡◌, slice_index};
 ghost use Rattle.base.specs.Words.{plus, minus, times};
 ghost use Rattle.base.specs.Bytes.{word_at, placed, same as same_of};
