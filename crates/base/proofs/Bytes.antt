@@ -1,5 +1,5 @@
 -- Laws of bytes written at a place, of lists of bytes that are the same, and of a word's two bytes. Assumes nothing.
-use Rattle.std.proofs.Common.{◌≡◌, ℕ, zero, suc, ◌+◌, ◌-◌, ◌*◌, ◌/◌, ◌%◌, ◌<◌, ◌≤◌, Bool, true, false, cond, ◌&&◌, eqb, leb, List, [], ◌∷◌, ◌++◌, length, get_or, take, drop, sym, refl, ap, ◌∙◌, append_assoc, append-nil, zero-add, add-one, arith, length-append, length-drop, drop_of_length-le, length-take-le, take_all, drop-cons, drop-drop, take_at, eq-eqb, ne_eqb, eqb-true, le-leb, leb-true}
+use Rattle.std.proofs.Common.{◌≡◌, ℕ, suc, ◌+◌, ◌-◌, ◌*◌, ◌/◌, ◌%◌, ◌<◌, ◌≤◌, Bool, true, false, cond, ◌&&◌, eqb, leb, List, [], ◌∷◌, ◌++◌, length, get_or, take, drop, sym, refl, ap, ◌∙◌, append_assoc, append-nil, zero-add, add-one, arith, length-append, length-drop, drop_of_length-le, length-take-le, take_all, drop-cons, drop-drop, take_at, eq-eqb, ne_eqb, eqb-true, le-leb, leb-true}
 use lib.Seq.{take-length, drop-append-add, take-append_seam}
 use borrow.Author.Tests.{lt-leb}
 use Rattle.base.specs.Bytes.{splice, placed, over, same}
@@ -15,15 +15,14 @@ unfolding placed
 placed-not xs i ys h = passed _ _ (lt-leb _ _ h)
 
 -- a copy into the part from index i on
-pub copied : (xs ys : List ℕ) (i : ℕ) → i + length ys ≤ length xs →
-    take i xs ++ ((take (length ys) ys ++ drop (length ys) (take (length xs - i) (drop i xs))) ++ drop (length xs - i) (drop i xs)) ≡ placed xs i ys
+pub copied : (xs ys : List ℕ) (i : ℕ) → i + length ys ≤ length xs → take i xs ++ (ys ++ drop (i + length ys - i) (drop i xs)) ≡ placed xs i ys
 unfolding splice
 copied xs ys i h = go ∙ sym (placed-fits xs i ys h)
   where
-    go : take i xs ++ ((take (length ys) ys ++ drop (length ys) (take (length xs - i) (drop i xs))) ++ drop (length xs - i) (drop i xs)) ≡ splice xs i ys
+    go : take i xs ++ (ys ++ drop (i + length ys - i) (drop i xs)) ≡ take i xs ++ (ys ++ drop (i + length ys) xs)
     go =
-        let k : length (drop i xs) ≤ length xs - i = simp length-drop (omega arith) in
-        rw (take-length, take_all (length xs - i) (drop i xs) k, drop_of_length-le (drop i xs) k, append-nil, drop-drop)
+        let n : i + length ys - i ≡ length ys = omega arith in
+        rw (n, drop-drop)
 
 -- bytes after those that were written so far
 pub over-more : (ys more xs : List ℕ) → splice (over ys xs) (length ys) more ≡ over (ys ++ more) xs
@@ -88,19 +87,6 @@ pub same-empty : (a : List ℕ) → eqb (length a) 0 ≡ same a []
 unfolding same
 same-empty [] = refl
 same-empty (x ∷ a) = ne_eqb (length (x ∷ a)) 0 (omega arith)
-
--- they are where both parts are, up to index n and from there on
-pub same_parts : (n : ℕ) (a b : List ℕ) → same a b ≡ (same (take n a) (take n b) && same (drop n a) (drop n b))
-unfolding same
-same_parts zero a b = refl
-same_parts (suc n) [] [] = refl
-same_parts (suc n) [] (y ∷ b) = refl
-same_parts (suc n) (x ∷ a) [] = refl
-same_parts (suc n) (x ∷ a) (y ∷ b) = ap (λ (c : Bool). eqb x y && c) (same_parts n a b) ∙ grouped (eqb x y) (same (take n a) (take n b)) (same (drop n a) (drop n b))
-  where
-    grouped : (p q r : Bool) → (p && (q && r)) ≡ (p && q && r)
-    grouped true q r = refl
-    grouped false q r = refl
 
 -- one turn of a loop over both
 pub same_next : (equal : Bool) (a b : List ℕ) (i : ℕ) → i < length a → i < length b →

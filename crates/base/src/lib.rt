@@ -53,7 +53,7 @@ pub fn place(out: &mut [u8], i: usize, bytes: &[u8])
     let room = out.len();
     if i <= room {
         if bytes.len() <= room - i {
-            bytes::copy(bytes, &mut out[i..]);
+            out[i..i + bytes.len()].copy_from_slice(bytes);
         }
     }
 }

@@ -1,14 +1,19 @@
-// Runs document 01's samples, the cases of requests 2026-05 and 2026-07 and document 002's litmus tests through the proved reader,
-// simulation, replay and encoder, and prints answers and traces, and of each litmus test how many runs it has and how many lead to its outcome.
+// Runs document 01's samples, the cases of request 2026-05 and document 002's litmus tests through the proved reader, simulation, replay
+// and encoder, and prints answers and traces, and of each litmus test how many runs it has and how many lead to its outcome.
 // The file stdout is what the second simulator prints: `cargo run -q --release -p reference --bin cases` in rust/.
+#![tactic(auto)]
+
 mod data;
 
-ghost use Rattle.std.specs.Prelude.{◌≤◌, length};
+ghost use Rattle.std.specs.Prelude.{◌≤◌, IfOk, OnOk, length};
+ghost use Rattle.std.specs.Fmt.{decimal};
+ghost use Rattle.std.specs.Io.KnownBytes.{Appends};
 ghost use Rattle.cases.specs.Parts.{Inside};
 
-use libc::STDOUT_FILENO;
 use machine::{End, Machine, RunAnswer};
 use records::instructions::HALT;
+use std::io;
+use std::io::Write;
 
 // ---- litmus tests: all runs of one by the proved simulation, how many there are, and how many lead to its outcome. A thread's HALT
 // changes no register, so each run is followed to where only HALTs are left, and these are taken last, by thread.
@@ -23,7 +28,7 @@ const TRACE: usize = LONGEST * Machine::STEP;
 const VISITS: u64 = 10000000;
 
 // A search through all schedules in order: the schedule up to the choice that is tried, its place, and what was found before.
-#[derive(Drop)]
+#[derive(Clone, Copy)]
 struct Search {
     schedule: [u8; LONGEST],
     place: usize,
@@ -33,7 +38,7 @@ struct Search {
 }
 
 // What a schedule comes to: its last choice is not permitted or a HALT, it goes on, or only HALTs are left.
-#[derive(Drop)]
+#[derive(Clone, Copy)]
 enum Visit {
     Denied,
     GoesOn,
@@ -256,96 +261,148 @@ fn wide(byte: u8) -> u64 {
     byte as u64
 }
 
-fn show_number(number: u64) {
-    io::write_all(STDOUT_FILENO, b" ");
-    io::print_decimal(STDOUT_FILENO, number);
+// Prints a number in decimal.
+fn print_decimal<W: Write>(out: &mut W, number: u64) -> io::Result<()>
+    ensures { OnOk result (Appends (W.contents out.old) (W.contents out.new) (decimal number)) }
+{
+    write!(out, "{number}")
 }
 
-fn show_numbers(number: u64, place: u64, end: u64, code: u64, steps: u64) {
-    show_number(number);
-    show_number(place);
-    show_number(end);
-    show_number(code);
-    show_number(steps);
-    io::write_all(STDOUT_FILENO, b"\n");
+fn show_number<W: Write>(out: &mut W, number: u64) -> io::Result<()> {
+    out.write_all(b" ")?;
+    print_decimal(out, number)
+}
+
+fn show_numbers<W: Write>(
+    out: &mut W,
+    number: u64,
+    place: u64,
+    end: u64,
+    code: u64,
+    steps: u64,
+) -> io::Result<()> {
+    show_number(out, number)?;
+    show_number(out, place)?;
+    show_number(out, end)?;
+    show_number(out, code)?;
+    show_number(out, steps)?;
+    out.write_all(b"\n")
 }
 
 // A line: the name with its suffix, then number, place, end (0 code, 1 stuck, 2 open), code, steps.
-fn show_answer(name: &[u8], suffix: &[u8], answer: RunAnswer) {
-    io::write_all(STDOUT_FILENO, name);
-    io::write_all(STDOUT_FILENO, suffix);
+fn show_answer<W: Write>(
+    out: &mut W,
+    name: &[u8],
+    suffix: &[u8],
+    answer: RunAnswer,
+) -> io::Result<()> {
+    out.write_all(name)?;
+    out.write_all(suffix)?;
     match answer {
         RunAnswer::Ran { steps, end } => match end {
-            End::Code(code) => show_numbers(0, 0, 0, code as u64, steps as u64),
-            End::Stuck => show_numbers(0, 0, 1, 0, steps as u64),
-            End::Open => show_numbers(0, 0, 2, 0, steps as u64),
+            End::Code(code) => show_numbers(out, 0, 0, 0, code as u64, steps as u64),
+            End::Stuck => show_numbers(out, 0, 0, 1, 0, steps as u64),
+            End::Open => show_numbers(out, 0, 0, 2, 0, steps as u64),
         },
-        RunAnswer::Refused { number, place } => show_numbers(number as u64, place as u64, 0, 0, 0),
+        RunAnswer::Refused { number, place } => show_numbers(
+            out,
+            number as u64,
+            place as u64,
+            0,
+            0,
+            0,
+        ),
     }
 }
 
 // A line for each trace step.
-fn show_trace(trace: &[u8]) {
+fn show_trace<W: Write>(out: &mut W, trace: &[u8]) -> io::Result<()> {
     let mut at: usize = 0;
     while at < trace.len() {
-        io::print_decimal(STDOUT_FILENO, wide(trace[at]));
+        print_decimal(out, wide(trace[at]))?;
         at += 1;
         if at % Machine::STEP == 0 {
-            io::write_all(STDOUT_FILENO, b"\n");
+            out.write_all(b"\n")?;
         } else {
-            io::write_all(STDOUT_FILENO, b" ");
+            out.write_all(b" ")?;
         }
     }
+    Ok(())
 }
 
 // A refusal writes no trace, so there is none to show or replay.
-fn show_over(name: &[u8], set: &[u8], map: &[u8], schedule: &[u8], trace: &mut [u8]) {
+fn show_over<W: Write>(
+    out: &mut W,
+    name: &[u8],
+    set: &[u8],
+    map: &[u8],
+    schedule: &[u8],
+    trace: &mut [u8],
+) -> io::Result<()> {
     let answer = simulation::simulate(set, map, schedule, trace);
-    show_answer(name, b":", answer);
+    show_answer(out, name, b":", answer)?;
     match answer {
         RunAnswer::Ran { .. } => {
-            show_trace(trace);
-            show_answer(name, b" replay:", replay::replay(set, map, trace));
+            show_trace(out, trace)?;
+            show_answer(out, name, b" replay:", replay::replay(set, map, trace))
         }
-        RunAnswer::Refused { .. } => {}
+        RunAnswer::Refused { .. } => Ok(()),
     }
 }
 
 // The buffer has room for a step more than simulation takes: that refusal is a case too. No case has more steps.
-fn show(name: &[u8], set: &[u8], map: &[u8], schedule: &[u8]) {
+fn show<W: Write>(
+    out: &mut W,
+    name: &[u8],
+    set: &[u8],
+    map: &[u8],
+    schedule: &[u8],
+) -> io::Result<()> {
     if 65 < schedule.len() {
-        return;
+        return Ok(());
     }
     let mut buffer = [0u8; 65 * Machine::STEP];
     let size = Machine::STEP * schedule.len();
-    show_over(name, set, map, schedule, &mut buffer[..size]);
+    show_over(out, name, set, map, schedule, &mut buffer[..size])
 }
 
 // Number, place, statements, cells.
-fn show_text(name: &[u8], source: &[u8]) {
+fn show_text<W: Write>(out: &mut W, name: &[u8], source: &[u8]) -> io::Result<()> {
     let mut set = [0u8; 64];
     let mut map = [0u8; 64];
     let answer = text::read(source, &mut set, &mut map);
-    io::write_all(STDOUT_FILENO, name);
-    io::write_all(STDOUT_FILENO, b":");
+    out.write_all(name)?;
+    out.write_all(b":")?;
     match answer {
         text::ReadAnswer::Read { statements, cells } => {
-            show_four(0, 0, statements as u64, cells as u64);
+            show_four(out, 0, 0, statements as u64, cells as u64)
         }
-        text::ReadAnswer::Refused { number, place } => show_four(number as u64, place as u64, 0, 0),
+        text::ReadAnswer::Refused { number, place } => show_four(
+            out,
+            number as u64,
+            place as u64,
+            0,
+            0,
+        ),
     }
 }
 
-fn show_four(number: u64, place: u64, statements: u64, cells: u64) {
-    show_number(number);
-    show_number(place);
-    show_number(statements);
-    show_number(cells);
-    io::write_all(STDOUT_FILENO, b"\n");
+fn show_four<W: Write>(
+    out: &mut W,
+    number: u64,
+    place: u64,
+    statements: u64,
+    cells: u64,
+) -> io::Result<()> {
+    show_number(out, number)?;
+    show_number(out, place)?;
+    show_number(out, statements)?;
+    show_number(out, cells)?;
+    out.write_all(b"\n")
 }
 
 // A thread of one HALT, and a comment up to the text's end.
-fn sample_9_texts() {
+fn sample_9_texts<W: Write>(out: &mut W) -> io::Result<()> {
     let mut source = [b'x'; 16385];
     source[0] = b'H';
     source[1] = b'A';
@@ -355,18 +412,19 @@ fn sample_9_texts() {
     source[5] = b'.';
     source[6] = b'\n';
     source[7] = b'#';
-    show_text(b"sample 9 text of 16384 bytes", &source[..16384]);
-    show_text(b"sample 9 text of 16385 bytes", &source);
+    show_text(out, b"sample 9 text of 16384 bytes", &source[..16384])?;
+    show_text(out, b"sample 9 text of 16385 bytes", &source)
 }
 
 // Of the table of JMP 0: number, place, records.
-fn show_bound(name: &[u8], bound: u64) {
+fn show_bound<W: Write>(out: &mut W, name: &[u8], bound: u64) -> io::Result<()> {
     let answer = encoder::table_size(b"\x00\x09\x00\x00\x00\x00\x00\x00", b"", bound);
-    io::write_all(STDOUT_FILENO, name);
-    io::write_all(STDOUT_FILENO, b":");
+    out.write_all(name)?;
+    out.write_all(b":")?;
     match answer {
-        encoder::TableAnswer::Encoded { records } => show_three(0, 0, records as u64),
+        encoder::TableAnswer::Encoded { records } => show_three(out, 0, 0, records as u64),
         encoder::TableAnswer::Refused { number, place } => show_three(
+            out,
             number as u64,
             place as u64,
             0,
@@ -374,34 +432,40 @@ fn show_bound(name: &[u8], bound: u64) {
     }
 }
 
-fn show_three(number: u64, place: u64, records: u64) {
-    show_number(number);
-    show_number(place);
-    show_number(records);
-    io::write_all(STDOUT_FILENO, b"\n");
+fn show_three<W: Write>(out: &mut W, number: u64, place: u64, records: u64) -> io::Result<()> {
+    show_number(out, number)?;
+    show_number(out, place)?;
+    show_number(out, records)?;
+    out.write_all(b"\n")
 }
 
-fn sample_9_bounds() {
-    show_bound(b"sample 9 table for K 64", 64);
-    show_bound(b"sample 9 table for K 65", 65);
-    show_bound(b"sample 9 table for K 0", 0);
-    show_bound(b"sample 9 table for K 1", 1);
+fn sample_9_bounds<W: Write>(out: &mut W) -> io::Result<()> {
+    show_bound(out, b"sample 9 table for K 64", 64)?;
+    show_bound(out, b"sample 9 table for K 65", 65)?;
+    show_bound(out, b"sample 9 table for K 0", 0)?;
+    show_bound(out, b"sample 9 table for K 1", 1)
 }
 
-fn show_litmus(name: &[u8], set: &[u8], map: &[u8], asked: &[u8]) {
+fn show_litmus<W: Write>(
+    out: &mut W,
+    name: &[u8],
+    set: &[u8],
+    map: &[u8],
+    asked: &[u8],
+) -> io::Result<()> {
     let found = all_runs(set, map, asked);
-    io::write_all(STDOUT_FILENO, name);
-    io::write_all(STDOUT_FILENO, b": ");
-    io::print_decimal(STDOUT_FILENO, found.runs);
-    io::write_all(STDOUT_FILENO, b" runs, ");
-    io::print_decimal(STDOUT_FILENO, found.outcomes);
-    io::write_all(STDOUT_FILENO, b" with the outcome\n");
+    out.write_all(name)?;
+    out.write_all(b": ")?;
+    print_decimal(out, found.runs)?;
+    out.write_all(b" runs, ")?;
+    print_decimal(out, found.outcomes)?;
+    out.write_all(b" with the outcome\n")
 }
 
 // ---- the cases of data.rt, which says what a case is made of
 
 // Where a part starts and ends.
-#[derive(Drop)]
+#[derive(Clone, Copy)]
 struct Part {
     start: usize,
     end: usize,
@@ -434,7 +498,15 @@ fn part_at(cases: &[u8], at: usize) -> Part
 }
 
 // Shows what a part of a case asks for, if it is there: how many of all runs of the set lead to an outcome, or the run of a schedule.
-fn show_part(cases: &[u8], name: Part, set: Part, map: Part, part: Part, all_runs: bool)
+fn show_part<W: Write>(
+    out: &mut W,
+    cases: &[u8],
+    name: Part,
+    set: Part,
+    map: Part,
+    part: Part,
+    all_runs: bool,
+) -> io::Result<()>
     requires { Inside cases.now name × Inside cases.now set × Inside cases.now map × Inside cases.now part }
 {
     let name_start = name.start;
@@ -446,22 +518,22 @@ fn show_part(cases: &[u8], name: Part, set: Part, map: Part, part: Part, all_run
     let start = part.start;
     let end = part.end;
     if end <= start {
-        return;
+        return Ok(());
     }
     let named = &cases[name_start..name_end];
     let records = &cases[set_start..set_end];
     let cells = &cases[map_start..map_end];
     let asked = &cases[start..end];
     if all_runs {
-        show_litmus(named, records, cells, asked);
+        show_litmus(out, named, records, cells, asked)
     } else {
-        show(named, records, cells, asked);
+        show(out, named, records, cells, asked)
     }
 }
 
 // Shows the case at a place, and gives the place of the next one.
-fn show_case(cases: &[u8], at: usize) -> usize
-    ensures { result ≤ length cases.now }
+fn show_case<W: Write>(out: &mut W, cases: &[u8], at: usize) -> io::Result<usize>
+    ensures { IfOk result (λ next. next ≤ length cases.now) }
 {
     let name = part_at(cases, at);
     let set = part_at(cases, name.end);
@@ -469,26 +541,28 @@ fn show_case(cases: &[u8], at: usize) -> usize
     let asked = part_at(cases, map.end);
     let short = part_at(cases, asked.end);
     let schedule = part_at(cases, short.end);
-    show_part(cases, name, set, map, asked, true);
-    show_part(cases, short, set, map, schedule, false);
-    schedule.end
+    show_part(out, cases, name, set, map, asked, true)?;
+    show_part(out, cases, short, set, map, schedule, false)?;
+    Ok(schedule.end)
 }
 
 // Shows all of them.
-fn show_cases(cases: &[u8]) {
+fn show_cases<W: Write>(out: &mut W, cases: &[u8]) -> io::Result<()> {
     let mut at: usize = 0;
     while at < cases.len() {
-        let next = show_case(cases, at);
+        let next = show_case(out, cases, at)?;
         if next <= at {
-            return;
+            return Ok(());
         }
         at = next;
     }
+    Ok(())
 }
 
-fn main() {
-    show_cases(&data::SAMPLES);
-    sample_9_texts();
-    sample_9_bounds();
-    show_cases(&data::LITMUS);
+fn main(rt: HostRuntime) -> io::Result<()> {
+    let mut out = rt.stdout();
+    show_cases(&mut out, &data::SAMPLES)?;
+    sample_9_texts(&mut out)?;
+    sample_9_bounds(&mut out)?;
+    show_cases(&mut out, &data::LITMUS)
 }

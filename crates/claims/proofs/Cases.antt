@@ -144,13 +144,13 @@ ran8 : simulated (set8 CHECK) [] (0 ∷ 0 ∷ []) 48 ≡ Ran 2 Open
 unfolding set8 simulated limited follow begin outcome advanced choices choice_of end_of some_permitted step reads written cleared leaves_mark acted permitted waiting opened contains cas_matches executed next_pc jumps row cells_read word_taken address ascends_at map_accepted set_accepted opens_at record_fits argument_fits follows start_of count_of threads_of every some number least
 ran8 = refl
 
-ran-alone : simulated set_alone [] (0 ∷ 0 ∷ 0 ∷ 0 ∷ []) 96 ≡ Ran 4 Open
+ran_alone : simulated set_alone [] (0 ∷ 0 ∷ 0 ∷ 0 ∷ []) 96 ≡ Ran 4 Open
 unfolding set_alone simulated limited follow begin outcome advanced choices choice_of end_of some_permitted step reads written cleared leaves_mark acted permitted waiting opened contains cas_matches executed next_pc jumps row cells_read word_taken address ascends_at map_accepted set_accepted opens_at record_fits argument_fits follows start_of count_of threads_of every some number least
-ran-alone = refl
+ran_alone = refl
 
-marked-alone : (memory : ℕ → ℕ) → (marked_alone memory (0 ∷ []) ≡ true) × ((marked_alone memory (0 ∷ 0 ∷ []) ≡ false) × (marked_alone memory (0 ∷ 0 ∷ 0 ∷ []) ≡ true))
+marked_alone_lem : (memory : ℕ → ℕ) → (marked_alone memory (0 ∷ []) ≡ true) × ((marked_alone memory (0 ∷ 0 ∷ []) ≡ false) × (marked_alone memory (0 ∷ 0 ∷ 0 ∷ []) ≡ true))
 unfolding set_alone choices choice_of after step written cleared leaves_mark acted permitted waiting opened contains cas_matches executed next_pc jumps row word_taken address start_of count_of threads_of every some number least
-marked-alone memory = (refl, (refl, refl))
+marked_alone_lem memory = (refl, (refl, refl))
 
 ran-three : simulated (set_meeting JMP) [] (0 ∷ 1 ∷ 0 ∷ []) 72 ≡ Ran 3 Open
 unfolding set_meeting simulated limited follow begin outcome advanced choices choice_of end_of some_permitted step reads written cleared leaves_mark acted permitted waiting opened contains cas_matches executed next_pc jumps row cells_read word_taken address ascends_at map_accepted set_accepted opens_at record_fits argument_fits follows start_of count_of threads_of every some number least
@@ -206,7 +206,7 @@ starred_cases = record {
   case6_muli = multiplies6;
   case7 = ends7;
   case8 = (refused8, ran8);
-  ping_alone = (ran-alone, marked-alone);
+  ping_alone = (ran_alone, marked_alone_lem);
   ping_clearing = (ran-three, (refused-four, ran_six));
   ping_bounds = (
     accepted-jumps,

@@ -1,5 +1,4 @@
 -- The proofs of the demands that specs/ states.
-pub mod Addresses
 pub mod Cases
 pub mod Cells
 pub mod Checkpoints

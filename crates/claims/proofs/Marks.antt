@@ -112,5 +112,5 @@ marks_as_table5 = record {
   counted = counted;
   one_mark = one_mark_lem;
   one_open = λ S memory run. open_after S (start memory) run (open_start S memory);
-  in_arow = λ set memory run t id is_run. in_a_row set (reached (set_of set) memory run) (stands-run (set_of set) memory run is_run) t id;
+  in_a_row = λ set memory run t id is_run. in_a_row set (reached (set_of set) memory run) (stands-run (set_of set) memory run is_run) t id;
 }

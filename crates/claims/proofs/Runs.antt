@@ -14,21 +14,20 @@ use Rattle.records.specs.Maps.{map_accepted, map_value, run_cells}
 use Rattle.records.specs.Sets.{Set, set_of, set_accepted, WellFormedSet}
 use Rattle.machine.specs.Machine.{State, start, actor, step, written, no_write}
 use Rattle.machine.specs.Runs.{choices, takes, is_run}
-use Rattle.machine.specs.Maps.{Held, begin, outcome, advanced, on_outcome, follow, address_known, word_known, demands, retrace}
-use Rattle.machine.specs.Traces.{trace_step, same_fields, same_address, trace, step_choice, step_length}
+use Rattle.machine.specs.Maps.{Held, begin, outcome, advanced, on_outcome, follow, retrace}
+use Rattle.machine.specs.Traces.{trace_step, trace, step_choice, step_length}
 use Rattle.machine.specs.declared.RunAnswer.{RunAnswer}
 use Rattle.machine.specs.declared.RunAnswer.TheVariants.{Ran, Refused}
 use Rattle.machine.specs.declared.Choice.{Choice}
 use Rattle.machine.specs.declared.Choice.TheVariants.{Execute, Flush}
 use Rattle.machine.specs.declared.End.{End}
-use Rattle.machine.specs.declared.Outcome.{Outcome}
 use Rattle.machine.specs.declared.Written.{Written}
 use Rattle.base.proofs.Bytes.{same_self, same_equal}
 use Rattle.records.proofs.Sets.{well-formed}
-use Rattle.machine.proofs.Runs.{ran-after, ran_where, knows_both, same_step}
+use Rattle.machine.proofs.Runs.{ran-after, ran_where, ran-taken}
 use Rattle.machine.proofs.Runs.{Inside, inside-start, inside-step, takes-actor, run-first, run-rest}
 use Rattle.machine.proofs.Runs.{schedule_of, schedule, schedule-choices, choices-schedule, length-choices, length-schedule}
-use Rattle.machine.proofs.Runs.{AllTaken, outcome-taken, taken-takes, taken-knows, taken-run, follow-ran}
+use Rattle.machine.proofs.Runs.{AllTaken, taken-takes, taken-run, follow-ran}
 use Rattle.machine.proofs.Runs.{length-trace, take-trace, drop-trace, step_choice-trace, step_choices, length-step_choices, step_choices-trace}
 use Rattle.simulation.specs.Simulation.{simulated, limited, schedule_trace}
 use Rattle.replay.specs.Replay.{replayed, limited_trace}
@@ -39,12 +38,11 @@ use Rattle.claims.specs.Runs.{AreBytes, Simulates, ReplayAcceptsWhatSimulationWr
 -- one step of a trace, its choice taken to be c
 abbrev retrace_by : Set → Held → Written → ℕ → ℕ → List ℕ → Choice → RunAnswer
 retrace_by S h w i n bytes c =
-    demands (takes S h.state c) 12 i
-    (demands (same_fields (take step_length bytes) (trace_step S h.state w c)) 13 i
-    (demands (address_known S h c) 14 i
-    (demands (same_address (take step_length bytes) (trace_step S h.state w c)) 13 i
-    (demands (word_known S h c) 14 i
-    (retrace S (advanced S h c) (written S h.state c) (suc i) n (drop step_length bytes))))))
+    cond (takes S h.state c)
+    (cond (same (take step_length bytes) (trace_step S h.state w c))
+    (on_outcome (outcome S h c) i (retrace S (advanced S h c) (written S h.state c) (suc i) n (drop step_length bytes)))
+    (Refused 13 i))
+    (Refused 12 i)
 
 -- to retrace a run's own trace is to follow the run
 pub retrace-trace : (S : Set) (h : Held) (w : Written) (i : ℕ) (run : List Choice) → WellFormedSet S → Inside S h.state.threads →
@@ -53,20 +51,14 @@ unfolding retrace follow advanced
 retrace-trace S h w i [] well inside taken = refl
 retrace-trace S h w i (c ∷ run) well inside taken =
     let bytes = trace S h.state w (c ∷ run) in
-    let given = take step_length bytes in
     let own = trace_step S h.state w c in
     let t = taken-takes S h c taken.0 in
-    let known = sym (knows_both S h c) ∙ taken-knows S h c taken.0 in
-    let equal = sym (same_step given own) ∙ (ap (λ (b : List ℕ). same b own) (take-trace S h.state w c run) ∙ same_self own) in
     ap (retrace_by S h w i (length run) bytes) (step_choice-trace S h.state w c run well inside t)
     ∙ chosen _ _ t
-    ∙ chosen _ _ (and_left (same_fields given own) (same_address given own) equal)
-    ∙ chosen _ _ (and_left (address_known S h c) (word_known S h c) known)
-    ∙ chosen _ _ (and_right (same_fields given own) (same_address given own) equal)
-    ∙ chosen _ _ (and_right (address_known S h c) (word_known S h c) known)
-    ∙ ap (retrace S (advanced S h c) (written S h.state c) (suc i) (length run)) (drop-trace S h.state w c run)
-    ∙ retrace-trace S (advanced S h c) (written S h.state c) (suc i) run well (inside-step S well h.state c inside) taken.1
-    ∙ sym (ap (λ (o : Outcome). on_outcome o i (follow S (advanced S h c) (suc i) run)) taken.0)
+    ∙ chosen _ _ (ap (λ (b : List ℕ). same b own) (take-trace S h.state w c run) ∙ same_self own)
+    ∙ ap (on_outcome (outcome S h c) i)
+    (ap (retrace S (advanced S h c) (written S h.state c) (suc i) (length run)) (drop-trace S h.state w c run)
+    ∙ retrace-trace S (advanced S h c) (written S h.state c) (suc i) run well (inside-step S well h.state c inside) taken.1)
 
 none_left : (bytes : List ℕ) → length bytes ≡ 0 → bytes ≡ []
 none_left [] e = refl
@@ -81,16 +73,12 @@ retrace-ran S h w i zero bytes m e l p = (p, none_left bytes (omega arith))
 retrace-ran S h w i (suc n) bytes m e l p =
     let c = step_choice bytes in
     let (t, p₁) = ran_where (takes S h.state c) 12 i p in
-    let given = take step_length bytes in
-    let right = trace_step S h.state w c in
-    let (fields, p₂) = ran_where (same_fields given right) 13 i p₁ in
-    let (address, p₃) = ran_where (address_known S h c) 14 i p₂ in
-    let (equal, p₄) = ran_where (same_address given right) 13 i p₃ in
-    let (word, p₅) = ran_where (word_known S h c) 14 i p₄ in
+    let (s, p₂) = ran_where (same (take step_length bytes) (trace_step S h.state w c)) 13 i p₁ in
+    let (o, p₃) = ran-taken (outcome S h c) i p₂ in
     let l₁ : length (drop step_length bytes) ≡ step_length * n = simp length-drop (omega arith) in
-    let (f, q) = retrace-ran S (advanced S h c) (written S h.state c) (suc i) n (drop step_length bytes) m e l₁ p₅ in (
-      ap (λ x. on_outcome x i (follow S (advanced S h c) (suc i) (step_choices n (drop step_length bytes)))) (outcome-taken S h c t (knows_both S h c ∙ and_true address word)) ∙ f,
-      sym (take-append-drop step_length bytes) ∙ ap₂ ◌++◌ (same_equal given right (same_step given right ∙ and_true fields equal)) q,
+    let (f, q) = retrace-ran S (advanced S h c) (written S h.state c) (suc i) n (drop step_length bytes) m e l₁ p₃ in (
+      ap (λ x. on_outcome x i (follow S (advanced S h c) (suc i) (step_choices n (drop step_length bytes)))) o ∙ f,
+      sym (take-append-drop step_length bytes) ∙ ap₂ ◌++◌ (same_equal (take step_length bytes) (trace_step S h.state w c) s) q,
     )
 
 -- ---- calls that are not refused

@@ -11,7 +11,7 @@ use lib.Seq.{drop-cons, drop-length}
 use borrow.Author.Tests.{eqb-true, eqb-false, eq-eqb, ne_eqb}
 use Rattle.base.specs.Below.{number}
 use Rattle.base.proofs.Below.{number-grows, number-yes, number-no}
-use Rattle.base.proofs.Choice.{chosen, passed, and_true, and_false, and_right_false, and_left, or_false, or_left, or_right, clash}
+use Rattle.base.proofs.Choice.{and_true, and_false, and_right_false, and_left, or_false, or_left, or_right, clash}
 use Rattle.records.specs.Instructions.{is_last}
 use Rattle.text_lines.specs.Lines.{lines, is_dot, statement_line}
 use Rattle.text_lines.specs.declared.Stated.{Stated}

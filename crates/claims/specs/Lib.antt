@@ -1,5 +1,4 @@
 -- The demands as statements about the definitions, each a named type; crate `claims` proves every one.
-pub mod Addresses
 pub mod Cases
 pub mod Lookups
 pub mod Marks

@@ -48,7 +48,7 @@ pub record MarksAsTable5 : Type 0 where
   pub one_open : (S : Set) (memory : ℕ → ℕ) (run : List Choice) (id other : ℕ) → Contained S id → Contained S other →
       check S (reached S memory run) id ≡ true → check S (reached S memory run) other ≡ true → id ≡ other
   -- Only where a CHECK follows another of its number at once does a thread arrive in the step that clears the marks.
-  pub in_arow : (set : List ℕ) (memory : ℕ → ℕ) (run : List Choice) (t id : ℕ) → is_run (set_of set) (start memory) run ≡ true →
+  pub in_a_row : (set : List ℕ) (memory : ℕ → ℕ) (run : List Choice) (t id : ℕ) → is_run (set_of set) (start memory) run ≡ true →
       permitted (set_of set) (reached (set_of set) memory run) (Execute t) ≡ true → executes_check (set_of set) (reached (set_of set) memory run) (Execute t) id t ≡ true →
       check (set_of set) (reached (set_of set) memory run) id ≡ true →
       (p : ℕ) × (((reached (set_of set) memory run).threads t).pc ≡ suc p) × (is_check (set_of set) t id p ≡ true)

@@ -1,1 +1,2 @@
 // No code: the demands as theorems about the definitions (specs/ states them, proofs/ proves them).
+#![tactic(auto)]

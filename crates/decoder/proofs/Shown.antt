@@ -30,7 +30,6 @@ use Rattle.first_cells.proofs.Order.{memory-map, memory-first}
 use Rattle.decoder.proofs.Given.{Asked, Given}
 use Rattle.first_cells.specs.declared.Found.{Found}
 use Rattle.claims.specs.Models.{Decodes}
-use Rattle.claims.specs.Runs.{AreBytes}
 use Rattle.claims.proofs.Models.{demand_three, bytes_of}
 use Rattle.decoder.specs.Answers.{false_record, decoded}
 use Rattle.decoder.specs.declared.DecodeAnswer.TheVariants.{Decoded}

@@ -1,6 +1,6 @@
 -- The model check and decoding (document 01, "Records", refusals 9, 10, 15, 11 and 16): their answers for every input, and the lent memory
 -- afterwards. A reader of the calls believes this. Assumes nothing.
-use Rattle.std.specs.Prelude.{ℕ, ◌*◌, Bool, cond, ◌&&◌, ◌||◌, List, eqb, ltb, leb, length, replicate}
+use Rattle.std.specs.Prelude.{ℕ, ◌*◌, Bool, cond, ◌&&◌, ◌||◌, List, eqb, ltb, length, replicate}
 use Rattle.encoder.specs.Answers.{bound_fits}
 use Rattle.base.specs.Bytes.{over}
 use Rattle.records.specs.Maps.{cells, map_accepted, set_cells}

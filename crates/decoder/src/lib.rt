@@ -1,4 +1,6 @@
 // The model check: whether a model satisfies the table of a set, a map and a bound; and decoding: the trace and the map of its run.
+#![tactic(auto)]
+
 ghost use Rattle.std.specs.Prelude.{◌≡◌, true, ◌+◌, ◌*◌, ◌≤◌, ◌<◌, eqb, ltb, length, get_or, take, replicate};
 ghost use Rattle.base.specs.Below.{every, least};
 ghost use Rattle.base.specs.Bytes.{over};
@@ -18,14 +20,14 @@ use records::Layout;
 use records::refusals::{MODEL, NOT_SATISFIED, ROOM};
 
 // What the model check gives: the model is accepted, or the refusal with its number and place.
-#[derive(Drop)]
+#[derive(Clone, Copy)]
 pub enum CheckAnswer {
     Accepted,
     Refused { number: u8, place: u32 },
 }
 
 // What decoding gives: how many steps the run took and the cells of the map, or the refusal with its number and place.
-#[derive(Drop)]
+#[derive(Clone, Copy)]
 pub enum DecodeAnswer {
     Decoded { steps: u16, cells: u16 },
     Refused { number: u8, place: u32 },

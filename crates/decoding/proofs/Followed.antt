@@ -13,7 +13,7 @@ use Rattle.machine.specs.Machine.{State, current, permitted, acted, leaves_mark,
 use Rattle.machine.specs.Machine.{forwards, address, takes_word, word_taken, reads_argument, reads_address, cells_read, row, next_pc, with_pc, executed, cas_matches}
 use Rattle.machine.specs.Maps.{Held, knows_all, known_after, advanced}
 use Rattle.machine.specs.Runs.{takes, is_run, after}
-use Rattle.machine.specs.Traces.{shown, effective, step_bytes, trace_step, trace}
+use Rattle.machine.specs.Traces.{shown, trace_step, trace}
 use Rattle.machine.specs.declared.Choice.{Choice}
 use Rattle.machine.specs.declared.Choice.TheVariants.{Execute, Flush}
 use Rattle.machine.specs.declared.Thread.{Thread}
@@ -26,12 +26,12 @@ use Rattle.decoding.specs.Decodings.{writes, reads_first}
 -- ---- one statement
 
 -- what is read is the same wherever it is read at all
-same_address_lem : (memory indirect forwarded : Bool) (value argument p q : ℕ) → ((memory && indirect && not forwarded) ≡ true → p ≡ q) →
+same_address : (memory indirect forwarded : Bool) (value argument p q : ℕ) → ((memory && indirect && not forwarded) ≡ true → p ≡ q) →
     cond memory (cond indirect (cond forwarded value p) argument) 0 ≡ cond memory (cond indirect (cond forwarded value q) argument) 0
-same_address_lem true true true value argument p q f = refl
-same_address_lem true true false value argument p q f = f refl
-same_address_lem true false forwarded value argument p q f = refl
-same_address_lem false indirect forwarded value argument p q f = refl
+same_address true true true value argument p q f = refl
+same_address true true false value argument p q f = f refl
+same_address true false forwarded value argument p q f = refl
+same_address false indirect forwarded value argument p q f = refl
 
 same_word : (takes_it swaps forwarded : Bool) (value p q : ℕ) → ((takes_it && (swaps || not forwarded)) ≡ true → p ≡ q) →
     cond takes_it (cond swaps p (cond forwarded value p)) 0 ≡ cond takes_it (cond swaps q (cond forwarded value q)) 0
@@ -57,7 +57,7 @@ module _ (i : Statement) (x : Thread) (partial memory : ℕ → ℕ) (known : �
 
   pub address_same : address i x partial ≡ address i x memory
   unfolding address
-  address_same = same_address_lem (is_memory i.number) (eqb i.mode 1) (forwards x i.argument) x.val i.argument
+  address_same = same_address (is_memory i.number) (eqb i.mode 1) (forwards x i.argument) x.val i.argument
       (partial i.argument) (memory i.argument)
       (λ e. agrees i.argument (or_when (reads_argument i x) (known i.argument) (and_left argument_known address_known both-known) e))
 
@@ -100,6 +100,11 @@ module _ (S : Set) (s : State) (m : ℕ → ℕ) where
   takes_same (Execute t) = refl
   takes_same (Flush t) = refl
 
+  traced-same : (w : Written) (c : Choice) → trace_step S (with_memory m s) w c ≡ trace_step S s w c
+  unfolding trace_step shown
+  traced-same w (Execute t) = refl
+  traced-same w (Flush t) = refl
+
   module _ (known : ℕ → Bool) (agrees : (a : ℕ) → known a ≡ true → m a ≡ s.memory a) where
     pub reads_same : (c : Choice) → knows_all known (reads S s c) ≡ true → reads S (with_memory m s) c ≡ reads S s c
     unfolding reads
@@ -113,11 +118,6 @@ module _ (S : Set) (s : State) (m : ℕ → ℕ) where
         let at = address_same (current S s t) (s.threads t) m s.memory known agrees k in
         λ z. cond (matches z) (wrote (at z) (s.threads t).accu) no_write
     written_same (Flush t) k = refl
-
-    traced-same : (w : Written) (c : Choice) → knows_all known (reads S s c) ≡ true → trace_step S (with_memory m s) w c ≡ trace_step S s w c
-    unfolding trace_step shown effective reads
-    traced-same w (Execute t) k = ap (step_bytes t (current S s t) (s.threads t) w) (address_same (current S s t) (s.threads t) m s.memory known agrees k)
-    traced-same w (Flush t) k = refl
 
     acted-same : (c : Choice) → knows_all known (reads S s c) ≡ true → acted S (with_memory m s) c ≡ acted S s c
     unfolding acted reads
@@ -207,7 +207,7 @@ module _ (S : Set) where
           subst⁻¹ (λ (h : Held). AllTaken S h run) (λ z. record { state = stepped z; known = known_after (writing z) known }) rest.taken,
         );
         traced =
-            ap₂ (λ (bytes more : List ℕ). bytes ++ more) (traced-same S s m known agrees w c k)
+            ap₂ (λ (bytes more : List ℕ). bytes ++ more) (traced-same S s m w c)
             (ap₂ (λ (t : State) (v : Written). trace S t v run) stepped writing ∙ rest.traced);
         ended_same = ap (λ (t : State). (after S t run).ended) stepped ∙ rest.ended_same;
         code_same = ap (λ (t : State). (after S t run).code) stepped ∙ rest.code_same;

@@ -1,4 +1,6 @@
 // Models, and what decoding gives, as definitions (specs/) with their laws (proofs/); the lengths that both go by, and a map's cell looked up.
+#![tactic(auto)]
+
 ghost use Rattle.std.specs.Prelude.{◌≡◌};
 ghost use Rattle.decoding.specs.Lookups.{cell_of};
 
@@ -15,7 +17,7 @@ pub const MODEL_CELLS: usize = Machine::MAP_CELLS;
 pub const MAP_BYTES: usize = Layout::CELL * MODEL_CELLS;
 
 // What is known of a cell: whether it is, and its value, 0 where it is not.
-#[derive(Drop)]
+#[derive(Clone, Copy)]
 pub struct Known {
     pub known: bool,
     pub value: u16,

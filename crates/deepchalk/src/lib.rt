@@ -1,4 +1,6 @@
 // The boundary to C and Rust: one exported function for each call. include/deepchalk.h declares them.
+#![tactic(auto)]
+
 ghost use Rattle.std.specs.Prelude.{◌≡◌, length};
 ghost use Rattle.simulation.specs.Simulation.{simulated, trace_output};
 ghost use Rattle.replay.specs.Replay.{replayed};

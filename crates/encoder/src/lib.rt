@@ -1,4 +1,6 @@
 // The encoder: the size of a table, and its bytes.
+#![tactic(auto)]
+
 ghost use Rattle.std.specs.Prelude.{◌≡◌, cond, List, [], ◌∷◌, ◌++◌, ℕ, ◌+◌, ◌-◌, ◌*◌, ◌≤◌, ◌<◌, ltb, length};
 ghost use Rattle.records.specs.Maps.{cells, set_cells};
 ghost use Rattle.records.specs.Sets.{Set, set_by, layout_of, most_threads};
@@ -38,7 +40,7 @@ const BYTES: u64 = Formula::BYTES as u64;
 const NONE: u8 = set_index::lists::NONE as u8;
 
 // What a call gives: how many records the table has, or the refusal with its number and place.
-#[derive(Drop)]
+#[derive(Clone, Copy)]
 pub enum TableAnswer {
     Encoded { records: u32 },
     Refused { number: u8, place: u32 },
@@ -312,7 +314,7 @@ fn further(x: u64, first: u32, distance: u64) -> u64
 }
 
 // The steps written: the next index, and where the code and the word 0 lie.
-#[derive(Drop)]
+#[derive(Clone, Copy)]
 struct Last {
     next: u32,
     code: u64,

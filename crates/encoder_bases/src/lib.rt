@@ -1,4 +1,6 @@
 // The bases of a table's trees (crate encoding, `base`), written: at most four records each.
+#![tactic(auto)]
+
 ghost use Rattle.std.specs.Prelude.{◌≡◌, false, List, ℕ, ◌≤◌};
 ghost use Rattle.records.specs.Sets.{Set};
 ghost use Rattle.encoding.specs.Slots.{kind_at, kind_number, flag};

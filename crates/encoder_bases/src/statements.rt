@@ -2,7 +2,7 @@
 ghost use Rattle.std.specs.Prelude.{◌≡◌, List, ℕ, ◌≤◌};
 ghost use Rattle.records.specs.Sets.{Set};
 ghost use Rattle.table.specs.Programs.{Binary, binary_number, binary_sort, ref, unary, not1, binary, and2};
-ghost use Rattle.encoding.specs.Slots.{Kind, Slot, slot, kind_number, start_place, choice, active, address, loaded, swaps, result, test, flag, accu, accu as accu_kind, bit_zero, word_zero, argument};
+ghost use Rattle.encoding.specs.Slots.{Kind, Slot, slot, kind_number, start_place, choice, active, address, loaded, swaps, result as result_kind, test, flag, accu, accu as accu_kind, bit_zero, word_zero, argument};
 ghost use Rattle.encoding.specs.Steps.{base as base_of};
 ghost use Rattle.encoder_slots.specs.Places.{place_of};
 ghost use Rattle.encoder_bases.specs.SmallTrees.{Puts, load_of};
@@ -22,7 +22,7 @@ use table::operations::{AND, BIT, EQUAL, IF, MINUS, NOT, OR, PLUS, READ, TIMES, 
 
 // Where the flag of statement i of thread t lies; statement 0 is the next one at the start.
 fn flag_place(slots: &[u32], t: u8, i: u16) -> u64
-    ensures* { λ r. ⌜ r ≡ place_of slots.now (slot flag t i) ⌝ }
+    ensures { result ≡ place_of slots.now (slot flag t i) }
 {
     place(slots, FLAG, t, i, (i == 0) as u64)
 }
@@ -36,8 +36,8 @@ pub fn put_active(
     i: u16,
     n: u32,
 ) -> WrittenTree
-    ensures* { λ r. ⌜ (executes ≡ place_of slots.now (slot choice 0 t) → n ≤ last_index
-        → Puts r (place_of slots.now) n (binary and2 (ref (slot flag t i)) (ref (slot choice 0 t))) out.old out.new) × (r.count ≤ tree_room) ⌝ }
+    ensures { (executes ≡ place_of slots.now (slot choice 0 t) → n ≤ last_index
+        → Puts result (place_of slots.now) n (binary and2 (ref (slot flag t i)) (ref (slot choice 0 t))) out.old out.new) × (result.count ≤ tree_room) }
 {
     let flag = flag_place(slots, t, i);
     put_one(out, n, AND, BIT, flag, executes, 0)
@@ -53,8 +53,8 @@ pub fn put_address(
     i: u16,
     n: u32,
 ) -> WrittenTree
-    ensures* { λ r. ⌜ ((S : Set) (cs : List ℕ) (k : ℕ) → statement ≡ S.statement t i → load ≡ load_of (place_of slots.now) t → n ≤ last_index
-        → Puts r (place_of slots.now) n (base_of S cs k address t i) out.old out.new) × (r.count ≤ tree_room) ⌝ }
+    ensures { ((S : Set) (cs : List ℕ) (k : ℕ) → statement ≡ S.statement t i → load ≡ load_of (place_of slots.now) t → n ≤ last_index
+        → Puts result (place_of slots.now) n (base_of S cs k address t i) out.old out.new) × (result.count ≤ tree_room) }
 {
     if statement.mode == 1 {
         let argument = place(slots, ARGUMENT, t, i, start::WORD0);
@@ -74,8 +74,8 @@ pub fn put_loaded(
     i: u16,
     n: u32,
 ) -> WrittenTree
-    ensures* { λ r. ⌜ ((S : Set) (cs : List ℕ) (k : ℕ) → statement ≡ S.statement t i → load ≡ load_of (place_of slots.now) t → nothing ≡ place_of slots.now (slot word_zero 0 0) → n ≤ last_index
-        → Puts r (place_of slots.now) n (base_of S cs k loaded t i) out.old out.new) × (r.count ≤ tree_room) ⌝ }
+    ensures { ((S : Set) (cs : List ℕ) (k : ℕ) → statement ≡ S.statement t i → load ≡ load_of (place_of slots.now) t → nothing ≡ place_of slots.now (slot word_zero 0 0) → n ≤ last_index
+        → Puts result (place_of slots.now) n (base_of S cs k loaded t i) out.old out.new) × (result.count ≤ tree_room) }
 {
     let number = statement.number;
     if (number == instructions::LOAD)
@@ -100,8 +100,8 @@ pub fn put_swaps(
     i: u16,
     n: u32,
 ) -> WrittenTree
-    ensures* { λ r. ⌜ ((S : Set) (cs : List ℕ) (k : ℕ) → statement ≡ S.statement t i → nothing ≡ place_of slots.now (slot bit_zero 0 0) → n ≤ last_index
-        → Puts r (place_of slots.now) n (base_of S cs k swaps t i) out.old out.new) × (r.count ≤ tree_room) ⌝ }
+    ensures { ((S : Set) (cs : List ℕ) (k : ℕ) → statement ≡ S.statement t i → nothing ≡ place_of slots.now (slot bit_zero 0 0) → n ≤ last_index
+        → Puts result (place_of slots.now) n (base_of S cs k swaps t i) out.old out.new) × (result.count ≤ tree_room) }
 {
     let k = n as u64;
     let next = k + 1;
@@ -128,8 +128,8 @@ fn put_arithmetic(
     i: u16,
     n: u32,
 ) -> WrittenTree
-    ensures* { λ r. ⌜ ((o : Binary) (k : Kind) → operation ≡ binary_number o → 2 ≡ binary_sort o → kind ≡ kind_number k → 2 ≡ start_place (slot k t i) → n ≤ last_index
-        → Puts r (place_of slots.now) n (binary o (ref (slot accu t 0)) (ref (slot k t i))) out.old out.new) × (r.count ≤ tree_room) ⌝ }
+    ensures { ((o : Binary) (k : Kind) → operation ≡ binary_number o → 2 ≡ binary_sort o → kind ≡ kind_number k → 2 ≡ start_place (slot k t i) → n ≤ last_index
+        → Puts result (place_of slots.now) n (binary o (ref (slot accu t 0)) (ref (slot k t i))) out.old out.new) × (result.count ≤ tree_room) }
 {
     let accu = place(slots, ACCU, t, 0, start::WORD0);
     let operand = place(slots, kind, t, i, start::WORD0);
@@ -145,8 +145,8 @@ pub fn put_result(
     i: u16,
     n: u32,
 ) -> WrittenTree
-    ensures* { λ r. ⌜ ((S : Set) (cs : List ℕ) (k : ℕ) → statement ≡ S.statement t i → n ≤ last_index
-        → Puts r (place_of slots.now) n (base_of S cs k result t i) out.old out.new) × (r.count ≤ tree_room) ⌝ }
+    ensures { ((S : Set) (cs : List ℕ) (k : ℕ) → statement ≡ S.statement t i → n ≤ last_index
+        → Puts result (place_of slots.now) n (base_of S cs k result_kind t i) out.old out.new) × (result.count ≤ tree_room) }
 {
     let number = statement.number;
     match number {
@@ -175,8 +175,8 @@ pub fn put_test(
     nothing: u64,
     n: u32,
 ) -> WrittenTree
-    ensures* { λ r. ⌜ ((S : Set) (cs : List ℕ) (k t i : ℕ) (at : Slot → ℕ) → statement ≡ S.statement t i → accu ≡ at (slot accu_kind t 0) → zero ≡ at (slot word_zero 0 0) → nothing ≡ at (slot bit_zero 0 0) → n ≤ last_index
-        → Puts r at n (base_of S cs k test t i) out.old out.new) × (r.count ≤ tree_room) ⌝ }
+    ensures { ((S : Set) (cs : List ℕ) (k t i : ℕ) (at : Slot → ℕ) → statement ≡ S.statement t i → accu ≡ at (slot accu_kind t 0) → zero ≡ at (slot word_zero 0 0) → nothing ≡ at (slot bit_zero 0 0) → n ≤ last_index
+        → Puts result at n (base_of S cs k test t i) out.old out.new) × (result.count ≤ tree_room) }
 {
     let k = n as u64;
     let next = k + 1;
@@ -198,7 +198,7 @@ pub fn put_test(
 
 // The test of statement i of thread t, a conditional jump, does not hold.
 pub fn put_not_test(slots: &[u32], out: &mut [u8], t: u8, i: u16, n: u32) -> WrittenTree
-    ensures* { λ r. ⌜ (n ≤ last_index → Puts r (place_of slots.now) n (unary not1 (ref (slot test t i))) out.old out.new) × (r.count ≤ tree_room) ⌝ }
+    ensures { (n ≤ last_index → Puts result (place_of slots.now) n (unary not1 (ref (slot test t i))) out.old out.new) × (result.count ≤ tree_room) }
 {
     let holds = place(slots, TEST, t, i, start::BIT0);
     put_one(out, n, NOT, BIT, holds, 0, 0)
@@ -215,8 +215,8 @@ pub fn put_flag(
     i: u16,
     n: u32,
 ) -> WrittenTree
-    ensures* { λ r. ⌜ ((S : Set) (cs : List ℕ) (k : ℕ) → statement ≡ S.statement t i → executes ≡ place_of slots.now (slot choice 0 t) → zero ≡ place_of slots.now (slot bit_zero 0 0) → n ≤ last_index
-        → Puts r (place_of slots.now) n (base_of S cs k flag t i) out.old out.new) × (r.count ≤ tree_room) ⌝ }
+    ensures { ((S : Set) (cs : List ℕ) (k : ℕ) → statement ≡ S.statement t i → executes ≡ place_of slots.now (slot choice 0 t) → zero ≡ place_of slots.now (slot bit_zero 0 0) → n ≤ last_index
+        → Puts result (place_of slots.now) n (base_of S cs k flag t i) out.old out.new) × (result.count ≤ tree_room) }
 {
     let number = statement.number;
     if (number == instructions::HALT) | (number == instructions::EXIT) {
@@ -228,7 +228,7 @@ pub fn put_flag(
 
 // The argument of a statement.
 pub fn put_argument(statement: Statement, out: &mut [u8], n: u32) -> WrittenTree
-    ensures* { λ r. ⌜ ((S : Set) (at : Slot → ℕ) (cs : List ℕ) (k t i : ℕ) → statement ≡ S.statement t i → Puts r at n (base_of S cs k argument t i) out.old out.new) × (r.count ≤ tree_room) ⌝ }
+    ensures { ((S : Set) (at : Slot → ℕ) (cs : List ℕ) (k t i : ℕ) → statement ≡ S.statement t i → Puts result at n (base_of S cs k argument t i) out.old out.new) × (result.count ≤ tree_room) }
 {
     put_constant(out, n, statement.argument)
 }

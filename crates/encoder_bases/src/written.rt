@@ -13,7 +13,7 @@ use table::Formula;
 use table::operations::{AND, BIT, CONSTANT, EQUAL, IF, READ, WORD};
 
 // How many records were written, and the index of the tree that they are of.
-#[derive(Drop)]
+#[derive(Clone, Copy)]
 pub struct WrittenTree {
     pub count: u32,
     pub root: u64,
@@ -122,7 +122,7 @@ pub fn put_three(
 }
 
 // Where the values lie that every load of a thread uses.
-#[derive(Drop)]
+#[derive(Clone, Copy)]
 pub struct Load {
     pub full: u64,
     pub adr: u64,

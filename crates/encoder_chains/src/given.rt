@@ -22,7 +22,7 @@ const LAST: u8 = set_index::members::CLASSES - 1;
 
 // A class whose statements give the links of a chain: if the bit of kind `test` holds, then the statement's own word of kind `effect`;
 // where that is not its own, bit 1 or its thread's accu, by the sort.
-#[derive(Drop)]
+#[derive(Clone, Copy)]
 pub struct Giver {
     pub class: u8,
     pub test: u8,

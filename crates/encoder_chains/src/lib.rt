@@ -1,4 +1,6 @@
 // The links of a table's chains, and chains written over a tree (crate encoding: `link`, `links`, `chain`).
+#![tactic(auto)]
+
 pub mod chains;
 pub mod edges;
 mod given;
@@ -9,7 +11,7 @@ pub use given::given_chain;
 pub use written::{Root, put_link};
 
 // A link over what stands so far; operation NONE is none.
-#[derive(Drop)]
+#[derive(Clone, Copy)]
 pub struct Link {
     pub operation: u8,
     pub sort: u8,

@@ -12,7 +12,7 @@ use table::Formula;
 use table::operations::IF;
 
 // A tree written: the next index, and the tree's own.
-#[derive(Drop)]
+#[derive(Clone, Copy)]
 pub struct Root {
     pub next: u32,
     pub at: u64,

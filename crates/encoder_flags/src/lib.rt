@@ -1,5 +1,7 @@
 // The flags of a thread's statements, which say the next one, each with the links of the statements that lead to it.
 // A thread's statements stand from record `first` of the set on: the layout is read once.
+#![tactic(auto)]
+
 ghost use Rattle.std.specs.Prelude.{◌≡◌, List, [], ℕ, ◌+◌, ◌-◌, ◌≤◌, ◌<◌, get_or};
 ghost use Rattle.records.specs.Sets.{Set, set_by, most_threads, most_statements};
 ghost use Rattle.encoding.specs.Slots.{slot, Term, choice, flag as flag_kind, bit_zero};
@@ -33,7 +35,7 @@ fn past(lists: &[u8], t: u8, hit: u16, i: u16) -> u16
 }
 
 // A tree with links, and the jump to go on with.
-#[derive(Drop)]
+#[derive(Clone, Copy)]
 struct Named {
     tree: Root,
     hit: u16,

@@ -1,4 +1,6 @@
 // The values of checkpoints: which are open, which threads wait, and each thread's marks.
+#![tactic(auto)]
+
 ghost use Rattle.std.specs.Prelude.{◌≡◌, true, List, ℕ, ◌+◌, ◌*◌, ◌≤◌, ◌<◌, length};
 ghost use Rattle.records.specs.Sets.{Set, most_threads, most_checkpoints};
 ghost use Rattle.encoding.specs.Slots.{kind_at, opening as opening_kind, waits as waits_kind};

@@ -1,4 +1,6 @@
 // The size of a table in closed form (docs/TABLE.md, "The size"): of one step, and of the whole table.
+#![tactic(auto)]
+
 ghost use Rattle.std.specs.Prelude.{◌≡◌, cond, ℕ, ◌+◌, ◌*◌, ◌≤◌, eqb, length, get_or};
 ghost use Rattle.base.specs.Below.{number as number_below};
 ghost use Rattle.records.specs.Maps.{cells, set_cells};

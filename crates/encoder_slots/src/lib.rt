@@ -1,4 +1,6 @@
 // The places of a table's values in an array, and the kinds by number.
+#![tactic(auto)]
+
 ghost use Rattle.std.specs.Prelude.{◌≡◌, ◌<◌, length};
 ghost use Rattle.base.specs.Below.{number};
 ghost use Rattle.table.specs.Programs.{put};

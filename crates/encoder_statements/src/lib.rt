@@ -1,8 +1,10 @@
 // The values that each statement has, written for one thread. Each kind has its own loop: one loop for all kinds, which
 // tests the kind for each value, is too slow.
+#![tactic(auto)]
+
 ghost use Rattle.std.specs.Prelude.{◌≡◌, true, List, ℕ, ◌+◌, ◌≤◌, ◌<◌, length};
 ghost use Rattle.records.specs.Sets.{Set, set_by, most_threads, most_statements};
-ghost use Rattle.encoding.specs.Slots.{Slot, kind_at, active, address, loaded, swaps, result, test, not_test, argument, kind_count};
+ghost use Rattle.encoding.specs.Slots.{Slot, kind_at, active, address, loaded, swaps, result as result_kind, test, not_test, argument, kind_count};
 ghost use Rattle.encoding.specs.Steps.{base as base_of, entry as entry_of, line as line_of};
 ghost use Rattle.encoder_slots.specs.Places.{place_of, size};
 ghost use Rattle.encoder_slots.specs.Pieces.{Writes, Ready, line_room, tree_room};
@@ -22,12 +24,12 @@ const LIMIT: u32 = Formula::LAST - LINE;
 // Sets the place of a value whose tree was written from index n on; gives the next index.
 fn settle(slots: &mut [u32], kind: u8, t: u8, i: u16, n: u32, tree: WrittenTree) -> u32
     requires { (n + tree_room ≤ last_index) × (tree.count ≤ tree_room) }
-    ensures* { λ r. ⌜ ((S : Set) (cs : List ℕ) (k : ℕ) (out after : List ℕ) → kind < kind_count → of_statement kind ≡ true → t < most_threads → i < most_statements
+    ensures { ((S : Set) (cs : List ℕ) (k : ℕ) (out after : List ℕ) → kind < kind_count → of_statement kind ≡ true → t < most_threads → i < most_statements
         → length slots.old ≡ size → ((s : Slot) → place_of slots.old s < n)
         → Puts tree (place_of slots.old) n (base_of S cs k (kind_at kind) t i) out after
-        → Writes (entry_of S cs k (kind_at kind) t i) out slots.old n after slots.new r)
+        → Writes (entry_of S cs k (kind_at kind) t i) out slots.old n after slots.new result)
         × (length slots.new ≡ length slots.old)
-        × (r ≤ n + tree_room) ⌝ }
+        × (result ≤ n + tree_room) }
 {
     encoder_slots::set_place(slots, kind, t, i, tree.root);
     n + tree.count
@@ -44,7 +46,7 @@ fn actives(
     n: u32,
 ) -> u32
     requires { (count ≤ most_statements) × (t < most_threads) × (n + line_room ≤ last_index) × (length slots.old ≡ size) }
-    ensures* { λ r. ⌜ (Line active set.now first count t out.old slots.old n out.new slots.new r) × (r ≤ n + line_room) ⌝ }
+    ensures { (Line active set.now first count t out.old slots.old n out.new slots.new result) × (result ≤ n + line_room) }
 {
     let executes = encoder_slots::place(slots, kinds::CHOICE, 0, t as u16, start::BIT0);
     let mut next = n;
@@ -68,7 +70,7 @@ fn addresses(
     n: u32,
 ) -> u32
     requires { (count ≤ most_statements) × (t < most_threads) × (n + line_room ≤ last_index) × (length slots.old ≡ size) }
-    ensures* { λ r. ⌜ (Line address set.now first count t out.old slots.old n out.new slots.new r) × (r ≤ n + line_room) ⌝ }
+    ensures { (Line address set.now first count t out.old slots.old n out.new slots.new result) × (result ≤ n + line_room) }
 {
     let load = encoder_bases::load_of(slots, t);
     let mut next = n;
@@ -93,7 +95,7 @@ fn loads(
     n: u32,
 ) -> u32
     requires { (t < most_threads) × (n + line_room ≤ last_index) × (length slots.old ≡ size) }
-    ensures* { λ r. ⌜ (Listed loaded set.now members.now first t out.old slots.old n out.new slots.new r) × (r ≤ n + line_room) ⌝ }
+    ensures { (Listed loaded set.now members.now first t out.old slots.old n out.new slots.new result) × (result ≤ n + line_room) }
 {
     let load = encoder_bases::load_of(slots, t);
     let nothing = encoder_slots::place(slots, kinds::WORD_ZERO, 0, 0, start::WORD0);
@@ -121,7 +123,7 @@ fn swaps(
     n: u32,
 ) -> u32
     requires { (t < most_threads) × (n + line_room ≤ last_index) × (length slots.old ≡ size) }
-    ensures* { λ r. ⌜ (Listed swaps set.now members.now first t out.old slots.old n out.new slots.new r) × (r ≤ n + line_room) ⌝ }
+    ensures { (Listed swaps set.now members.now first t out.old slots.old n out.new slots.new result) × (result ≤ n + line_room) }
 {
     let nothing = encoder_slots::place(slots, kinds::BIT_ZERO, 0, 0, start::BIT0);
     let mut next = n;
@@ -148,7 +150,7 @@ fn results(
     n: u32,
 ) -> u32
     requires { (t < most_threads) × (n + line_room ≤ last_index) × (length slots.old ≡ size) }
-    ensures* { λ r. ⌜ (Listed result set.now members.now first t out.old slots.old n out.new slots.new r) × (r ≤ n + line_room) ⌝ }
+    ensures { (Listed result_kind set.now members.now first t out.old slots.old n out.new slots.new result) × (result ≤ n + line_room) }
 {
     let mut next = n;
     let computing = set_index::members::count_of(members, set_index::members::SETS_ACCU, t);
@@ -174,7 +176,7 @@ fn tests(
     n: u32,
 ) -> u32
     requires { (t < most_threads) × (n + line_room ≤ last_index) × (length slots.old ≡ size) }
-    ensures* { λ r. ⌜ (Listed test set.now members.now first t out.old slots.old n out.new slots.new r) × (r ≤ n + line_room) ⌝ }
+    ensures { (Listed test set.now members.now first t out.old slots.old n out.new slots.new result) × (result ≤ n + line_room) }
 {
     let accu = encoder_slots::place(slots, kinds::ACCU, t, 0, start::WORD0);
     let zero = encoder_slots::place(slots, kinds::WORD_ZERO, 0, 0, start::WORD0);
@@ -195,7 +197,7 @@ fn tests(
 // Whether the test of each statement does not hold; those that are no conditional jump have this bit already.
 fn not_tests(members: &[u8], slots: &mut [u32], out: &mut [u8], t: u8, n: u32) -> u32
     requires { (t < most_threads) × (n + line_room ≤ last_index) × (length slots.old ≡ size) }
-    ensures* { λ r. ⌜ ((set : List ℕ) (first : ℕ) → Listed not_test set members.now first t out.old slots.old n out.new slots.new r) × (r ≤ n + line_room) ⌝ }
+    ensures { ((set : List ℕ) (first : ℕ) → Listed not_test set members.now first t out.old slots.old n out.new slots.new result) × (result ≤ n + line_room) }
 {
     let mut next = n;
     let not_tested = set_index::members::count_of(members, set_index::members::IS_CONDITIONAL, t);
@@ -220,7 +222,7 @@ fn arguments(
     n: u32,
 ) -> u32
     requires { (count ≤ most_statements) × (t < most_threads) × (n + line_room ≤ last_index) × (length slots.old ≡ size) }
-    ensures* { λ r. ⌜ (Line argument set.now first count t out.old slots.old n out.new slots.new r) × (r ≤ n + line_room) ⌝ }
+    ensures { (Line argument set.now first count t out.old slots.old n out.new slots.new result) × (result ≤ n + line_room) }
 {
     let mut next = n;
     let mut i: u16 = 0;
@@ -245,10 +247,10 @@ pub fn statement_line(
     t: u8,
     n: u32,
 ) -> u32
-    ensures* { λ r. ⌜ ((cs lists : List ℕ) (k : ℕ) → of_statement kind ≡ true → t < most_threads → n + line_room ≤ last_index
+    ensures { ((cs lists : List ℕ) (k : ℕ) → of_statement kind ≡ true → t < most_threads → n + line_room ≤ last_index
         → Ready (set_by set.now layout) cs members.now lists slots.old n
-        → Writes (line_of (set_by set.now layout) cs k (kind_at kind) t) out.old slots.old n out.new slots.new r)
-        × (r ≤ n + line_room) ⌝ }
+        → Writes (line_of (set_by set.now layout) cs k (kind_at kind) t) out.old slots.old n out.new slots.new result)
+        × (result ≤ n + line_room) }
 {
     if THREADS <= t {
         return n;

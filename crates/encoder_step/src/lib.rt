@@ -1,4 +1,6 @@
 // One step of a table, written kind by kind, and what the steps share.
+#![tactic(auto)]
+
 ghost use Rattle.std.specs.Prelude.{◌≡◌, true, false, List, [], ◌∷◌, ℕ, ◌+◌, ◌*◌, ◌≤◌, ◌<◌, length};
 ghost use Rattle.records.specs.Sets.{Set, set_by, most_threads, most_checkpoints};
 ghost use Rattle.table.specs.Programs.{needs};

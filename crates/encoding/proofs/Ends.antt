@@ -38,9 +38,9 @@ twice : (a b : Bool) (A B : Value) → cond a (cond b A B) B ≡ cond (a && b) A
 twice true b A B = refl
 twice false b A B = refl
 
-exits_by : (S : Set) (s : State) (c : Choice) → (executing c && eqb (current S s (actor c)).number EXIT) ≡ exits_by S s c
-exits_by S s (Execute t) = refl
-exits_by S s (Flush t) = refl
+exits_by_lem : (S : Set) (s : State) (c : Choice) → (executing c && eqb (current S s (actor c)).number EXIT) ≡ exits_by S s c
+exits_by_lem S s (Execute t) = refl
+exits_by_lem S s (Flush t) = refl
 
 module _ (S : Set) (cs : List ℕ) (g : Assignment) (k : ℕ) (slots : Slot → Value) (s : State) (c : Choice) (given : Given S cs g k slots s c) where
   abbrev at : ℕ → Slot → Value
@@ -50,7 +50,7 @@ module _ (S : Set) (cs : List ℕ) (g : Assignment) (k : ℕ) (slots : Slot → 
   exiting t = eqb (current S s t).number EXIT
 
   exits-is : (u : ℕ) → u < S.threads → (g.choice k 0 u && exiting u) ≡ (eqb (actor c) u && exits_by S s c)
-  exits-is u hu = ap (λ b. b && exiting u) (executes-is S cs g k slots s c given u hu) ∙ (go (eqb (actor c) u) refl ∙ ap (λ b. eqb (actor c) u && b) (exits_by S s c))
+  exits-is u hu = ap (λ b. b && exiting u) (executes-is S cs g k slots s c given u hu) ∙ (go (eqb (actor c) u) refl ∙ ap (λ b. eqb (actor c) u && b) (exits_by_lem S s c))
     where
       go : (b : Bool) → eqb (actor c) u ≡ b → ((b && executing c) && exiting u) ≡ (b && (executing c && exiting (actor c)))
       go true h = ap (λ v. executing c && exiting v) (sym (eqb-true (actor c) u h))

@@ -12,7 +12,7 @@ use Rattle.machine.specs.Machine.{State, permitted}
 use Rattle.machine.specs.declared.Choice.{Choice}
 use Rattle.table.specs.Programs.{tree_value, values_after}
 use Rattle.table.specs.Values.{Assignment, Value}
-use Rattle.encoding.specs.Slots.{Kind, none, one_permitted, Slot, slot, same, kind_number, kind_at}
+use Rattle.encoding.specs.Slots.{Kind, Slot, slot, same, kind_number, kind_at}
 use Rattle.encoding.specs.Steps.{shape, tree, base, links, link, rows, columns, kept, block}
 use Rattle.encoding.proofs.KindNumbers.{kind_at_lem, kind_number_lem}
 use Rattle.encoding.proofs.Blocks.{links_value, chain-value, others, through, through-none, through-next}

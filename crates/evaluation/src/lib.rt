@@ -1,4 +1,6 @@
 // The values of a table's records under the assignment of a model, in work memory behind the table's bytes: each record's as a word.
+#![tactic(auto)]
+
 ghost use Rattle.std.specs.Prelude.{◌≡◌, true, cond, ◌+◌, ◌*◌, ◌≤◌, ◌<◌, length};
 ghost use Rattle.records.specs.Maps.{map_value, map_accepted, run_cells};
 ghost use Rattle.table.specs.Formulas.{long_at};

@@ -19,7 +19,7 @@ use Rattle.listing_output.specs.Listings.{text, places, decimal, name, argument,
 use Rattle.listing.specs.Texts.{listing_of}
 
 example :
-    listing_of (text "ADDI 1\n_store 0\n.\n_load 0\n_jz 3\n_exit 0\n_exit 7\n.\n0 0\n")
+    listing_of (text "ADDI 1\nSTORE 0\n.\nLOAD 0\nJZ 3\nEXIT 0\nEXIT 7\n.\n0 0\n")
     ≡ text "0 0 ADDI 1 0 0 0 0 0 {}\n"
     ++ text "0 1 STORE 0 1 0 0 0 0 {}\n"
     ++ text "1 0 LOAD 0 0 0 0 0 0 {}\n"

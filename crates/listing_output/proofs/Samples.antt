@@ -1,6 +1,5 @@
 -- Listings computed by the definition: document 01's own, and one for each last line and each form of an item. Assumes nothing.
 use Prim.Native.Nat.{ℕ, zero, suc}
-use Prim.Native.String.{String}
 use mathlib.Core.Path.{◌≡◌, refl}
 use mathlib.Core.List.{List, [], ◌∷◌, ◌++◌, map}
 use Rattle.base.specs.Below.{every, some, number, least}

@@ -11,7 +11,7 @@ use Rattle.records.specs.Instructions.{words, word_of}
 use Rattle.records.specs.Sets.{Set}
 use Rattle.records.specs.declared.Statement.{Statement}
 use Rattle.machine.specs.Machine.{State, actor}
-use Rattle.machine.specs.Traces.{bit, shown, effective, step_bytes, trace_step}
+use Rattle.machine.specs.Traces.{bit, shown, step_bytes, trace_step}
 use Rattle.machine.specs.declared.Choice.{Choice}
 use Rattle.machine.specs.declared.Thread.{Thread}
 use Rattle.machine.specs.declared.Written.{Written}
@@ -29,9 +29,9 @@ two_bytes : (n : ℕ) → n % 256 + 256 * (n / 256) ≡ n
 two_bytes n = omega (arith, div-add-mod' n 256)
 
 -- the bytes of a trace step give its line
-line_of_bytes : (t : ℕ) (i : Statement) (x : Thread) (w : Written) (a : ℕ) → line_at (step_bytes t i x w a) ≡ line_of t i x w
+line_of_bytes : (t : ℕ) (i : Statement) (x : Thread) (w : Written) → line_at (step_bytes t i x w) ≡ line_of t i x w
 unfolding line_at line_of step_bytes
-line_of_bytes t i x w a =
+line_of_bytes t i x w =
     λ k.
     (item (decimal t) ++ item (decimal (two_bytes x.pc k)) ++ item (name i.number)
     ++ item (argument (record { number = i.number; mode = i.mode; argument = two_bytes i.argument k })))
@@ -42,4 +42,4 @@ line_of_bytes t i x w a =
 
 pub line_of_step : (S : Set) (s : State) (w : Written) (c : Choice) → line_at (trace_step S s w c) ≡ line S s w c
 unfolding trace_step line
-line_of_step S s w c = line_of_bytes (actor c) (shown S s c) (s.threads (actor c)) w (effective S s c)
+line_of_step S s w c = line_of_bytes (actor c) (shown S s c) (s.threads (actor c)) w

@@ -1,5 +1,7 @@
 // What the listing program prints for a set and a map: a line for each step, then the last line.
 // It finds each choice by simulation: a schedule byte that is not permitted is refused with 12.
+#![tactic(auto)]
+
 mod lines;
 mod output;
 

@@ -1,9 +1,8 @@
--- Laws of the machine's definitions, which the proofs of this crate and of those above cite, and replayed steps as samples.
+-- Laws of the machine's definitions, which the proofs of this crate and of those above cite.
 pub mod Four
 pub mod Groups
 pub mod Loads
 pub mod Marked
 pub mod Marks
-pub mod Permitted
 pub mod Runs
-mod Samples
+pub mod Permitted

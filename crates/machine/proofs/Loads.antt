@@ -16,8 +16,8 @@ use Rattle.machine.specs.declared.Thread.{Thread}
 module _ (x : Thread) (memory : ℕ → ℕ) (known : ℕ → Bool) (a : ℕ) where
   -- ---- a load
 
-  pub load-forwarded : forwards x a ≡ true → (true ≡ (forwards x a || known a)) × (x.val ≡ load x memory a) × (false ≡ not (forwards x a))
-  load-forwarded f = (sym (or_true (known a) f), sym (chosen _ _ f), sym (ap not f))
+  pub load_forwarded : forwards x a ≡ true → (true ≡ (forwards x a || known a)) × (x.val ≡ load x memory a) × (false ≡ not (forwards x a))
+  load_forwarded f = (sym (or_true (known a) f), sym (chosen _ _ f), sym (ap not f))
 
   pub load_cell : forwards x a ≡ false → (known a ≡ (forwards x a || known a)) × (memory a ≡ load x memory a) × (true ≡ not (forwards x a))
   load_cell f = (sym (ap (λ (b : Bool). b || known a) f), sym (passed _ _ f), sym (ap not f))
@@ -41,10 +41,10 @@ module _ (i : Statement) (x : Thread) (memory : ℕ → ℕ) (known : ℕ → Bo
       sym (ap (λ (b : Bool). b && not (forwards x i.argument)) (and_true m (eq-eqb _ _ e))),
     )
 
-    pub address-direct : (i.mode ≡ 1 → ⊥) →
+    pub address_direct : (i.mode ≡ 1 → ⊥) →
         (true ≡ (not (reads_argument i x) || known i.argument)) × (i.argument ≡ address i x memory) × (false ≡ reads_argument i x)
     unfolding address
-    address-direct f = (
+    address_direct f = (
       sym (ap (λ (b : Bool). not b || known i.argument) (and_false (not (forwards x i.argument)) (and_right_false (is_memory i.number) (ne_eqb _ _ f)))),
       sym (chosen _ _ m ∙ passed _ _ (ne_eqb _ _ f)),
       sym (and_false (not (forwards x i.argument)) (and_right_false (is_memory i.number) (ne_eqb _ _ f))),
@@ -117,7 +117,6 @@ module _ (i : Statement) (x : Thread) (memory : ℕ → ℕ) (known : ℕ → Bo
   -- a statement that is no memory word takes nothing at all
   pub plain : is_memory i.number ≡ false →
       (true ≡ knows_all known (cells_read i x memory)) × (0 ≡ address i x memory) × (0 ≡ word_taken i x memory) × ([] ≡ cells_read i x memory)
-      × (true ≡ (not (reads_argument i x) || known i.argument))
   unfolding address cells_read
   plain f =
       let t : takes_word i.number ≡ false = and_false (not (eqb i.number STORE)) f in
@@ -126,5 +125,4 @@ module _ (i : Statement) (x : Thread) (memory : ℕ → ℕ) (known : ℕ → Bo
         sym (passed _ _ f),
         (word_none t).1,
         ap₂ (λ (b c : Bool). cond b (i.argument ∷ []) [] ++ cond c (address i x memory ∷ []) []) (sym r) (word_none t).2,
-        sym (ap (λ (b : Bool). not b || known i.argument) r),
       )

@@ -2,24 +2,21 @@
 -- show of their runs. Assumes nothing.
 use Prim.Native.Nat.{ℕ, zero, suc, ◌+◌, ◌-◌, ◌*◌, ◌≤◌, ◌<◌}
 use mathlib.Core.Path.{◌≡◌, refl, ap, ap₂, sym, ◌∙◌, subst, subst⁻¹}
-use mathlib.Core.Bool.{Bool, true, false, cond, not, ◌&&◌, ◌||◌}
+use mathlib.Core.Bool.{Bool, true, false, cond, not, ◌||◌}
 use mathlib.Core.List.{List, [], ◌∷◌, ◌++◌}
 use native.Mathlib.Omega.{arith}
 use native.Mathlib.Decide.{dec_lt}
 use lib.Dec.{eqb, ltb}
 use lib.ListN.{length, take, drop, length-append}
-use lib.Seq.{take_at, drop_at, drop-drop, get_or-take}
+use lib.Seq.{take_at, drop_at, get_or-take}
 use borrow.Author.Tests.{ltb-true, ltb-false, lt-ltb, le-ltb, eqb-true, ne_eqb}
-use Rattle.base.specs.Bytes.{same}
-use Rattle.base.proofs.Bytes.{same_parts}
-use Rattle.base.proofs.Choice.{chosen, passed, and_true, and_left, and_right, and_yes, clash}
+use Rattle.base.proofs.Choice.{chosen, passed, and_true, and_left, and_right, clash}
 use Rattle.records.specs.Instructions.{JMP, JZ, JNZ, JS, JNS, JNZNS, HALT, EXIT, instructions, is_jump, is_last}
 use Rattle.records.specs.Sets.{Set, WellFormedSet}
 use Rattle.machine.specs.Machine.{State, start, current, jumps, next_pc, executed, permitted, actor, acted, written, reads, step}
 use Rattle.machine.specs.Runs.{flush_byte, choice_of, choices, takes, is_run, after, end_of}
-use Rattle.machine.specs.Maps.{Held, knows_all, address_known, word_known, outcome, advanced, on_outcome, follow}
-use Rattle.machine.specs.Traces.{bit, shown, step_bytes, trace_step, same_fields, same_address, trace, step_choice, step_length}
-use Rattle.machine.proofs.Loads.{knows-cells}
+use Rattle.machine.specs.Maps.{Held, knows_all, outcome, advanced, on_outcome, follow}
+use Rattle.machine.specs.Traces.{bit, shown, step_bytes, trace_step, trace, step_choice, step_length}
 use Rattle.machine.specs.declared.RunAnswer.{RunAnswer}
 use Rattle.machine.specs.declared.RunAnswer.TheVariants.{Ran, Refused}
 use Rattle.machine.specs.declared.Choice.{Choice}
@@ -373,26 +370,6 @@ not-permitted-takes S h c = go (takes S h.state c) (knows_all h.known (reads S h
     go false b e = refl
     go true true e = cc
     go true false e = cc
-
--- the cells that a step reads are known where those of its address word and of its data word are
-pub knows_both : (S : Set) (h : Held) (c : Choice) → knows_all h.known (reads S h.state c) ≡ (address_known S h c && word_known S h c)
-unfolding reads address_known word_known
-knows_both S h (Execute t) = knows-cells (current S h.state t) (h.state.threads t) h.state.memory h.known
-knows_both S h (Flush t) = refl
-
--- two records are the same where their other fields are and their effective addresses are
-pub same_step : (one other : List ℕ) → same one other ≡ (same_fields one other && same_address one other)
-same_step one other =
-    same_parts 22 one other
-    ∙ ap (λ (b : Bool). same (take 22 one) (take 22 other) && b)
-    (same_parts 2 (drop 22 one) (drop 22 other) ∙ ap₂ (λ (xs ys : List ℕ). same_address one other && same xs ys) (drop-drop 2 22 one) (drop-drop 2 22 other))
-    ∙ turned (same (take 22 one) (take 22 other)) (same_address one other) (same (drop 24 one) (drop 24 other))
-  where
-    turned : (p q r : Bool) → (p && (q && r)) ≡ (p && r && q)
-    turned true true r = sym (and_yes r)
-    turned true false true = refl
-    turned true false false = refl
-    turned false q r = refl
 
 -- a bit as a number is 1 where it holds
 pub bit_is : (b : Bool) → eqb (bit b) 1 ≡ b

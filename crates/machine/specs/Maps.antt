@@ -1,15 +1,15 @@
 -- Runs over a map: the same machine, with the cells that are mapped or written known, by choices or along a trace (document 01, "Records", refusals
--- 12 to 14; of effective addresses change request 2026-07). A reader of the calls believes this. Assumes nothing.
-use Rattle.std.specs.Prelude.{ℕ, zero, suc, Bool, true, cond, not, ◌&&◌, ◌||◌, List, [], ◌∷◌, eqb, take, drop}
+-- 12 to 14). A reader of the calls believes this. Assumes nothing.
+use Rattle.std.specs.Prelude.{ℕ, zero, suc, Bool, true, cond, ◌&&◌, ◌||◌, List, [], ◌∷◌, eqb, take, drop}
+use Rattle.base.specs.Bytes.{same}
 use Rattle.records.specs.Maps.{mapped, map_value}
 use Rattle.records.specs.Sets.{Set}
-use Rattle.machine.specs.Machine.{State, start, address, reads_argument, reads_address, current, step, written, reads}
+use Rattle.machine.specs.Machine.{State, start, step, written, reads}
 use Rattle.machine.specs.Runs.{takes, end_of}
-use Rattle.machine.specs.Traces.{step_length, trace_step, same_fields, same_address, step_choice}
+use Rattle.machine.specs.Traces.{step_length, trace_step, step_choice}
 use Rattle.machine.specs.declared.RunAnswer.{RunAnswer}
 use Rattle.machine.specs.declared.RunAnswer.TheVariants.{Ran, Refused}
 use Rattle.machine.specs.declared.Choice.{Choice}
-use Rattle.machine.specs.declared.Choice.TheVariants.{Execute, Flush}
 use Rattle.machine.specs.declared.Outcome.{Outcome}
 use Rattle.machine.specs.declared.Outcome.TheVariants.{Taken, NotPermitted, Lacking}
 use Rattle.machine.specs.declared.Written.{Written}
@@ -54,39 +54,13 @@ unfoldable pub follow : Set → Held → ℕ → List Choice → RunAnswer
 follow S h i [] = Ran i (end_of S h.state)
 follow S h i (c ∷ run) = on_outcome (outcome S h c) i (follow S (advanced S h c) (suc i) run)
 
--- ---- along a trace
-
--- the cell of a step's address word is known, where it is read
-unfoldable pub address_known : Set → Held → Choice → Bool
-address_known S h (Execute t) =
-    let i = current S h.state t in
-    not (reads_argument i (h.state.threads t)) || h.known i.argument
-address_known S h (Flush t) = true
-
--- the cell of its data word is known, where it is read
-unfoldable pub word_known : Set → Held → Choice → Bool
-word_known S h (Execute t) =
-    let i = current S h.state t in
-    let x = h.state.threads t in
-    let a = address i x h.state.memory in
-    not (reads_address i x a) || h.known a
-word_known S h (Flush t) = true
-
--- where a test holds the rest, else a refusal at step i
-abbrev pub demands : Bool → (number i : ℕ) → RunAnswer → RunAnswer
-demands test number i rest = cond test rest (Refused number i)
-
--- n steps of a trace from step i on, w what the step before wrote. In each: 12; 13 for every byte but 22 and 23; 14 where the address word's
--- cell is lacking; 13 for bytes 22 and 23; 14 where the data word's cell is lacking.
+-- n steps of a trace from step i on, w what the step before wrote: in each 12, then 13 where a field differs, then 14
 unfoldable pub retrace : Set → Held → Written → ℕ → ℕ → List ℕ → RunAnswer
 retrace S h w i zero bytes = Ran i (end_of S h.state)
 retrace S h w i (suc n) bytes =
     let c = step_choice bytes in
-    let given = take step_length bytes in
-    let right = trace_step S h.state w c in
-    demands (takes S h.state c) 12 i
-    (demands (same_fields given right) 13 i
-    (demands (address_known S h c) 14 i
-    (demands (same_address given right) 13 i
-    (demands (word_known S h c) 14 i
-    (retrace S (advanced S h c) (written S h.state c) (suc i) n (drop step_length bytes))))))
+    cond (takes S h.state c)
+    (cond (same (take step_length bytes) (trace_step S h.state w c))
+    (on_outcome (outcome S h c) i (retrace S (advanced S h c) (written S h.state c) (suc i) n (drop step_length bytes)))
+    (Refused 13 i))
+    (Refused 12 i)

@@ -1,4 +1,6 @@
 // The machine: its types, checkpoints, a sparse memory, what a statement takes and which choices are permitted. The rule that simulation, replay, encoder and decoder stand on.
+#![tactic(auto)]
+
 pub mod checkpoints;
 pub mod choices;
 pub mod memory;
@@ -12,7 +14,7 @@ ghost use Rattle.machine.specs.Machine.{fresh};
 use records::Layout;
 
 // A thread's registers, words first: a gap between fields would be copied with them.
-#[derive(Drop)]
+#[derive(Clone, Copy)]
 pub struct Thread {
     pub accu: u16,
     pub mem: u16,
@@ -24,21 +26,21 @@ pub struct Thread {
 }
 
 // Where a thread is marked, if it is.
-#[derive(Drop)]
+#[derive(Clone, Copy)]
 pub struct Mark {
     pub on: bool,
     pub checkpoint: u16,
 }
 
 // A step: one thread executing or one thread flushing.
-#[derive(Drop)]
+#[derive(Clone, Copy)]
 pub enum Choice {
     Execute(u8),
     Flush(u8),
 }
 
 // The cell that a step wrote, if it wrote one.
-#[derive(Drop)]
+#[derive(Clone, Copy)]
 pub struct Written {
     pub done: bool,
     pub address: u16,
@@ -46,7 +48,7 @@ pub struct Written {
 }
 
 // The machine apart from its memory.
-#[derive(Drop)]
+#[derive(Clone, Copy)]
 pub struct Machine {
     pub threads: [Thread; Layout::THREADS],
     pub marks: [Mark; Layout::THREADS],
@@ -55,7 +57,7 @@ pub struct Machine {
 }
 
 // How a step came out: taken, not permitted, or a cell read that is not known.
-#[derive(Drop)]
+#[derive(Clone, Copy)]
 pub enum Outcome {
     Taken,
     NotPermitted,
@@ -63,7 +65,7 @@ pub enum Outcome {
 }
 
 // The cells that a step read: its address word's, where that is read from a cell, then the word's it took.
-#[derive(Drop)]
+#[derive(Clone, Copy)]
 pub struct Read {
     pub argument: bool,
     pub first: u16,
@@ -72,7 +74,7 @@ pub struct Read {
 }
 
 // How a run stands: ended with a code, stuck, or open.
-#[derive(Drop)]
+#[derive(Clone, Copy)]
 pub enum End {
     Code(u16),
     Stuck,
@@ -80,7 +82,7 @@ pub enum End {
 }
 
 // What simulation and replay answer.
-#[derive(Drop)]
+#[derive(Clone, Copy)]
 pub enum RunAnswer {
     Ran { steps: u16, end: End },
     Refused { number: u8, place: u32 },

@@ -9,7 +9,7 @@ ghost use Rattle.machine.specs.Held.{memory_in, known_in};
 const GROUP: usize = 16;
 
 // A word that a statement takes: whether it is known, its value (0 where it is not), and whether it was read from its cell.
-#[derive(Drop)]
+#[derive(Clone, Copy)]
 pub struct Word {
     pub known: bool,
     pub value: u16,

@@ -1,5 +1,4 @@
-// Where the fields of a trace step stand in its bytes. WROTE, ADDRESS and VALUE are of the cell that the previous step wrote, EFFECTIVE is the
-// address of the step's own statement.
+// Where the fields of a trace step stand in its bytes; the last three are of the cell that the previous step wrote.
 pub const THREAD: usize = 0;
 
 pub const NUMBER: usize = 1;
@@ -25,5 +24,3 @@ pub const WROTE: usize = 16;
 pub const ADDRESS: usize = 18;
 
 pub const VALUE: usize = 20;
-
-pub const EFFECTIVE: usize = 22;

@@ -10,11 +10,10 @@ use crate::{Read, Thread, memory};
 use records::Statement;
 use records::instructions::{CAS, STORE};
 
-// The address of a memory word and the word it takes; known where each cell that it reads is, addressed where that of its address word is.
-#[derive(Drop)]
+// The address of a memory word and the word it takes; known where each cell that it reads is.
+#[derive(Clone, Copy)]
 pub struct Operand {
     pub known: bool,
-    pub addressed: bool,
     pub address: u16,
     pub word: u16,
     pub read: Read,
@@ -68,7 +67,7 @@ fn word(i: Statement, x: Thread, addresses: &[u16], values: &[u16], a: u16) -> W
 
 // Nothing taken.
 pub fn none() -> Operand
-    ensures { (result.known ≡ true) × (result.address ≡ 0) × (result.word ≡ 0) × (result.read ≡ no_read) × (result.addressed ≡ true) }
+    ensures { (result.known ≡ true) × (result.address ≡ 0) × (result.word ≡ 0) × (result.read ≡ no_read) }
 {
     let read = Read {
         argument: false,
@@ -78,7 +77,6 @@ pub fn none() -> Operand
     };
     Operand {
         known: true,
-        addressed: true,
         address: 0,
         word: 0,
         read,
@@ -90,8 +88,7 @@ pub fn operands(i: Statement, x: Thread, addresses: &[u16], values: &[u16]) -> O
     ensures { (result.known ≡ knows_all (known_in addresses.now) (cells_read i x (memory_in addresses.now values.now)))
         × (result.address ≡ address_of i x (memory_in addresses.now values.now))
         × (result.word ≡ word_taken i x (memory_in addresses.now values.now))
-        × (cells_of result.read ≡ cells_read i x (memory_in addresses.now values.now))
-        × (result.addressed ≡ (not (reads_argument i x) || known_in addresses.now i.argument)) }
+        × (cells_of result.read ≡ cells_read i x (memory_in addresses.now values.now)) }
 {
     if records::is_memory(i.number) {
         let a = address(i, x, addresses, values);
@@ -104,7 +101,6 @@ pub fn operands(i: Statement, x: Thread, addresses: &[u16], values: &[u16]) -> O
             };
             return Operand {
                 known: a.known,
-                addressed: a.known,
                 address: a.value,
                 word: 0,
                 read,
@@ -119,7 +115,6 @@ pub fn operands(i: Statement, x: Thread, addresses: &[u16], values: &[u16]) -> O
         };
         return Operand {
             known: a.known & w.known,
-            addressed: a.known,
             address: a.value,
             word: w.value,
             read,

@@ -1,4 +1,6 @@
 // Statement records and map records: which are accepted (refusal 9), and what they hold.
+#![tactic(auto)]
+
 pub mod instructions;
 pub mod map;
 pub mod refusals;
@@ -11,7 +13,7 @@ ghost use Rattle.records.specs.Sets.{statement_at, set_by};
 pub use instructions::is_memory;
 
 // A statement as its record has it; mode 1 is indirect.
-#[derive(Drop)]
+#[derive(Clone, Copy)]
 pub struct Statement {
     pub number: u8,
     pub mode: u8,
@@ -19,7 +21,7 @@ pub struct Statement {
 }
 
 // The threads of an accepted set, with the place and the number of each one's statements.
-#[derive(Drop)]
+#[derive(Clone, Copy)]
 pub struct Layout {
     pub threads: u8,
     pub starts: [u16; Layout::THREADS],

@@ -1,4 +1,6 @@
 // Replay of a trace: its answer.
+#![tactic(auto)]
+
 ghost use Rattle.std.specs.Prelude.{◌≡◌, ◌≤◌};
 ghost use Rattle.records.specs.Maps.{cells, run_cells};
 ghost use Rattle.records.specs.Sets.{set_by, most_threads};

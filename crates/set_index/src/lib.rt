@@ -1,4 +1,6 @@
 // What a table needs to know of a set again and again, found once: its checkpoints, the statements of each class, and lists of CHECKs and of jumps.
+#![tactic(auto)]
+
 pub mod checks;
 mod classes;
 pub mod jumps;

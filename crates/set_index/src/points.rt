@@ -13,7 +13,7 @@ const MOST: usize = Layout::CHECKPOINTS as usize;
 const MANY: u16 = Layout::CHECKPOINTS as u16;
 
 // The checkpoints of a set, in the order of their first CHECK.
-#[derive(Drop)]
+#[derive(Clone, Copy)]
 pub struct Points {
     pub count: u8,
     pub numbers: [u16; MOST],

@@ -10,7 +10,7 @@ use Rattle.records.specs.Instructions.{ADDI, MULI, JNZNS}
 use Rattle.records.specs.Maps.{ascends_at, map_accepted, map_value}
 use Rattle.machine.specs.Machine.{State, start, fresh, no_write, with_accu, address, word_taken, cells_read, row, jumps, next_pc, executed, cas_matches, contains, opened, waiting, permitted, acted, leaves_mark, cleared, written, step, reads}
 use Rattle.machine.specs.Runs.{choice_of, choices, some_permitted, end_of, after}
-use Rattle.machine.specs.Traces.{step_bytes, trace_step, shown, effective, trace}
+use Rattle.machine.specs.Traces.{step_bytes, trace_step, shown, trace}
 use Rattle.machine.specs.Maps.{begin, outcome, advanced, follow}
 use Rattle.machine.specs.declared.RunAnswer.TheVariants.{Ran, Refused}
 use Rattle.machine.specs.declared.End.TheVariants.{Code, Open}
@@ -44,10 +44,6 @@ meeting = statement 0 19 1 0 (statement 0 17 0 1 (statement 1 19 1 0 (statement 
 unmapped : List ℕ
 unmapped = statement 0 0 9 0 (statement 0 17 0 1 [])
 
--- STORE [9], HALT
-unaddressed : List ℕ
-unaddressed = 0 ∷ 1 ∷ 1 ∷ 0 ∷ 9 ∷ 0 ∷ 0 ∷ 0 ∷ statement 0 17 0 1 []
-
 -- the load of 5 is forwarded from the buffer: EXIT 0
 case2 : simulated set2 (5 ∷ 0 ∷ 0 ∷ 0 ∷ []) (0 ∷ 0 ∷ 0 ∷ 0 ∷ 0 ∷ []) 120 ≡ Ran 5 (Code 0)
 unfolding set2 statement simulated limited follow begin outcome advanced choices choice_of end_of some_permitted step reads written cleared leaves_mark acted permitted waiting opened contains cas_matches executed next_pc jumps row cells_read word_taken address ascends_at map_accepted set_accepted opens_at record_fits argument_fits follows start_of count_of threads_of every some number least
@@ -73,19 +69,8 @@ state7 = after (set_of set7) (start (map_value (4 ∷ 0 ∷ 9 ∷ 0 ∷ []))) (c
 case7 : (state7.memory 4 ≡ 10) × ((state7.threads 0).accu ≡ 1)
     × (drop 72 (trace (set_of set7) (start (map_value (4 ∷ 0 ∷ 9 ∷ 0 ∷ []))) no_write (choices (0 ∷ 0 ∷ 0 ∷ 0 ∷ [])))
     ≡ 0 ∷ 17 ∷ 3 ∷ 0 ∷ 0 ∷ 0 ∷ 0 ∷ 0 ∷ 1 ∷ 0 ∷ 9 ∷ 0 ∷ 0 ∷ 0 ∷ 0 ∷ 0 ∷ 1 ∷ 0 ∷ 4 ∷ 0 ∷ 10 ∷ 0 ∷ 0 ∷ 0 ∷ [])
-unfolding state7 after trace trace_step step_bytes shown effective set7 statement simulated limited follow begin outcome advanced choices choice_of end_of some_permitted step reads written cleared leaves_mark acted permitted waiting opened contains cas_matches executed next_pc jumps row cells_read word_taken address ascends_at map_accepted set_accepted opens_at record_fits argument_fits follows start_of count_of threads_of every some number least
+unfolding state7 after trace trace_step step_bytes shown set7 statement simulated limited follow begin outcome advanced choices choice_of end_of some_permitted step reads written cleared leaves_mark acted permitted waiting opened contains cas_matches executed next_pc jumps row cells_read word_taken address ascends_at map_accepted set_accepted opens_at record_fits argument_fits follows start_of count_of threads_of every some number least
 case7 = (refl, refl, refl)
-
--- ADDI 9, STORE 5, LOAD [5]
-indirect : List ℕ
-indirect = statement 0 4 9 0 (statement 0 1 5 1 (0 ∷ 0 ∷ 1 ∷ 0 ∷ 5 ∷ 0 ∷ 2 ∷ 0 ∷ statement 0 17 0 3 []))
-
--- the address word is forwarded from the buffer, so that the load's trace step shows 9; the word is cell 9's
-forwarded-address : (drop 48 (trace (set_of indirect) (start (map_value (9 ∷ 0 ∷ 7 ∷ 0 ∷ []))) no_write (choices (0 ∷ 0 ∷ 0 ∷ [])))
-    ≡ 0 ∷ 0 ∷ 2 ∷ 0 ∷ 5 ∷ 0 ∷ 1 ∷ 1 ∷ 9 ∷ 0 ∷ 0 ∷ 0 ∷ 5 ∷ 0 ∷ 9 ∷ 0 ∷ 0 ∷ 0 ∷ 0 ∷ 0 ∷ 0 ∷ 0 ∷ 9 ∷ 0 ∷ [])
-    × (((after (set_of indirect) (start (map_value (9 ∷ 0 ∷ 7 ∷ 0 ∷ []))) (choices (0 ∷ 0 ∷ 0 ∷ []))).threads 0).accu ≡ 7)
-unfolding indirect after trace trace_step step_bytes shown effective statement choices choice_of step written cleared leaves_mark acted permitted waiting opened contains cas_matches executed next_pc jumps row word_taken address start_of count_of threads_of every some number least
-forwarded-address = (refl, refl)
 
 -- FENCE with full 1 is not permitted; CHECK runs
 case8 : (simulated (set8 2) [] (0 ∷ 0 ∷ []) 48 ≡ Refused 12 1) × (simulated (set8 19) [] (0 ∷ 0 ∷ []) 48 ≡ Ran 2 Open)
@@ -97,7 +82,7 @@ waits : (simulated meeting [] (0 ∷ 0 ∷ []) 48 ≡ Refused 12 1) × (simulate
 unfolding meeting statement simulated limited follow begin outcome advanced choices choice_of end_of some_permitted step reads written cleared leaves_mark acted permitted waiting opened contains cas_matches executed next_pc jumps row cells_read word_taken address ascends_at map_accepted set_accepted opens_at record_fits argument_fits follows start_of count_of threads_of every some number least
 waits = (refl, refl)
 
--- a first cell read that the map lacks: of a data word, of an address word
-lacks : (simulated unmapped [] (0 ∷ []) 24 ≡ Refused 14 0) × (simulated unaddressed [] (0 ∷ []) 24 ≡ Refused 14 0)
-unfolding unmapped unaddressed statement simulated limited follow begin outcome advanced choices choice_of end_of some_permitted step reads written cleared leaves_mark acted permitted waiting opened contains cas_matches executed next_pc jumps row cells_read word_taken address ascends_at map_accepted set_accepted opens_at record_fits argument_fits follows start_of count_of threads_of every some number least
-lacks = (refl, refl)
+-- a first cell read that the map lacks
+lacks : simulated unmapped [] (0 ∷ []) 24 ≡ Refused 14 0
+unfolding unmapped statement simulated limited follow begin outcome advanced choices choice_of end_of some_permitted step reads written cleared leaves_mark acted permitted waiting opened contains cas_matches executed next_pc jumps row cells_read word_taken address ascends_at map_accepted set_accepted opens_at record_fits argument_fits follows start_of count_of threads_of every some number least
+lacks = refl

@@ -1,4 +1,6 @@
 // Simulation by a given schedule: the answer, and the trace of an accepted run.
+#![tactic(auto)]
+
 ghost use Rattle.std.specs.Prelude.{◌≡◌, ◌≤◌, length};
 ghost use Rattle.records.specs.Maps.{cells, map_value, run_cells};
 ghost use Rattle.records.specs.Sets.{set_by, most_threads};

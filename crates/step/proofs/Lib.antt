@@ -1,7 +1,5 @@
--- Laws of the sparse memory, of a machine's arrays and of lent registers, of one step, and of whole runs.
-pub mod Arrays
+-- Laws of the sparse memory, of one step, and of whole runs.
 pub mod Cells
-pub mod Local
 pub mod MapCells
 pub mod Runs
 pub mod Settled

@@ -9,14 +9,14 @@ use borrow.Author.Tests.{le-leb}
 use lib.Dec.{leb}
 use lib.ListN.{length, get_or, take, drop, drop_of_length-le}
 use lib.Seq.{drop-drop}
+use Rattle.base.specs.Bytes.{same}
 use Rattle.base.proofs.Choice.{chosen, and_true}
 use Rattle.records.specs.Maps.{cells}
 use Rattle.records.specs.Sets.{Set}
-use Rattle.machine.proofs.Runs.{knows_both, same_step}
 use Rattle.machine.specs.Machine.{no_write, written, reads}
-use Rattle.machine.specs.Maps.{Held, begin, address_known, word_known, outcome, advanced, on_outcome, follow, demands, retrace}
+use Rattle.machine.specs.Maps.{Held, begin, outcome, advanced, knows_all, on_outcome, follow, retrace}
 use Rattle.machine.specs.Runs.{choice_of, choices, takes}
-use Rattle.machine.specs.Traces.{trace_step, same_fields, same_address, step_choice, step_length}
+use Rattle.machine.specs.Traces.{trace_step, step_choice, step_length}
 use Rattle.machine.specs.declared.Outcome.{Outcome}
 use Rattle.machine.specs.declared.Outcome.TheVariants.{Taken, NotPermitted, Lacking}
 use Rattle.machine.specs.declared.RunAnswer.{RunAnswer}
@@ -24,7 +24,7 @@ use Rattle.machine.specs.declared.RunAnswer.TheVariants.{Refused}
 use Rattle.machine.specs.declared.Written.{Written}
 use Rattle.step.specs.Runs.{limits, followed, retraced, unknown, lacked}
 use Rattle.step.specs.Step.{on_taken}
-use Rattle.step.specs.Walks.{compared, step_refusal, on_refusal, walked, walked_lacks, walked_over}
+use Rattle.step.specs.Walks.{step_refusal, on_refusal, walked, walked_lacks, walked_over}
 use Rattle.step.proofs.Steps.{next-choice, follow-next}
 
 -- ---- a whole schedule
@@ -66,19 +66,15 @@ walked-lacked S schedule h i (suc n) e =
 
 -- ---- a whole trace
 
--- what the loop judges is judged in the definition's order
-judged : (takes address word fields equal : Bool) (i : ℕ) (rest : RunAnswer) →
-    on_refusal (step_refusal (cond takes (cond (address && word) Taken Lacking) NotPermitted) (cond address (fields && equal) fields)) i rest
-    ≡ demands takes 12 i (demands fields 13 i (demands address 14 i (demands equal 13 i (demands word 14 i rest))))
-judged true true true true true i rest = refl
-judged true true true true false i rest = refl
-judged true true true false equal i rest = refl
-judged true true false true true i rest = refl
-judged true true false true false i rest = refl
-judged true true false false equal i rest = refl
-judged true false word true equal i rest = refl
-judged true false word false equal i rest = refl
-judged false address word fields equal i rest = refl
+-- 12 before 13 before 14
+judged : (takes knows agreed : Bool) (i : ℕ) (rest : RunAnswer) →
+    on_refusal (step_refusal (cond takes (cond knows Taken Lacking) NotPermitted) agreed) i rest
+    ≡ cond takes (cond agreed (on_outcome (cond takes (cond knows Taken Lacking) NotPermitted) i rest) (Refused 13 i)) (Refused 12 i)
+judged true true true i rest = refl
+judged true true false i rest = refl
+judged true false true i rest = refl
+judged true false false i rest = refl
+judged false knows agreed i rest = refl
 
 -- the loop along a trace compares each step as the definition does
 walked-retrace : (S : Set) (trace : List ℕ) (h : Held) (w : Written) (i n : ℕ) → walked S true trace h w i n ≡ retrace S h w i n (drop (step_length * i) trace)
@@ -86,16 +82,11 @@ unfolding walked retrace outcome
 walked-retrace S trace h w i zero = refl
 walked-retrace S trace h w i (suc n) =
     let c = step_choice (drop (step_length * i) trace) in
-    let given = take step_length (drop (step_length * i) trace) in
-    let right = trace_step S h.state w c in
-    let next = retrace S (advanced S h c) (written S h.state c) (suc i) n in
+    let equal = same (take step_length (drop (step_length * i) trace)) (trace_step S h.state w c) in
     let p : step_length * i + step_length ≡ step_length * suc i = omega arith in
-    ap (on_refusal (step_refusal (outcome S h c) (compared (address_known S h c) given right)) i)
-    (walked-retrace S trace (advanced S h c) (written S h.state c) (suc i) n ∙ ap next (sym (drop-drop step_length (step_length * i) trace ∙ ap (λ (k : ℕ). drop k trace) p)))
-    ∙ ap₂ (λ (known equal : Bool).
-    on_refusal (step_refusal (cond (takes S h.state c) (cond known Taken Lacking) NotPermitted) (cond (address_known S h c) equal (same_fields given right))) i
-    (next (drop step_length (drop (step_length * i) trace)))) (knows_both S h c) (same_step given right)
-    ∙ judged (takes S h.state c) (address_known S h c) (word_known S h c) (same_fields given right) (same_address given right) i (next (drop step_length (drop (step_length * i) trace)))
+    ap (on_refusal (step_refusal (outcome S h c) equal) i) (walked-retrace S trace (advanced S h c) (written S h.state c) (suc i) n
+    ∙ ap (retrace S (advanced S h c) (written S h.state c) (suc i) n) (sym (drop-drop step_length (step_length * i) trace ∙ ap (λ (k : ℕ). drop k trace) p)))
+    ∙ judged (takes S h.state c) (knows_all h.known (reads S h.state c)) equal i (retrace S (advanced S h c) (written S h.state c) (suc i) n (drop step_length (drop (step_length * i) trace)))
 
 -- ---- the calls
 

@@ -15,9 +15,9 @@ use Rattle.records.specs.Sets.{Set}
 use Rattle.records.specs.declared.Statement.{Statement}
 use Rattle.machine.proofs.Permitted.{permitted-is}
 use Rattle.machine.specs.Held.{state_of, memory_of, known_of, permitted_by, cells_of}
-use Rattle.machine.specs.Maps.{knows_all, address_known, outcome}
+use Rattle.machine.specs.Maps.{knows_all, outcome}
 use Rattle.machine.specs.Machine.{State, actor, reads, unmarked, fresh, with_pc, next_pc, row, flushed, executed, current, opened, cleared, waiting, written, memory_after, acted, leaves_mark, step}
-use Rattle.machine.specs.Traces.{shown, effective}
+use Rattle.machine.specs.Traces.{shown}
 use Rattle.machine.specs.declared.Choice.{Choice}
 use Rattle.machine.specs.declared.Choice.TheVariants.{Execute, Flush}
 use Rattle.machine.specs.declared.Machine.{Machine}
@@ -26,7 +26,7 @@ use Rattle.machine.specs.declared.Outcome.{Outcome}
 use Rattle.machine.specs.declared.Outcome.TheVariants.{Taken, NotPermitted, Lacking}
 use Rattle.machine.specs.declared.Read.{Read}
 use Rattle.machine.specs.declared.Thread.{Thread}
-use Rattle.step.specs.Acting.{marks_settled, threads_settled, waits, thread_by, thread_from, Operands, statement_by, written_by, reads_by, address_by, addressed_by, outcome_by, quiet, not_taken, Advances, on_permitted}
+use Rattle.step.specs.Acting.{marks_settled, threads_settled, waits, thread_by, thread_from, Operands, statement_by, written_by, reads_by, outcome_by, quiet, not_taken, Advances, on_permitted}
 use Rattle.step.specs.Step.{on_taken}
 use Rattle.step.specs.declared.acting.Stepped.{Stepped}
 
@@ -92,16 +92,6 @@ module _ (S : Set) (m : Machine) (memory : ℕ → ℕ) where
   unfolding reads
   reads-by (Execute t) = refl
   reads-by (Flush t) = refl
-
-  pub effective-by : (c : Choice) → effective S (state_of m memory) c ≡ address_by c (statement_by S c (acting_in c)) (acting_in c) memory
-  unfolding effective
-  effective-by (Execute t) = refl
-  effective-by (Flush t) = refl
-
-  pub addressed-by : (known : ℕ → Bool) (c : Choice) → address_known S (record { state = state_of m memory; known = known }) c ≡ addressed_by c (statement_by S c (acting_in c)) (acting_in c) known
-  unfolding address_known
-  addressed-by known (Execute t) = refl
-  addressed-by known (Flush t) = refl
 
   pub shown_by : (c : Choice) → shown S (state_of m memory) c ≡ statement_by S c (acting_in c)
   unfolding shown
@@ -183,18 +173,16 @@ module _ (S : Set) (m : Machine) (memory : ℕ → ℕ) where
 -- ---- a step that is not taken
 
 module _ (can : Bool) (c : Choice) (i : Statement) (x : Thread) (waiting : Bool) (addresses values : List ℕ) (filled : ℕ) (r : Stepped) where
-  pub unmoved : (o : Outcome) (j : Statement) (read : Read) (a : ℕ) (addressed : Bool) → on_taken o false true ≡ true → r ≡ not_taken o j filled read a addressed → j ≡ i →
+  pub unmoved : (o : Outcome) (j : Statement) (read : Read) → on_taken o false true ≡ true → r ≡ not_taken o j filled read → j ≡ i →
       cells_of read ≡ on_permitted o (reads_by c i x (memory_of addresses values filled)) [] →
-      a ≡ on_permitted o (address_by c i x (memory_of addresses values filled)) 0 → addressed ≡ on_permitted o (addressed_by c i x (known_of addresses filled)) true →
       o ≡ outcome_by can c i x waiting (memory_of addresses values filled) (known_of addresses filled) →
       Advances can c i x waiting (memory_of addresses values filled) (known_of addresses filled) filled r (memory_of addresses values r.filled) (known_of addresses r.filled)
-  unmoved o j read a addressed n e s cells at known q =
-      subst⁻¹ (λ (z : Stepped). Advances can c i x waiting (memory_of addresses values filled) (known_of addresses filled) filled z (memory_of addresses values z.filled) (known_of addresses z.filled)) e (go o n cells at known q)
+  unmoved o j read n e s cells q =
+      subst⁻¹ (λ (z : Stepped). Advances can c i x waiting (memory_of addresses values filled) (known_of addresses filled) filled z (memory_of addresses values z.filled) (known_of addresses z.filled)) e (go o n cells q)
     where
       go : (o : Outcome) → on_taken o false true ≡ true → cells_of read ≡ on_permitted o (reads_by c i x (memory_of addresses values filled)) [] →
-          a ≡ on_permitted o (address_by c i x (memory_of addresses values filled)) 0 → addressed ≡ on_permitted o (addressed_by c i x (known_of addresses filled)) true →
           o ≡ outcome_by can c i x waiting (memory_of addresses values filled) (known_of addresses filled) →
-          Advances can c i x waiting (memory_of addresses values filled) (known_of addresses filled) filled (not_taken o j filled read a addressed) (memory_of addresses values filled) (known_of addresses filled)
-      go Taken n cells at known q = clash n refl
-      go NotPermitted n cells at known q = record { came = q; stated = s; thread = refl; memory-is = refl; known_is = refl; wrote = refl; read = cells; address_is = at; addressed-is = known; more = omega arith }
-      go Lacking n cells at known q = record { came = q; stated = s; thread = refl; memory-is = refl; known_is = refl; wrote = refl; read = cells; address_is = at; addressed-is = known; more = omega arith }
+          Advances can c i x waiting (memory_of addresses values filled) (known_of addresses filled) filled (not_taken o j filled read) (memory_of addresses values filled) (known_of addresses filled)
+      go Taken n cells q = clash n refl
+      go NotPermitted n cells q = record { came = q; stated = s; thread = refl; memory-is = refl; known_is = refl; wrote = refl; read = cells; more = omega arith }
+      go Lacking n cells q = record { came = q; stated = s; thread = refl; memory-is = refl; known_is = refl; wrote = refl; read = cells; more = omega arith }

@@ -3,17 +3,16 @@ use Prim.Native.Nat.{ℕ, zero, suc, ◌+◌, ◌-◌, ◌*◌, ◌%◌, ◌≤�
 use mathlib.Core.Path.{◌≡◌, refl, ap, ap₂, sym, subst, subst⁻¹, ◌∙◌}
 use mathlib.Core.Bool.{Bool, true, false, cond, not, ◌&&◌, ◌||◌}
 use mathlib.Core.List.{List, [], ◌∷◌, ◌++◌, append_assoc}
-use native.Mathlib.Nat.{min-le_left}
 use native.Mathlib.Numerals.{add-one}
 use native.Mathlib.Omega.{arith}
 use borrow.Author.Tests.{le-leb, lt-ltb, ltb-true}
 use lib.Dec.{eqb, leb, ltb}
-use lib.ListN.{length, get_or, set, take, drop, length-take, drop_of_length-le}
-use lib.Seq.{drop-cons, take-take}
+use lib.ListN.{length, get_or, set, take, drop}
+use lib.Seq.{drop-cons}
 use Rattle.base.specs.Below.{every}
-use Rattle.base.specs.Bytes.{placed, same}
+use Rattle.base.specs.Bytes.{placed}
 use Rattle.base.proofs.Bytes.{take-placed}
-use Rattle.base.proofs.Choice.{chosen, and_true, and_yes, clash}
+use Rattle.base.proofs.Choice.{chosen, and_true}
 use Rattle.records.specs.Instructions.{EXIT}
 use Rattle.records.specs.Maps.{cells, address_at, value_at, holds, content}
 use Rattle.records.specs.Sets.{Set}
@@ -21,14 +20,14 @@ use Rattle.records.specs.declared.Layout.{Layout}
 use Rattle.records.specs.declared.Statement.{Statement}
 use Rattle.machine.proofs.Four.{stored}
 use Rattle.machine.proofs.Runs.{length-trace_step, takes-actor, taken-takes, lacking_takes}
-use Rattle.step.proofs.Settled.{outcome-by, written-by, effective-by, addressed-by, shown_by, state_by, stepped, quiet-state, reads-by}
+use Rattle.step.proofs.Settled.{outcome-by, written-by, shown_by, state_by, stepped, quiet-state, reads-by}
 use Rattle.machine.specs.Held.{state_of, memory_of, known_of, held_of, cells_of}
 use Rattle.step.specs.Acting.{can_step, waits, statement_by, thread_by, written_by, reads_by, outcome_by, quiet, marks_settled, threads_settled, Advances, on_permitted}
 use Rattle.step.specs.Step.{on_taken}
 use Rattle.machine.specs.Machine.{State, fresh, unmarked, actor, start, step, written, no_write, memory_after, reads}
-use Rattle.machine.specs.Maps.{Held, begin, address_known, outcome, advanced, known_after, on_outcome, follow}
+use Rattle.machine.specs.Maps.{Held, begin, outcome, advanced, known_after, on_outcome, follow}
 use Rattle.machine.specs.Runs.{choice_of, choices, some_permitted, end_of}
-use Rattle.machine.specs.Traces.{effective, step_bytes, trace_step, same_fields, trace, step_length}
+use Rattle.machine.specs.Traces.{step_bytes, trace_step, trace, step_length}
 use Rattle.machine.specs.declared.RunAnswer.{RunAnswer}
 use Rattle.machine.specs.declared.RunAnswer.TheVariants.{Refused}
 use Rattle.machine.specs.declared.Choice.{Choice}
@@ -72,22 +71,6 @@ stands NotPermitted agreed e = absurd (omega arith)
 stands Lacking true e = absurd (omega arith)
 stands Lacking false e = absurd (omega arith)
 
--- without its effective address a trace step is compared up to there
-pub fields-first : (given right : List ℕ) → length right ≡ step_length → same (take 22 given) (take 22 right) ≡ same_fields (take step_length given) right
-unfolding same
-fields-first given right n =
-    let short : length (take step_length given) ≤ step_length = omega (arith, length-take step_length given, min-le_left step_length (length given)) in
-    let all : length right ≤ step_length = omega (arith, n) in
-    sym (and_yes (same (take 22 given) (take 22 right)))
-    ∙ ap₂ (λ (front : List ℕ) (back : Bool). same front (take 22 right) && back) (sym (take-take 22 step_length given (omega arith)))
-    (sym (ap₂ same (drop_of_length-le (take step_length given) short) (drop_of_length-le right all)))
-
--- what a permitted step gives
-pub permitted_so : {A : Type 0} (o : Outcome) (x y : A) → on_permitted o true false ≡ true → on_permitted o x y ≡ x
-permitted_so Taken x y e = refl
-permitted_so NotPermitted x y e = clash e refl
-permitted_so Lacking x y e = refl
-
 -- ---- the next step
 
 module _ (S : Set) (replaying : Bool) (input : List ℕ) (h : Held) (w : Written) (i : ℕ) (c : Choice) (e : c ≡ made replaying input i) where
@@ -95,12 +78,12 @@ module _ (S : Set) (replaying : Bool) (input : List ℕ) (h : Held) (w : Written
   rest n = walked S replaying input (advanced S h c) (written S h.state c) (i + 1) n
 
   pub walked_next : (n : ℕ) → 0 < n →
-      walked S replaying input h w i n ≡ on_refusal (step_refusal (outcome S h c) (agrees replaying input i (address_known S h c) (trace_step S h.state w c))) i (rest (n - 1))
+      walked S replaying input h w i n ≡ on_refusal (step_refusal (outcome S h c) (agrees replaying input i (trace_step S h.state w c))) i (rest (n - 1))
   unfolding walked
   walked_next zero l = absurd (omega arith)
   walked_next (suc n) l =
       let m : suc n - 1 ≡ n = omega arith in
-      ap (λ (k : Choice). on_refusal (step_refusal (outcome S h k) (agrees replaying input i (address_known S h k) (trace_step S h.state w k))) i (walked S replaying input (advanced S h k) (written S h.state k) (suc i) n)) (sym e)
+      ap (λ (k : Choice). on_refusal (step_refusal (outcome S h k) (agrees replaying input i (trace_step S h.state w k))) i (walked S replaying input (advanced S h k) (written S h.state k) (suc i) n)) (sym e)
       ∙ rw (← add-one i, m) refl
 
   pub lacks-next : (n : ℕ) → 0 < n →
@@ -148,44 +131,30 @@ module _ (S : Set) (m : Machine) (memory : ℕ → ℕ) (known : ℕ → Bool) (
         ∙ ap (λ (b : Bool). outcome_by b c (statement_by S c (get_or m.threads slot fresh)) (get_or m.threads slot fresh) (waits S marks_of (get_or m.marks slot unmarked)) memory known) room
         ∙ by-slot (ltb (actor c) S.threads) (not m.ended) there ∙ sym (outcome-by S m memory known c)
 
-    pub lacking_acts : r.outcome ≡ Lacking → actor c < S.threads
-    lacking_acts e = takes-actor S (state_of m memory) c (lacking_takes S held c (sym came-out ∙ e))
-
-    pub acting : r.outcome ≡ Taken → actor c < S.threads
-    acting e = takes-actor S (state_of m memory) c (taken-takes S held c (sym came-out ∙ e))
-
-    pub permits : {o : Outcome} → r.outcome ≡ o → on_permitted o true false ≡ true → on_permitted r.outcome true false ≡ true
-    permits e p = ap (λ (o : Outcome). on_permitted o true false) e ∙ p
-
-    -- the bytes of a step that is permitted are its trace step's, and its address is known where the definition says so
-    module _ (acts : actor c < S.threads) (permitted : on_permitted r.outcome true false ≡ true) where
-      told-there : Told can (actor c) filled r later knows
-      told-there = subst (λ (k : ℕ). Told can k filled r later knows) (slot_is acts) a
-
-      effective_so : r.address ≡ effective S (state_of m memory) c
-      effective_so = told-there.address_is ∙ permitted_so r.outcome _ 0 permitted ∙ sym (effective-by S m memory c)
-
-      pub addressed_so : r.addressed ≡ address_known S held c
-      addressed_so = told-there.addressed-is ∙ permitted_so r.outcome _ true permitted ∙ sym (addressed-by S m memory known c)
-
-      pub shown-bytes : (w : Written) → step_bytes (actor c) r.statement (get_or m.threads slot fresh) w r.address ≡ trace_step S (state_of m memory) w c
-      unfolding trace_step
-      shown-bytes w =
-          ap (λ (k : ℕ). step_bytes (actor c) r.statement (get_or m.threads k fresh) w r.address) (slot_is acts)
-          ∙ ap₂ (λ (j : Statement) (a : ℕ). step_bytes (actor c) j (get_or m.threads (actor c) fresh) w a) (told-there.stated ∙ sym (shown_by S m memory c)) effective_so
+    -- the bytes of a step that a thread makes are its trace step's
+    pub shown-bytes : actor c < S.threads → (w : Written) → step_bytes (actor c) r.statement (get_or m.threads slot fresh) w ≡ trace_step S (state_of m memory) w c
+    unfolding trace_step
+    shown-bytes l w =
+        ap (λ (j : Statement). step_bytes (actor c) j (get_or m.threads slot fresh) w) a.stated
+        ∙ ap (λ (k : ℕ). step_bytes (actor c) (statement_by S c (get_or m.threads k fresh)) (get_or m.threads k fresh) w) (slot_is l)
+        ∙ ap (λ (j : Statement). step_bytes (actor c) j (get_or m.threads (actor c) fresh) w) (sym (shown_by S m memory c))
 
     -- so the refusal is the definition's
-    pub refused_so : (agreed : Bool → List ℕ → Bool) (w : Written) →
-        step_refusal r.outcome (agreed r.addressed (step_bytes (actor c) r.statement (get_or m.threads slot fresh) w r.address))
-        ≡ step_refusal (outcome S held c) (agreed (address_known S held c) (trace_step S (state_of m memory) w c))
-    refused_so agreed w = go r.outcome refl ∙ ap (λ (o : Outcome). step_refusal o (agreed (address_known S held c) (trace_step S (state_of m memory) w c))) came-out
+    pub refused_so : (agreed : List ℕ → Bool) (w : Written) →
+        step_refusal r.outcome (agreed (step_bytes (actor c) r.statement (get_or m.threads slot fresh) w)) ≡ step_refusal (outcome S held c) (agreed (trace_step S (state_of m memory) w c))
+    refused_so agreed w = go (ltb (actor c) S.threads) refl
       where
-        go : (o : Outcome) → r.outcome ≡ o →
-            step_refusal o (agreed r.addressed (step_bytes (actor c) r.statement (get_or m.threads slot fresh) w r.address))
-            ≡ step_refusal o (agreed (address_known S held c) (trace_step S (state_of m memory) w c))
-        go Taken e = let p = permits e refl in ap (step_refusal Taken) (ap₂ agreed (addressed_so (acting e) p) (shown-bytes (acting e) p w))
-        go Lacking e = let p = permits e refl in ap (step_refusal Lacking) (ap₂ agreed (addressed_so (lacking_acts e) p) (shown-bytes (lacking_acts e) p w))
-        go NotPermitted e = refl
+        go : (l : Bool) → ltb (actor c) S.threads ≡ l →
+            step_refusal r.outcome (agreed (step_bytes (actor c) r.statement (get_or m.threads slot fresh) w)) ≡ step_refusal (outcome S held c) (agreed (trace_step S (state_of m memory) w c))
+        go true e = ap₂ (λ (o : Outcome) (bytes : List ℕ). step_refusal o (agreed bytes)) came-out (shown-bytes (ltb-true _ _ e) w)
+        go false e =
+            let no : outcome S held c ≡ NotPermitted = outcome-by S m memory known c
+            ∙ ap (λ (b : Bool). outcome_by (b && not m.ended) c (statement_by S c (get_or m.threads (actor c) fresh)) (get_or m.threads (actor c) fresh) (waits S marks_of (get_or m.marks (actor c) unmarked)) memory known) e in
+            ap (λ (o : Outcome). step_refusal o (agreed (step_bytes (actor c) r.statement (get_or m.threads slot fresh) w))) (came-out ∙ no)
+            ∙ sym (ap (λ (o : Outcome). step_refusal o (agreed (trace_step S (state_of m memory) w c))) no)
+
+    pub lacking_acts : r.outcome ≡ Lacking → actor c < S.threads
+    lacking_acts e = takes-actor S (state_of m memory) c (lacking_takes S held c (sym came-out ∙ e))
 
     -- the cell that it lacks
     pub lacks-cell : r.outcome ≡ Lacking → unknown knows (cells_of r.read) ≡ unknown known (reads S (state_of m memory) c)
@@ -197,8 +166,11 @@ module _ (S : Set) (m : Machine) (memory : ℕ → ℕ) (known : ℕ → Bool) (
     -- ---- where it was taken
 
     module _ (t : r.outcome ≡ Taken) where
+      pub acting : actor c < S.threads
+      acting = takes-actor S (state_of m memory) c (taken-takes S held c (sym came-out ∙ t))
+
       told : Told can (actor c) filled r later knows
-      told = subst (λ (k : ℕ). Told can k filled r later knows) (slot_is (acting t)) a
+      told = subst (λ (k : ℕ). Told can k filled r later knows) (slot_is acting) a
 
       abbrev acted : Thread
       acted = get_or m.threads (actor c) fresh
@@ -225,8 +197,8 @@ module _ (S : Set) (m : Machine) (memory : ℕ → ℕ) (known : ℕ → Bool) (
       module _ (n : Machine) (threads : n.threads ≡ set m.threads slot r.thread) (four-threads : length m.threads ≡ 4) where
         threads_are_lem : (λ u. get_or n.threads u fresh) ≡ threads_settled (λ u. get_or m.threads u fresh) (actor c) r.thread
         threads_are_lem =
-            ap {B = ℕ → Thread} (λ (ts : List Thread) (u : ℕ). get_or ts u fresh) (threads ∙ ap (λ (k : ℕ). set m.threads k r.thread) (slot_is (acting t)))
-            ∙ stored m.threads (actor c) r.thread fresh (omega (arith, acting t, few, four-threads))
+            ap {B = ℕ → Thread} (λ (ts : List Thread) (u : ℕ). get_or ts u fresh) (threads ∙ ap (λ (k : ℕ). set m.threads k r.thread) (slot_is acting))
+            ∙ stored m.threads (actor c) r.thread fresh (omega (arith, acting, few, four-threads))
 
         settled : state_of n later ≡ state_by S m memory (actor c) r.thread r.statement (marks_settled S marks_of (actor c) r.statement) later →
             record { state = state_of n later; known = knows } ≡ advanced S held c
@@ -243,7 +215,7 @@ module _ (S : Set) (m : Machine) (memory : ℕ → ℕ) (known : ℕ → Bool) (
               memory = later;
               ended = ended k;
               code = code k;
-            }) ∙ quiet-state S m memory (actor c) r.thread r.statement later four-marks (acting t) q)
+            }) ∙ quiet-state S m memory (actor c) r.thread r.statement later four-marks acting q)
 
         -- they are made anew
         pub loud_held : (λ u. get_or n.marks u unmarked) ≡ cond (ltb (actor c) 4) (marks_settled S marks_of (actor c) r.statement) marks_of →
@@ -253,7 +225,7 @@ module _ (S : Set) (m : Machine) (memory : ℕ → ℕ) (known : ℕ → Bool) (
         loud_held marks ended code =
             settled (λ k. record {
               threads = threads_are_lem k;
-              marks = (marks ∙ chosen _ _ (lt-ltb (actor c) 4 (omega (arith, acting t, few)))) k;
+              marks = (marks ∙ chosen _ _ (lt-ltb (actor c) 4 (omega (arith, acting, few)))) k;
               memory = later;
               ended = (ended ∙ ap (λ (f : ℕ → Thread). m.ended || eqb r.statement.number EXIT || every S.threads (λ u. (f u).halted)) threads_are_lem) k;
               code = code k;

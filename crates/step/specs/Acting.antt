@@ -5,7 +5,7 @@ use Rattle.records.specs.Sets.{Set, nothing}
 use Rattle.records.specs.declared.Layout.{Layout}
 use Rattle.records.specs.declared.Statement.{Statement}
 use Rattle.machine.specs.Held.{permitted_by, cells_of}
-use Rattle.machine.specs.Machine.{State, fresh, flushed, with_pc, row, next_pc, current, address, word_taken, reads_argument, cells_read, executed, cas_matches, actor, opened, cleared, memory_after, wrote, no_write}
+use Rattle.machine.specs.Machine.{State, fresh, flushed, with_pc, row, next_pc, current, address, word_taken, cells_read, executed, cas_matches, actor, opened, cleared, memory_after, wrote, no_write}
 use Rattle.machine.specs.Maps.{knows_all, known_after}
 use Rattle.machine.specs.declared.Choice.{Choice}
 use Rattle.machine.specs.declared.Choice.TheVariants.{Execute, Flush}
@@ -68,16 +68,6 @@ abbrev pub reads_by : Choice → Statement → Thread → (ℕ → ℕ) → List
 reads_by (Execute t) i x memory = cells_read i x memory
 reads_by (Flush t) i x memory = []
 
--- the effective address
-abbrev pub address_by : Choice → Statement → Thread → (ℕ → ℕ) → ℕ
-address_by (Execute t) i x memory = address i x memory
-address_by (Flush t) i x memory = 0
-
--- the cell of the address word is known, where it is read
-abbrev pub addressed_by : Choice → Statement → Thread → (ℕ → Bool) → Bool
-addressed_by (Execute t) i x known = not (reads_argument i x) || known i.argument
-addressed_by (Flush t) i x known = true
-
 -- the outcome, where the thread can step at all
 abbrev pub outcome_by : Bool → Choice → Statement → Thread → Bool → (ℕ → ℕ) → (ℕ → Bool) → Outcome
 outcome_by can c i x waiting memory known =
@@ -103,9 +93,8 @@ Operands S s (Flush t) i addressed taken = Unit {0}
 -- ---- what a call that takes a step gives
 
 -- a step that is not taken gives no registers
-abbrev pub not_taken : Outcome → Statement → ℕ → Read → ℕ → Bool → Stepped
-not_taken o i filled read address addressed =
-    record { outcome = o; statement = i; thread = fresh; filled = filled; wrote = no_write; read = read; address = address; addressed = addressed }
+abbrev pub not_taken : Outcome → Statement → ℕ → Read → Stepped
+not_taken o i filled read = record { outcome = o; statement = i; thread = fresh; filled = filled; wrote = no_write; read = read }
 
 -- x where the step was permitted, else y
 abbrev pub on_permitted : {A : Type 0} → Outcome → A → A → A
@@ -123,6 +112,4 @@ pub record Advances (can : Bool) (c : Choice) (i : Statement) (x : Thread) (wait
   pub known_is : knows ≡ on_taken r.outcome (known_after (written_by c i x memory) known) known
   pub wrote : r.wrote ≡ on_taken r.outcome (written_by c i x memory) no_write
   pub read : cells_of r.read ≡ on_permitted r.outcome (reads_by c i x memory) []
-  pub address_is_lem : r.address ≡ on_permitted r.outcome (address_by c i x memory) 0
-  pub addressed-is : r.addressed ≡ on_permitted r.outcome (addressed_by c i x known) true
   pub more : r.filled ≤ filled + 1

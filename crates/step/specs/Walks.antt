@@ -3,9 +3,9 @@ use Rattle.std.specs.Prelude.{ℕ, zero, suc, ◌*◌, ◌/◌, Bool, true, cond
 use Rattle.base.specs.Bytes.{same}
 use Rattle.records.specs.Sets.{Set}
 use Rattle.machine.specs.Machine.{State, written, no_write, reads}
-use Rattle.machine.specs.Maps.{Held, begin, address_known, outcome, advanced}
+use Rattle.machine.specs.Maps.{Held, begin, outcome, advanced}
 use Rattle.machine.specs.Runs.{choice_of, choices, end_of}
-use Rattle.machine.specs.Traces.{step_length, trace_step, same_fields, trace, step_choice}
+use Rattle.machine.specs.Traces.{step_length, trace_step, trace, step_choice}
 use Rattle.machine.specs.declared.RunAnswer.{RunAnswer}
 use Rattle.machine.specs.declared.RunAnswer.TheVariants.{Ran, Refused}
 use Rattle.machine.specs.declared.Choice.{Choice}
@@ -25,13 +25,9 @@ steps_of replaying n = cond replaying (n / step_length) n
 abbrev pub made : Bool → List ℕ → ℕ → Choice
 made replaying input i = cond replaying (step_choice (drop (step_length * i) input)) (choice_of (get_or input i 0))
 
--- a trace step is as it must be, as far as that can be worked out: all of it, or all but its effective address
-abbrev pub compared : Bool → (given right : List ℕ) → Bool
-compared addressed given right = cond addressed (same given right) (same_fields given right)
-
--- step i of a trace compared with these bytes; a schedule says nothing of them
-abbrev pub agrees : Bool → List ℕ → ℕ → Bool → List ℕ → Bool
-agrees replaying input i addressed bytes = cond replaying (compared addressed (take step_length (drop (step_length * i) input)) bytes) true
+-- step i of a trace has these bytes; a schedule says nothing of them
+abbrev pub agrees : Bool → List ℕ → ℕ → List ℕ → Bool
+agrees replaying input i bytes = cond replaying (same (take step_length (drop (step_length * i) input)) bytes) true
 
 -- ---- the steps
 
@@ -51,7 +47,7 @@ unfoldable pub walked : Set → Bool → List ℕ → Held → Written → ℕ �
 walked S replaying input h w i zero = Ran i (end_of S h.state)
 walked S replaying input h w i (suc k) =
     let c = made replaying input i in
-    on_refusal (step_refusal (outcome S h c) (agrees replaying input i (address_known S h c) (trace_step S h.state w c))) i
+    on_refusal (step_refusal (outcome S h c) (agrees replaying input i (trace_step S h.state w c))) i
     (walked S replaying input (advanced S h c) (written S h.state c) (suc i) k)
 
 -- the cell that they lack: the first that is not known of those that the first step that is not taken reads

@@ -1,11 +1,11 @@
 // One step: the acting thread's registers, the memory, the marks and the end.
-ghost use Rattle.std.specs.Prelude.{◌≡◌, true, false, cond, not, ◌&&◌, ◌||◌, [], ◌∷◌, ◌+◌, ◌≤◌, ◌<◌, eqb, ltb, length, get_or};
+ghost use Rattle.std.specs.Prelude.{◌≡◌, true, false, cond, ◌&&◌, ◌||◌, [], ◌∷◌, ◌+◌, ◌≤◌, ◌<◌, eqb, ltb, length, get_or};
 ghost use Rattle.base.specs.Below.{every};
 ghost use Rattle.records.specs.Instructions.{CAS as cas, EXIT as exit};
 ghost use Rattle.records.specs.Sets.{Set, set_by, most_threads};
 ghost use Rattle.machine.specs.Held.{no_read, memory_of, memory_in, known_of, known_in, cells_of};
-ghost use Rattle.step.specs.Acting.{marks_settled, quiet as quiet_of, can_step, waits, thread_by, thread_from, PcFits, Operands, statement_by, written_by, reads_by, address_by, addressed_by, not_taken, Advances};
-ghost use Rattle.machine.specs.Machine.{State, actor, acted as acted_of, fresh, unmarked, row as row_of, next_pc, with_pc, memory_after, wrote as wrote_of, address, reads_argument, cells_read, executed as executed_of, cas_matches, no_write, flushed};
+ghost use Rattle.step.specs.Acting.{marks_settled, quiet as quiet_of, can_step, waits, thread_by, thread_from, PcFits, Operands, statement_by, written_by, reads_by, not_taken, Advances};
+ghost use Rattle.machine.specs.Machine.{State, actor, acted as acted_of, fresh, unmarked, row as row_of, next_pc, with_pc, memory_after, wrote as wrote_of, address, cells_read, executed as executed_of, cas_matches, no_write, flushed};
 ghost use Rattle.machine.specs.Maps.{knows_all, known_after};
 
 use machine::operands::Operand;
@@ -17,8 +17,8 @@ use records::instructions::{CAS, CHECK, EXIT, HALT};
 use records::{Layout, Statement};
 
 // What a step gave: its outcome; the statement executed, none in a flush; the acting thread's registers afterwards;
-// the filled count; what was written and read; the effective address, and whether the cell of its address word is known.
-#[derive(Drop)]
+// the filled count; what was written and read.
+#[derive(Clone, Copy)]
 pub struct Stepped {
     pub outcome: Outcome,
     pub statement: Statement,
@@ -26,8 +26,6 @@ pub struct Stepped {
     pub filled: usize,
     pub wrote: Written,
     pub read: Read,
-    pub address: u16,
-    pub addressed: bool,
 }
 
 // The pc after a statement.
@@ -185,15 +183,13 @@ fn matches(i: Statement, o: Operand, x: Thread) -> bool
 }
 
 // What the acting thread's choice does: whether the cells it reads are known, the thread's registers afterwards,
-// the cells written and read, the effective address, and whether the cell of its address word is known.
-#[derive(Drop)]
+// and the cells written and read.
+#[derive(Clone, Copy)]
 pub struct Effect {
     pub known: bool,
     pub thread: Thread,
     pub wrote: Written,
     pub read: Read,
-    pub address: u16,
-    pub addressed: bool,
 }
 
 // The registers after a choice.
@@ -231,9 +227,7 @@ fn executing(t: u8, i: Statement, x: Thread, addresses: &[u16], values: &[u16]) 
     ensures { (result.known ≡ knows_all (known_in addresses.now) (cells_read i x (memory_in addresses.now values.now)))
         × (result.thread ≡ executed_of i (memory_in addresses.now values.now) x)
         × (result.wrote ≡ cond (cas_matches i x (memory_in addresses.now values.now)) (wrote_of (address i x (memory_in addresses.now values.now)) x.accu) no_write)
-        × (cells_of result.read ≡ cells_read i x (memory_in addresses.now values.now))
-        × (result.address ≡ address i x (memory_in addresses.now values.now))
-        × (result.addressed ≡ (not (reads_argument i x) || known_in addresses.now i.argument)) }
+        × (cells_of result.read ≡ cells_read i x (memory_in addresses.now values.now)) }
 {
     let o = operands::operands(i, x, addresses, values);
     let thread = updated(x, Choice::Execute(t), i, o);
@@ -255,16 +249,13 @@ fn executing(t: u8, i: Statement, x: Thread, addresses: &[u16], values: &[u16]) 
         thread,
         wrote,
         read,
-        address: o.address,
-        addressed: o.addressed,
     }
 }
 
 // What thread t's flushing does; it takes nothing.
 fn flushing(t: u8, i: Statement, x: Thread) -> Effect
     requires { PcFits i x }
-    ensures { (result.known ≡ true) × (result.thread ≡ flushed x) × (result.wrote ≡ wrote_of x.adr x.val) × (result.read ≡ no_read)
-        × (result.address ≡ 0) × (result.addressed ≡ true) }
+    ensures { (result.known ≡ true) × (result.thread ≡ flushed x) × (result.wrote ≡ wrote_of x.adr x.val) × (result.read ≡ no_read) }
 {
     let o = operands::none();
     let thread = updated(x, Choice::Flush(t), i, o);
@@ -279,8 +270,6 @@ fn flushing(t: u8, i: Statement, x: Thread) -> Effect
         thread,
         wrote,
         read,
-        address: o.address,
-        addressed: o.addressed,
     }
 }
 
@@ -290,9 +279,7 @@ fn effect_of(choice: Choice, i: Statement, x: Thread, addresses: &[u16], values:
     ensures { (result.known ≡ knows_all (known_in addresses.now) (reads_by choice i x (memory_in addresses.now values.now)))
         × (result.thread ≡ thread_by choice i x (memory_in addresses.now values.now))
         × (result.wrote ≡ written_by choice i x (memory_in addresses.now values.now))
-        × (cells_of result.read ≡ reads_by choice i x (memory_in addresses.now values.now))
-        × (result.address ≡ address_by choice i x (memory_in addresses.now values.now))
-        × (result.addressed ≡ addressed_by choice i x (known_in addresses.now)) }
+        × (cells_of result.read ≡ reads_by choice i x (memory_in addresses.now values.now)) }
 {
     match choice {
         Choice::Execute(t) => executing(t, i, x, addresses, values),
@@ -315,15 +302,8 @@ fn statement_of(set: &[u8], layout: Layout, x: Thread, choice: Choice) -> Statem
 }
 
 // A step that is not taken.
-fn not_taken(
-    outcome: Outcome,
-    statement: Statement,
-    filled: usize,
-    read: Read,
-    address: u16,
-    addressed: bool,
-) -> Stepped
-    ensures { result ≡ not_taken outcome statement filled read address addressed }
+fn not_taken(outcome: Outcome, statement: Statement, filled: usize, read: Read) -> Stepped
+    ensures { result ≡ not_taken outcome statement filled read }
 {
     let thread = Thread::fresh();
     let wrote = Written {
@@ -338,14 +318,12 @@ fn not_taken(
         filled,
         wrote,
         read,
-        address,
-        addressed,
     }
 }
 
-// A step that is not permitted: it reads nothing and has no address.
+// A step that is not permitted: it reads nothing.
 fn not_permitted(statement: Statement, filled: usize) -> Stepped
-    ensures { result ≡ not_taken Outcome.NotPermitted statement filled no_read 0 true }
+    ensures { result ≡ not_taken Outcome.NotPermitted statement filled no_read }
 {
     let read = Read {
         argument: false,
@@ -353,7 +331,7 @@ fn not_permitted(statement: Statement, filled: usize) -> Stepped
         word: false,
         second: 0,
     };
-    not_taken(Outcome::NotPermitted, statement, filled, read, 0, true)
+    not_taken(Outcome::NotPermitted, statement, filled, read)
 }
 
 // One step of the acting thread over a sparse memory: x are its registers, mark its mark. Where it is not taken the memory is as it was.
@@ -394,12 +372,10 @@ pub fn advance(
                     filled: count,
                     wrote,
                     read,
-                    address: e.address,
-                    addressed: e.addressed,
                 };
             }
             let read = e.read;
-            return not_taken(Outcome::Lacking, i, filled, read, e.address, e.addressed);
+            return not_taken(Outcome::Lacking, i, filled, read);
         }
         return not_permitted(i, filled);
     }

@@ -1,4 +1,6 @@
 // The step rule at work: one step of a machine, and the run that simulation, replay and decoding share, by a schedule or along a trace.
+#![tactic(auto)]
+
 mod acting;
 mod walks;
 
@@ -17,7 +19,7 @@ use machine::{Choice, Machine, Outcome, RunAnswer};
 use records::Layout;
 
 // A step's outcome, the machine afterwards and the filled count of its sparse memory.
-#[derive(Drop)]
+#[derive(Clone, Copy)]
 pub struct Step {
     pub machine: Machine,
     pub filled: usize,
@@ -92,7 +94,7 @@ pub fn take(
 }
 
 // What a run over a map gives: its answer, and the cell that it lacks where 14 refuses it.
-#[derive(Drop)]
+#[derive(Clone, Copy)]
 pub struct Walk {
     pub answer: RunAnswer,
     pub lacking: u16,

@@ -12,7 +12,7 @@ ghost use Rattle.step.specs.Runs.{Begins, unknown as unknown_of};
 ghost use Rattle.step.specs.Walks.{steps_of, made as made_of, agrees as agrees_of, step_refusal, walked, walked_lacks, walked_over, traced};
 
 use crate::{Walk, acting};
-use machine::offsets::{EFFECTIVE, NUMBER};
+use machine::offsets::NUMBER;
 use machine::{Choice, End, Machine, Mark, Outcome, Read, RunAnswer, Thread, Written, memory};
 use records::{Layout, Statement, refusals};
 
@@ -99,9 +99,9 @@ fn bit_of(b: bool) -> u8
     if b { 1 } else { 0 }
 }
 
-// A trace step's bytes: thread t with registers x at statement i with effective address a, after a step that wrote w.
-fn step_bytes(t: u8, i: Statement, x: Thread, w: Written, a: u16) -> [u8; Machine::STEP]
-    ensures { result ≡ step_bytes t i x w a }
+// A trace step's bytes: thread t with registers x at statement i, after a step that wrote w.
+fn step_bytes(t: u8, i: Statement, x: Thread, w: Written) -> [u8; Machine::STEP]
+    ensures { result ≡ step_bytes t i x w }
 {
     let full = bit_of(x.full);
     let done = bit_of(w.done);
@@ -128,8 +128,8 @@ fn step_bytes(t: u8, i: Statement, x: Thread, w: Written, a: u16) -> [u8; Machin
         (w.address / 256) as u8,
         (w.value % 256) as u8,
         (w.value / 256) as u8,
-        (a % 256) as u8,
-        (a / 256) as u8,
+        0,
+        0,
     ]
 }
 
@@ -159,25 +159,15 @@ fn made(replaying: bool, input: &[u8], i: usize) -> Choice
     choice_of(base::byte_at(input, i))
 }
 
-// Whether step i of a trace has these bytes, its effective address apart where that cannot be worked out; a schedule says nothing of them.
-fn agrees(
-    replaying: bool,
-    input: &[u8],
-    i: usize,
-    addressed: bool,
-    bytes: [u8; Machine::STEP],
-) -> bool
+// Whether step i of a trace has these bytes; a schedule says nothing of them.
+fn agrees(replaying: bool, input: &[u8], i: usize, bytes: [u8; Machine::STEP]) -> bool
     requires { (i ≤ most_steps) × (replaying ≡ true → step_length * i + step_length ≤ length input.now) }
-    ensures { result ≡ agrees_of replaying input.now i addressed bytes }
+    ensures { result ≡ agrees_of replaying input.now i bytes }
 {
     if replaying {
         let at = Machine::STEP * i;
-        if addressed {
-            let end = at + Machine::STEP;
-            return base::same(&input[at..end], &bytes);
-        }
-        let end = at + EFFECTIVE;
-        return base::same(&input[at..end], &bytes[..EFFECTIVE]);
+        let end = at + Machine::STEP;
+        return base::same(&input[at..end], &bytes);
     }
     true
 }
@@ -277,10 +267,9 @@ fn run(
         let i = s.statement;
         let y = s.thread;
         let outcome = s.outcome;
-        let bytes = step_bytes(t, i, x, wrote, s.address);
+        let bytes = step_bytes(t, i, x, wrote);
         base::place(trace, Machine::STEP * steps, &bytes);
-        let agreed = agrees(replaying, input, steps, s.addressed, bytes);
-        let refusal = refusal_of(outcome, agreed);
+        let refusal = refusal_of(outcome, agrees(replaying, input, steps, bytes));
         if refusal != 0 {
             let lacking = unknown(&addresses[..s.filled], s.read);
             let answer = refused(refusal, steps);

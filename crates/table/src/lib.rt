@@ -1,4 +1,6 @@
 // Formula records: one record's 16 bytes, written at its place in a table.
+#![tactic(auto)]
+
 ghost use Rattle.std.specs.Prelude.{◌≡◌, [], ◌*◌};
 ghost use Rattle.base.specs.Bytes.{placed};
 ghost use Rattle.table.specs.Formulas.{long as long_bytes, formula_bytes, formula_length};
@@ -8,7 +10,7 @@ pub mod repeats;
 
 // A formula record; operands that an operation does not use are 0. A record holds 32 bits of each operand; the fields are wider, so
 // that the sum of an index and a small number has room.
-#[derive(Drop)]
+#[derive(Clone, Copy)]
 pub struct Formula {
     pub operation: u8,
     pub sort: u8,

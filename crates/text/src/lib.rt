@@ -1,4 +1,6 @@
 // Reading a set text: its statement records and map records, or the refusal.
+#![tactic(auto)]
+
 mod map;
 mod sections;
 mod threads;
@@ -16,7 +18,7 @@ use records::{Layout, Statement, refusals};
 use text_drafts::DRAFT;
 
 // What reading answers.
-#[derive(Drop)]
+#[derive(Clone, Copy)]
 pub enum ReadAnswer {
     Read { statements: u16, cells: u16 },
     Refused { number: u8, place: u32 },
@@ -24,7 +26,7 @@ pub enum ReadAnswer {
 
 // What is kept of the lines read so far: whether the threads fit, how many sections have ended, how many statements each thread has,
 // how many cells the map has, which number refuses the last line, 0 for none, and how many lines there are.
-#[derive(Drop)]
+#[derive(Clone, Copy)]
 pub struct Reading {
     pub fits: bool,
     pub ended: u16,

@@ -1,4 +1,6 @@
 // What is kept of a text while it is read. Statements stand in blocks of 36 bytes: thread t's statement p in block 32 * t + p.
+#![tactic(auto)]
+
 pub mod keys;
 
 ghost use Rattle.std.specs.Prelude.{◌≡◌, ◌+◌, ◌*◌, length, drop, take, get_or};

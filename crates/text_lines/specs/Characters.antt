@@ -1,5 +1,5 @@
 -- The bytes of a set text: blanks, digits, letters, and runs of them (document 01, "Set text"). A reader of the calls believes this. Assumes nothing.
-use Rattle.std.specs.Prelude.{ℕ, zero, suc, ◌+◌, ◌-◌, ◌*◌, Bool, true, false, cond, not, ◌&&◌, ◌||◌, List, [], ◌∷◌, eqb, ltb, leb, length, get_or, take, drop}
+use Rattle.std.specs.Prelude.{ℕ, suc, ◌+◌, ◌-◌, ◌*◌, Bool, cond, not, ◌&&◌, ◌||◌, List, [], ◌∷◌, eqb, leb, length, get_or, take, drop}
 use Rattle.text_lines.specs.declared.Class.{Class}
 use Rattle.text_lines.specs.declared.Class.TheVariants.{Allowed, Blank, Digit, Name, Code, InLine}
 

@@ -1,4 +1,6 @@
 // The lines of a set text: where each ends, and what it holds.
+#![tactic(auto)]
+
 pub mod cells;
 mod items;
 pub mod statements;
@@ -8,7 +10,7 @@ ghost use Rattle.text_lines.specs.Characters.{is_in_line, run as run_of};
 ghost use Rattle.text_lines.specs.Lines.{is_dot as is_dot_of};
 
 // Classes of bytes.
-#[derive(Drop)]
+#[derive(Clone, Copy)]
 pub enum Class {
     Allowed,
     Blank,
@@ -19,7 +21,7 @@ pub enum Class {
 }
 
 // How a line stands: nothing in it, against the rules, with a number above 65,535, or well formed.
-#[derive(Drop)]
+#[derive(Clone, Copy)]
 pub enum Form {
     Empty,
     Malformed,
@@ -28,7 +30,7 @@ pub enum Form {
 }
 
 // A statement as its line gives it; label and target are filled up with 0, and all 0 where there is none.
-#[derive(Drop)]
+#[derive(Clone, Copy)]
 pub struct Stated {
     pub form: Form,
     pub label: [u8; 16],
@@ -39,7 +41,7 @@ pub struct Stated {
 }
 
 // A map cell as its line gives it.
-#[derive(Drop)]
+#[derive(Clone, Copy)]
 pub struct Cell {
     pub form: Form,
     pub address: u16,

@@ -27,7 +27,7 @@ fn padded(label: &[u8]) -> [u8; 16]
     ensures { result ≡ padded_of label.now }
 {
     let mut bytes = [0u8; Stated::LABEL];
-    bytes::copy(label, &mut bytes);
+    bytes[..label.len()].copy_from_slice(label);
     bytes
 }
 

@@ -1,17 +1,19 @@
 // A reader of a text: it stands at a byte and gives the next line. `line_at` has a slice and a number and does the work;
 // the functions over a Reader take it apart, and `line_from`, with plain parameters, is what reading calls.
+#![tactic(auto)]
+
 ghost use Rattle.std.specs.Prelude.{◌≡◌};
 ghost use Rattle.text_reader.specs.Readers.{line_at, moved_on};
 
 // Where a line ends, and where the next one starts.
-#[derive(Drop)]
+#[derive(Clone, Copy)]
 pub struct Line {
     pub end: usize,
     pub next: usize,
 }
 
 // A text, and the byte of it where the reader stands.
-#[derive(Drop)]
+#[derive(Clone, Copy)]
 pub struct Reader<'a> {
     pub text: &'a [u8],
     pub at: usize,
@@ -53,7 +55,7 @@ pub fn position<'a>(r: Reader<'a>) -> usize
 
 // The line that a reader gives which stands at a byte of a text.
 pub fn line_from(text: &[u8], at: usize) -> Line
-    ensures { result ≡ line_at text.now at }
+    ensures { (result ≡ line_at text.now at) }
 {
     let mut r = new(text, at);
     let end = next_line(&mut r);

@@ -1,0 +1,42 @@
+-- `encoder_statements::actives` meets its contract. Assumes nothing.
+use Rattle.std.proofs.Common.{arith, refl, rules, ◌<◌, ◌∙◌, ◌≡◌, ◌≤◌}
+use Rattle.encoding.specs.Slots.{kinds, choice, kind_number, active}
+use Rattle.encoder_statements.proofs.Values.{row-none, row_more, row_line}
+use Rattle.table.specs.Repeats.{last_index}
+use Rattle.encoder_statements.proofs.actives.Goals as goal
+
+pub loop-i-init : goal.loop-i-init
+loop-i-init c =
+    let a = c.args in
+    (omega arith, omega arith, refl, refl, row-none (kind_number active) a.set.now a.first a.count a.t a.out.now a.slots.now a.n)
+
+pub loop-i-preserved : goal.loop-i-preserved
+unfolding kinds
+loop-i-preserved c =
+    let a = c.args in
+    let q = c.requires in
+    let l = c.loop-i in
+    let lies = c.place-executes.ensures in
+    let put = c.put_active-tree in
+    let settled = c.settle-next in
+    let small : l.i < 32 = let few = q.0 in omega arith in
+    let room : l.next ≤ last_index = let few = q.0 in let h = q.2 in let m = l.invariant.1 in omega arith in (
+      omega arith,
+      (let m = settled.ensures.2 in let h = l.invariant.1 in omega arith),
+      search rules,
+      search rules,
+      row_more (kind_number active) a.set.now a.first a.count a.t a.out.now a.slots.now a.n l.i l.out l.slots l.next _ _ _ l.invariant.4
+          (λ S cs k stands below others. settled.ensures.0 S cs k l.out _ (omega arith) refl q.1 small (l.invariant.3 ∙ q.3) below
+          (put.ensures.0 (lies ∙ others choice 0 a.t refl) room)),
+    )
+
+pub returns : goal.returns
+unfolding kinds
+returns c =
+    let a = c.args in
+    let few = c.requires.0 in
+    let l = c.loop-i in
+    let all : l.i ≡ a.count = omega arith in (
+      row_line (kind_number active) a.set.now a.first a.count a.t a.out.now a.slots.now a.n (omega arith) refl l.i all l.out l.slots l.next l.invariant.4,
+      (let m = l.invariant.1 in omega arith),
+    )

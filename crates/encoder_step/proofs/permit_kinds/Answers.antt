@@ -1,0 +1,105 @@
+-- `encoder_step::permit_kinds` meets its contract. Assumes nothing.
+use Rattle.std.proofs.Common.{arith, length, refl, sym, ℕ, ◌+◌, ◌∙◌, ◌≡◌, ◌≤◌}
+use Rattle.records.specs.Sets.{set_by}
+use Rattle.encoding.specs.Slots.{kinds, kind_number, held, waits, may_execute, none, permitted_first}
+use Rattle.set_index.specs.Points.{listed}
+use Rattle.encoder_step.proofs.Loops.{lone-at}
+use Rattle.encoder_slots.proofs.Ready.{ready-block}
+use Rattle.encoder_step.proofs.Sequence.{five}
+use Rattle.encoder_slots.specs.Pieces.{block_room}
+use Rattle.table.specs.Repeats.{last_index}
+use Rattle.encoder_step.proofs.permit_kinds.Goals as goal
+
+pub may_execute_block-may-requires : goal.may_execute_block-may-requires
+may_execute_block-may-requires c =
+    let q = c.requires in
+    let p0 = q.0 in
+    let p1 = q.1 in
+    let m1 = c.marks-held.ensures.1 in
+    let m2 = c.waits-waiting.ensures.1 in
+    (omega arith, omega arith)
+
+pub bare_line-none-requires : goal.bare_line-none-requires
+bare_line-none-requires c =
+    let q = c.requires in
+    let p0 = q.0 in
+    let p1 = q.1 in
+    let m1 = c.marks-held.ensures.1 in
+    let m2 = c.waits-waiting.ensures.1 in
+    let m3 = c.may_execute_block-may.ensures.1 in
+    (omega arith, omega arith)
+
+pub bare_line-requires : goal.bare_line-requires
+bare_line-requires c =
+    let q = c.requires in
+    let p0 = q.0 in
+    let p1 = q.1 in
+    let m1 = c.marks-held.ensures.1 in
+    let m2 = c.waits-waiting.ensures.1 in
+    let m3 = c.may_execute_block-may.ensures.1 in
+    let m4 = c.bare_line-none.ensures.1 in
+    (omega arith, omega arith)
+
+pub shape_of-slots : goal.shape_of-slots
+shape_of-slots c =
+    let r1 = c.marks-held in
+    let r2 = c.waits-waiting in
+    let r3 = c.may_execute_block-may in
+    let r4 = c.bare_line-none in
+    let r5 = c.bare_line in
+    let e1 : length r1.new.slots ≡ length c.args.slots.now = r1.auto.slots in
+    let e2 : length r2.new.slots ≡ length r1.new.slots = r2.auto.slots in
+    let e3 : length r3.new.slots ≡ length r2.new.slots = r3.auto.slots in
+    let e4 : length r4.new.slots ≡ length r3.new.slots = r4.auto.slots in
+    let e5 : length r5.new.slots ≡ length r4.new.slots = r5.auto.slots in
+    e5 ∙ (e4 ∙ (e3 ∙ (e2 ∙ (e1))))
+
+pub shape_of-out : goal.shape_of-out
+shape_of-out c =
+    let r1 = c.marks-held in
+    let r2 = c.waits-waiting in
+    let r3 = c.may_execute_block-may in
+    let r4 = c.bare_line-none in
+    let r5 = c.bare_line in
+    let e1 : length r1.new.out ≡ length c.args.out.now = r1.auto.out in
+    let e2 : length r2.new.out ≡ length r1.new.out = r2.auto.out in
+    let e3 : length r3.new.out ≡ length r2.new.out = r3.auto.out in
+    let e4 : length r4.new.out ≡ length r3.new.out = r4.auto.out in
+    let e5 : length r5.new.out ≡ length r4.new.out = r5.auto.out in
+    e5 ∙ (e4 ∙ (e3 ∙ (e2 ∙ (e1))))
+
+pub returns : goal.returns
+unfolding kinds
+returns c =
+    let a = c.args in
+    let q = c.requires in
+    let p0 = q.0 in
+    let p1 = q.1 in
+    let r1 = c.marks-held in
+    let r2 = c.waits-waiting in
+    let r3 = c.may_execute_block-may in
+    let r4 = c.bare_line-none in
+    let r5 = c.bare_line in
+    let room1 : a.n + block_room ≤ last_index = omega arith in
+    let m1 = r1.ensures.1 in
+    let room2 : r1.result + block_room ≤ last_index = omega arith in
+    let m2 = r2.ensures.1 in
+    let m3 = r3.ensures.1 in
+    let m4 = r4.ensures.1 in
+    let m5 = r5.ensures.1 in
+    let many = c.points_count-checkpoints.ensures in (
+      λ bytes members s0.
+          let S = set_by bytes a.layout in
+          let cs = listed a.points in
+          let w1 = r1.ensures.0 S cs _ refl (sym many) refl s0 room1 in
+          let s1 = ready-block a.step held w1 s0 in
+          let w2 = r2.ensures.0 S cs _ refl (sym many) s1 room2 in
+          let s2 = ready-block a.step waits w2 s1 in
+          let w3 = r3.ensures.0 S cs _ _ refl s2 in
+          let s3 = ready-block a.step may_execute w3 s2 in
+          let w4 = r4.ensures.0 S cs _ _ refl (λ (b : ℕ). lone-at S cs 0 b (kind_number none) (omega arith) refl) refl (omega arith) s3 in
+          let s4 = ready-block a.step none w4 s3 in
+          let w5 = r5.ensures.0 S cs _ _ refl (λ (b : ℕ). lone-at S cs 0 b (kind_number permitted_first) (omega arith) refl) refl (omega arith) s4 in
+          five S cs a.step 5 w1 w2 w3 w4 w5,
+      omega arith,
+    )

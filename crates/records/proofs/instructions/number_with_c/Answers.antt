@@ -1,0 +1,20 @@
+-- `records::instructions::number_with_c` meets its contract. Assumes nothing.
+use Rattle.std.proofs.Common.{[], arith, refl, sym, ◌∙◌, ◌∷◌}
+use Rattle.base.specs.Below.{every}
+use Rattle.records.specs.Instructions.{words, word_of, CAS, CHECK}
+use Rattle.records.proofs.Words.{among, found, none-starting}
+use Rattle.records.proofs.instructions.number_with_c.Goals as goal
+
+pub returns-then-same : goal.returns-then-same
+unfolding words word_of
+returns-then-same c = found _ CAS (omega arith) (sym c.same.ensures ∙ c.if-same.true)
+
+pub returns-then-same-2 : goal.returns-then-same-2
+unfolding words word_of
+returns-then-same-2 c = found _ CHECK (omega arith) (sym c.same-2.ensures ∙ c.if-same-2.true)
+
+pub returns : goal.returns
+unfolding every among words word_of
+returns c =
+    none-starting _ _ (CAS ∷ CHECK ∷ []) c.requires refl
+    ((_, sym c.same-2.ensures ∙ c.if-same-2.false), sym c.same.ensures ∙ c.if-same.false)
