@@ -12,22 +12,7 @@
  *   map       at most 256 cells, 128 from a text or for a table, 4 bytes each: address (2), value
  *             (2); addresses strictly ascend
  *   schedule  a byte for each step, at most 64: t executes thread t, 128 + t flushes it
- *   trace     24 bytes for each step, at most 64, with the state before it:
- *                0  thread
- *                1  instruction number, 20 for a flush
- *                2  pc (2)
- *                4  argument (2), 0 for a flush
- *                6  mode, 0 for a flush
- *                7  full
- *                8  accu (2)
- *               10  mem (2)
- *               12  adr (2)
- *               14  val (2)
- *               16  1 if the previous step flushed or did a CAS that matched, then 0
- *               18  the address (2) and the value (2) that it wrote, else 0
- *               22  effective address (2) of LOAD, STORE, ADD, SUB, MUL, MEM and CAS: the argument,
- *                   or where the mode is 1 the word that a load of the argument gives; of other
- *                   words and of a flush 0
+ *   trace     24 bytes for each step, at most 64
  *   table     formula records, 16 bytes each: operation, sort, constant (2), operands a, b, c (4
  *             each); docs/TABLE.md has their order
  *   model     for each step of the bound a byte of 0 or 1 for each thread's execute, then for each
@@ -83,8 +68,7 @@ uint64_t deepchalk_read(const uint8_t *text, size_t text_len,
                         uint8_t *map, size_t map_len);
 
 /* Runs the schedule over the set and the map and writes its trace to the front of `trace`.
- * Checks in order: 9, 17, 11 (24 bytes for each schedule byte), then in each step 12, and 14 where the
- * cell of its address word or of its data word is lacking.
+ * Checks in order: 9, 17, 11 (24 bytes for each schedule byte), then 12 and 14 in each step.
  * A refusal leaves every byte of `trace` as it was, a success those beyond the steps. */
 uint64_t deepchalk_simulate(const uint8_t *set, size_t set_len,
                             const uint8_t *map, size_t map_len,
@@ -92,9 +76,7 @@ uint64_t deepchalk_simulate(const uint8_t *set, size_t set_len,
                             uint8_t *trace, size_t trace_len);
 
 /* Compares the trace, step by step, with the run that its choices make over the set and the map.
- * Checks in order: 9, 17, then in each step 12; 13 for every byte but 22 and 23; 14 where the cell of
- * the address word, the load of an indirect argument, is lacking; 13 for bytes 22 and 23; 14 where the
- * cell of the data word is lacking. */
+ * Checks in order: 9, 17, then 12, 13 and 14 in each step. */
 uint64_t deepchalk_replay(const uint8_t *set, size_t set_len,
                           const uint8_t *map, size_t map_len,
                           const uint8_t *trace, size_t trace_len);

@@ -1,4 +1,4 @@
-//! Links the proved library, by default where `rt staticlib deepchalk` writes it.
+//! Links the proved library, by default where `bin/library` writes it.
 
 use std::env;
 use std::path::PathBuf;
@@ -13,7 +13,7 @@ fn main() {
     println!("cargo::rerun-if-changed={}", library.display());
     if !library.is_file() {
         println!(
-            "cargo::error={} is missing: run .ci/run or rt staticlib deepchalk first",
+            "cargo::error={} is missing: run bin/library first",
             library.display()
         );
         return;

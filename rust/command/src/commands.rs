@@ -203,8 +203,7 @@ fn trace_of(file: &OsStr) -> Result<(Vec<u8>, Run), Failure> {
 
 pub fn show(arguments: &Arguments) -> Result<Answer, Failure> {
     let (_, run) = trace_of(&arguments.inputs[0])?;
-    let text = run.text_with_addresses();
-    Ok(Answer::new(text, Json::Object(run.json())))
+    Ok(Answer::new(run.text(), Json::Object(run.json())))
 }
 
 pub fn draw(arguments: &Arguments) -> Result<Answer, Failure> {

@@ -4,7 +4,6 @@ use crate::json::Json;
 use crate::set::{map_json, map_text};
 use crate::steps;
 use deepchalk::End;
-use reference::listing::step_line;
 use reference::records::MAX_GIVEN_MAP;
 use reference::trace::{Step, STEP_BYTES};
 use reference::{accept_map, Cell};
@@ -42,16 +41,7 @@ impl Run {
 
     /// The listing's lines, then the map's.
     pub fn text(&self) -> String {
-        self.text_by(step_line)
-    }
-
-    /// The same with effective addresses.
-    pub fn text_with_addresses(&self) -> String {
-        self.text_by(steps::line_with_address)
-    }
-
-    fn text_by(&self, line: fn(&Step) -> String) -> String {
-        let mut text: String = self.steps.iter().map(line).collect();
+        let mut text = steps::lines(&self.steps);
         text.extend(self.end.map(|end| format!("{end}\n")));
         text.extend(
             self.map

@@ -1,4 +1,4 @@
-//! Trace steps from bytes, as lines and as JSON.
+//! Trace steps from bytes, as the listing's lines and as JSON.
 
 use crate::failure::Failure;
 use crate::json::Json;
@@ -31,13 +31,8 @@ pub fn known_end(steps: &[Step]) -> Option<End> {
     (last.instruction == Exit).then_some(End::Code(last.argument))
 }
 
-/// The listing's line, and after that of a memory word its effective address.
-pub fn line_with_address(step: &Step) -> String {
-    let line = step_line(step);
-    match step.effective_address() {
-        Some(address) => format!("{} @{address}\n", line.trim_end()),
-        None => line,
-    }
+pub fn lines(steps: &[Step]) -> String {
+    steps.iter().map(step_line).collect()
 }
 
 pub fn json(steps: &[Step]) -> Json {
@@ -50,9 +45,7 @@ fn step_json(step: &Step) -> Json {
         ("pc", Json::from(step.pc)),
     ];
     members.extend(statement_json(step.statement));
-    let address = step.effective_address();
     members.extend([
-        ("address", address.map_or(Json::Null, Json::from)),
         ("accu", Json::from(step.accu)),
         ("mem", Json::from(step.mem)),
         ("adr", Json::from(step.adr)),
@@ -72,55 +65,4 @@ pub fn end_json(end: Option<End>) -> [(&'static str, Json); 2] {
         Some(End::Open) => (Json::from("open"), Json::Null),
     };
     [("end", kind), ("code", code)]
-}
-
-#[cfg(test)]
-mod tests {
-    use super::*;
-    use reference::{Instruction, Statement};
-
-    fn step(statement: Option<Statement>, address: u16) -> Step {
-        Step {
-            thread: 0,
-            statement,
-            pc: 2,
-            full: true,
-            accu: 7,
-            mem: 0,
-            adr: 5,
-            val: 9,
-            written: None,
-            address,
-        }
-    }
-
-    #[test]
-    fn addresses_of_memory_words_alone() {
-        let load = step(Some(Statement::indirect(Instruction::Load, 5)), 9);
-        let zero = step(Some(Statement::new(Instruction::Load, 0)), 0);
-        let jump = step(Some(Statement::new(Instruction::Jz, 5)), 0);
-        let flush = step(None, 0);
-        for (step, line, json) in [
-            (
-                load,
-                "0 2 LOAD [5] 7 0 5 9 1 {} @9\n",
-                r#"true,"address":9,"#,
-            ),
-            (
-                zero,
-                "0 2 LOAD 0 7 0 5 9 1 {} @0\n",
-                r#"false,"address":0,"#,
-            ),
-            (jump, "0 2 JZ 5 7 0 5 9 1 {}\n", r#"false,"address":null,"#),
-            (
-                flush,
-                "0 2 FLUSH - 7 0 5 9 1 {}\n",
-                r#"false,"address":null,"#,
-            ),
-        ] {
-            assert_eq!(line_with_address(&step), line);
-            let member = format!(r#""indirect":{json}"accu":7"#);
-            assert!(step_json(&step).to_string().contains(&member), "{line}");
-        }
-    }
 }

@@ -12,7 +12,7 @@ deepchalk: looks for failing runs of small lock-free programs on a store-buffer 
   deepchalk encode FILE K [-o TABLE]    the formula table, or its size
   deepchalk check FILE K MODEL          whether a solver's model satisfies the table
   deepchalk decode FILE K MODEL         the model's run, with the map it needs
-  deepchalk show TRACE                  the lines of a trace, with effective addresses
+  deepchalk show TRACE                  the lines of a trace
   deepchalk draw TRACE -o FILE.svg      the picture of a trace
 
 FILE is a set text, K a bound from 1 to 64; - is standard input, or standard output after -o, -m, --svg.

@@ -6,7 +6,6 @@ use shell::{Folder, EXAMPLE};
 use std::ffi::OsString;
 use std::fs;
 use std::os::unix::ffi::OsStringExt;
-use testing::damage::without_addresses;
 
 const BAD: i32 = 2;
 const REFUSED: i32 = 3;
@@ -275,8 +274,7 @@ fn refused_traces() {
     folder.put("bad", &changed);
     let differs = "bad: refused 13: trace field differs, at step 1";
     folder.fails("replay set.txt bad", REFUSED, differs);
-    // Thread, instruction number, mode, full, the mark of a written cell, the bytes that are 0, and the
-    // effective address, which an EXIT does not have.
+    // Thread, instruction number, mode, full, the mark of a written cell, and the bytes that are 0.
     for (at, value) in [
         (0, 4),
         (1, 21),
@@ -285,7 +283,6 @@ fn refused_traces() {
         (16, 2),
         (17, 1),
         (18, 1),
-        (22, 1),
         (23, 1),
     ] {
         let mut changed = trace.clone();
@@ -294,19 +291,6 @@ fn refused_traces() {
         folder.fails("show bad", BAD, "bad: step 2 is no trace step");
         folder.fails("draw bad -o t", BAD, "bad: step 2 is no trace step");
     }
-}
-
-/// A trace with 0 for each effective address, in which that of the STORE is not 0.
-#[test]
-fn older_traces() {
-    let folder = Folder::new("older_traces");
-    folder.put("set.txt", b"ADDI 1\nSTORE 5\nEXIT 1\n.\n");
-    folder.text("simulate set.txt 0 0 0 -o trace");
-    folder.put("older", &without_addresses(&folder.get("trace")));
-    let differs = "older: refused 13: trace field differs, at step 1";
-    folder.fails("replay set.txt older", REFUSED, differs);
-    folder.fails("show older", BAD, "older: step 1 is no trace step");
-    folder.fails("draw older -o t", BAD, "older: step 1 is no trace step");
 }
 
 #[test]

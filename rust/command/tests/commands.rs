@@ -4,7 +4,7 @@ mod shell;
 
 use reference::litmus::{amd, intel};
 use reference::records::{map_bytes, set_bytes};
-use shell::{ended, set_text, Folder, EXAMPLE, MODEL, SHORTEST, SHOWN};
+use shell::{ended, set_text, Folder, EXAMPLE, MODEL, SHORTEST};
 use std::process::Command;
 use testing::{texts, Random};
 
@@ -74,7 +74,7 @@ fn simulate_and_replay() {
         folder.text("replay set.txt trace"),
         "replays: 3 steps, end 7\n"
     );
-    assert_eq!(folder.text("show trace"), SHOWN);
+    assert_eq!(folder.text("show trace"), SHORTEST);
     // One word, standard input, and no choice at all.
     let quoted = folder.run_words(&["simulate", "set.txt", "1 1 1"], b"");
     assert_eq!(quoted.text(), SHORTEST);
@@ -110,7 +110,7 @@ fn standard_input_and_output() {
     let replayed = folder.run_words(&["replay", "set.txt", "-"], &trace.out);
     assert_eq!(replayed.text(), "replays: 3 steps, end 7\n");
     let shown = folder.run_words(&["show", "-"], &trace.out);
-    assert_eq!(shown.text(), SHOWN);
+    assert_eq!(shown.text(), SHORTEST);
     let checked = folder.run_words(&["check", "set.txt", "3", "-"], &MODEL);
     assert_eq!(checked.status, 0);
     let table = folder.run_words(&["encode", "-", "3", "-o", "-"], EXAMPLE.as_bytes());
@@ -158,41 +158,6 @@ fn check_and_decode() {
     let replayed = folder.text("replay set.txt trace --map map");
     assert_eq!(replayed, "replays: 3 steps, end 7\n");
     assert_eq!(folder.names(), ["map", "model", "set.txt", "trace"]);
-}
-
-/// LOAD [5] is of address 9, which the buffer holds for 5, and STORE [5] of address 9 by cell 5. Only
-/// `show` says so.
-#[test]
-fn effective_addresses() {
-    let folder = Folder::new("addresses");
-    let text = "ADDI 9\nSTORE 5\nLOAD [5]\nFENCE\nSTORE [5]\nEXIT 1\n.\n9 4\n";
-    folder.put("set.txt", text.as_bytes());
-    let lines = "0 0 ADDI 9 0 0 0 0 0 {}\n0 1 STORE 5 9 0 0 0 0 {}\n\
-                 0 2 LOAD [5] 9 0 5 9 1 {}\n0 3 FLUSH - 4 0 5 9 1 {}\n\
-                 0 3 FENCE - 4 0 5 9 0 {(5,9)}\n0 4 STORE [5] 4 0 5 9 0 {}\n\
-                 0 5 EXIT 1 4 0 9 4 1 {}\nend 1\n";
-    assert_eq!(folder.text("list set.txt"), lines);
-    assert_eq!(
-        folder.text("simulate set.txt 0 0 0 f0 0 0 0 -o trace"),
-        lines
-    );
-    let found = folder.run("find set.txt 7 --search -o found -m map").text();
-    assert!(
-        found.ends_with(&format!("\n\n{lines}\nmap\n9 4\n")),
-        "{found}"
-    );
-    // Executes but for the flush in step 3.
-    let bits = (0..7).flat_map(|step| if step == 3 { [0, 1] } else { [1, 0] });
-    folder.put("model", &bits.chain([9, 0, 4, 0]).collect::<Vec<u8>>());
-    let decoded = folder.text("decode set.txt 7 model -o decoded");
-    assert_eq!(decoded, format!("{lines}\nmap\n9 4\n"));
-    let shown = "0 0 ADDI 9 0 0 0 0 0 {}\n0 1 STORE 5 9 0 0 0 0 {} @5\n\
-                 0 2 LOAD [5] 9 0 5 9 1 {} @9\n0 3 FLUSH - 4 0 5 9 1 {}\n\
-                 0 3 FENCE - 4 0 5 9 0 {(5,9)}\n0 4 STORE [5] 4 0 5 9 0 {} @9\n\
-                 0 5 EXIT 1 4 0 9 4 1 {}\nend 1\n";
-    for trace in ["trace", "found", "decoded"] {
-        assert_eq!(folder.text(&format!("show {trace}")), shown);
-    }
 }
 
 /// A file that is there keeps its links and its permissions; a device stays a device.

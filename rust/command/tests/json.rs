@@ -51,9 +51,9 @@ fn json(folder: &Folder, line: &str, status: i32) -> String {
     text
 }
 
-const LOAD: &str = r#"{"thread":1,"pc":0,"word":"LOAD","argument":0,"indirect":false,"address":0,"accu":0,"mem":0,"adr":0,"val":0,"full":0,"written":null}"#;
-const JZ: &str = r#"{"thread":1,"pc":1,"word":"JZ","argument":3,"indirect":false,"address":null,"accu":0,"mem":0,"adr":0,"val":0,"full":0,"written":null}"#;
-const EXIT: &str = r#"{"thread":1,"pc":3,"word":"EXIT","argument":7,"indirect":false,"address":null,"accu":0,"mem":0,"adr":0,"val":0,"full":0,"written":null}"#;
+const LOAD: &str = r#"{"thread":1,"pc":0,"word":"LOAD","argument":0,"indirect":false,"accu":0,"mem":0,"adr":0,"val":0,"full":0,"written":null}"#;
+const JZ: &str = r#"{"thread":1,"pc":1,"word":"JZ","argument":3,"indirect":false,"accu":0,"mem":0,"adr":0,"val":0,"full":0,"written":null}"#;
+const EXIT: &str = r#"{"thread":1,"pc":3,"word":"EXIT","argument":7,"indirect":false,"accu":0,"mem":0,"adr":0,"val":0,"full":0,"written":null}"#;
 
 fn shortest() -> String {
     format!(r#""steps":3,"end":"code","code":7,"trace":[{LOAD},{JZ},{EXIT}]"#)
@@ -86,16 +86,11 @@ fn runs() {
     // A flush, what it wrote, and a run that goes on.
     let open = json(&folder, "simulate set.txt 0 0 f0 1 --json", 0);
     assert!(open.starts_with(r#"{"steps":4,"end":"open","code":null,"trace":[{"#));
-    let flush = r#"{"thread":0,"pc":2,"word":"FLUSH","argument":null,"indirect":false,"address":null,"accu":1,"mem":0,"adr":0,"val":1,"full":1,"written":null}"#;
+    let flush = r#"{"thread":0,"pc":2,"word":"FLUSH","argument":null,"indirect":false,"accu":1,"mem":0,"adr":0,"val":1,"full":1,"written":null}"#;
     assert!(open.contains(flush), "{open}");
     assert!(open.contains(r#""written":{"address":0,"value":1}}]}"#));
     let listed = json(&folder, "list --json set.txt", 0);
     assert!(listed.starts_with(r#"{"steps":5,"end":"code","code":7,"trace":[{"#));
-    // An indirect access.
-    folder.put("indirect.txt", b"LOAD [7]\n.\n7 9\n9 1\n");
-    let indirect = json(&folder, "simulate indirect.txt 0 --json", 0);
-    let load = r#""word":"LOAD","argument":7,"indirect":true,"address":9,"accu":0"#;
-    assert!(indirect.contains(load), "{indirect}");
     // A trace tells its end only by an EXIT.
     folder.text("simulate set.txt 0 -o trace");
     let shown = json(&folder, "show trace --json", 0);

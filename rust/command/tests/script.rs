@@ -9,8 +9,8 @@ use std::os::unix::fs::symlink;
 use std::path::Path;
 use std::process::Command;
 
-const RT: &str = "echo noise; echo 'rt: base proved (4 s)'; echo more noise >&2; \
-     mkdir -p target/staticlib; echo rt >> calls; touch target/staticlib/libdeepchalk.a";
+const RT: &str = "echo noise; echo 'crate base: modules loaded=0 checked=4'; echo more noise >&2; \
+     mkdir -p out; echo \"rt $*\" >> ../../calls; touch out/libdeepchalk.a";
 const CARGO: &str = "echo cargo >> calls; mkdir -p rust/target/release; \
      printf '#!/bin/bash\\necho \"$PWD: $*\"; exit 4\\n' > rust/target/release/deepchalk; \
      chmod +x rust/target/release/deepchalk";
@@ -26,6 +26,7 @@ fn tree(name: &str) -> Folder {
         "tools",
         "elsewhere",
         "crates/base/src",
+        "crates/deepchalk/src",
         "rust/command/src",
         "rust/deepchalk/src",
         "rust/reference/src",
@@ -47,9 +48,13 @@ fn tree(name: &str) -> Folder {
     ] {
         folder.put(file, b"");
     }
-    let script = Path::new(env!("CARGO_MANIFEST_DIR")).join("../../bin/deepchalk");
-    let script = fs::read(script).expect("it is there");
-    write_program(&folder.path("bin/deepchalk"), &script);
+    for name in ["deepchalk", "library"] {
+        let script = Path::new(env!("CARGO_MANIFEST_DIR"))
+            .join("../../bin")
+            .join(name);
+        let script = fs::read(script).expect("it is there");
+        write_program(&folder.path("bin").join(name), &script);
+    }
     tool(&folder, "rt", RT);
     tool(&folder, "cargo", CARGO);
     folder
@@ -88,7 +93,7 @@ fn change(folder: &Folder, file: &str) {
 fn builds_once_and_runs() {
     let folder = tree("script");
     let first = run(&folder);
-    let proved = "rt: base proved (4 s)\n";
+    let proved = "crate base: modules loaded=0 checked=4\n";
     assert_eq!(first.error, format!("{PROVING}{proved}{BUILDING}"));
     let place = folder
         .path("elsewhere")
@@ -98,7 +103,7 @@ fn builds_once_and_runs() {
     assert_eq!(first.status, 4);
     let second = run(&folder);
     assert_eq!((second.status, second.error.as_str()), (4, ""));
-    assert_eq!(calls(&folder), "rt\ncargo\n");
+    assert_eq!(calls(&folder), "rt lib\ncargo\n");
 }
 
 #[test]
@@ -116,12 +121,14 @@ fn builds_again_what_changed() {
 #[test]
 fn failures_show_the_end_of_the_log() {
     let folder = tree("script_fails");
-    tool(&folder, "rt", "echo 'rt: base NOT PROVED'; seq 100; exit 3");
+    let refused = "rt: the library base did not build, so nothing above it was checked";
+    let fails = format!("echo '{refused}'; seq 100; exit 3");
+    tool(&folder, "rt", &fails);
     let failed = run(&folder);
     assert_eq!((failed.status, failed.text().as_str()), (6, ""));
-    let last = "99\n100\ndeepchalk: cannot be built: rt ended with status 3\n";
+    let last = "99\n100\ndeepchalk: cannot be built: bin/library ended with status 3\n";
     assert!(failed.error.ends_with(last), "{}", failed.error);
-    assert!(failed.error.contains("rt: base NOT PROVED\n81\n"));
+    assert!(failed.error.contains(&format!("{refused}\n81\n")));
     tool(&folder, "rt", RT);
     tool(&folder, "cargo", "echo 'error: no'; exit 101");
     let failed = run(&folder);

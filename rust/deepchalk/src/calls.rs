@@ -22,8 +22,7 @@ pub fn read(text: &[u8], set: &mut [u8], map: &mut [u8]) -> Result<Read, Refusal
 }
 
 /// Runs the schedule over the set and the map and writes its trace, 24 bytes a step, to the front
-/// of `trace`; the last two bytes of a memory word's step are its effective address. A refusal leaves
-/// `trace` as it was; a success leaves the bytes beyond the steps.
+/// of `trace`. A refusal leaves `trace` as it was; a success leaves the bytes beyond the steps.
 pub fn simulate(set: &[u8], map: &[u8], schedule: &[u8], trace: &mut [u8]) -> Result<Ran, Refusal> {
     // SAFETY: as in `read`.
     let packed = unsafe {
@@ -41,9 +40,7 @@ pub fn simulate(set: &[u8], map: &[u8], schedule: &[u8], trace: &mut [u8]) -> Re
     answers::run_answer(packed)
 }
 
-/// Compares the trace, step by step, with the run that its choices make over the set and the map. In a
-/// step the effective address is compared after all other fields: 12, 13 for these, 14 where the address
-/// word's cell is lacking, 13 for the effective address, 14 where the data word's cell is lacking.
+/// Compares the trace, step by step, with the run that its choices make over the set and the map.
 pub fn replay(set: &[u8], map: &[u8], trace: &[u8]) -> Result<Ran, Refusal> {
     // SAFETY: as in `read`.
     let packed = unsafe {

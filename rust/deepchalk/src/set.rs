@@ -80,8 +80,8 @@ impl Set {
         Ok((trace, ran))
     }
 
-    /// Compares the trace with the run that its choices make over the set's map, as
-    /// [`replay`](crate::replay) does. Refusals 12, 13, 14 and 17.
+    /// Compares the trace with the run that its choices make over the set's map. Refusals 12, 13, 14
+    /// and 17.
     pub fn replay(&self, trace: &[u8]) -> Result<Ran, Refusal> {
         self.replay_over(&self.map, trace)
     }

@@ -1,16 +1,14 @@
 //! The library against the second simulator on every byte of records, schedules and traces changed,
-//! every length, every size of map and output around its bound, and every lacking cell.
+//! every length, and every size of map and output around its bound.
 
 mod compare;
 
 use compare::Comparison;
-use reference::records::{map_bytes, set_bytes, CELL_BYTES};
-use reference::trace::{ADDRESS, MAX_STEPS, STEP_BYTES};
+use reference::records::{map_bytes, set_bytes};
+use reference::trace::{MAX_STEPS, STEP_BYTES};
 use reference::Instruction::*;
 use reference::{Cell, Refusal, Statement};
-use testing::damage::{self, Field};
 use testing::schedules::trace_of;
-use testing::Random;
 
 /// Three threads with all twenty instructions, indirect words and a checkpoint of two threads.
 fn set() -> Vec<u8> {
@@ -250,126 +248,4 @@ fn every_room_around_what_is_asked() {
             assert_eq!(answer.is_err(), room < needed);
         }
     }
-}
-
-// ---- effective addresses
-
-/// Each cell of the map lacking, alone and with each field of each step damaged.
-#[test]
-fn every_lacking_cell_and_every_field() {
-    let (set, map, schedule) = (set(), cells(8), schedule());
-    let trace = trace_of(&set, &map, &schedule);
-    let mut random = Random::new(1);
-    let mut comparison = Comparison::new();
-    for cell in 0..8 {
-        let mut lacking = map.clone();
-        lacking.drain(cell * CELL_BYTES..(cell + 1) * CELL_BYTES);
-        simulate(&mut comparison, &set, &lacking, &schedule);
-        let _ = comparison.replay(&set, &lacking, &trace);
-        for step in 0..MAX_STEPS {
-            for field in Field::ALL {
-                let mut damaged = trace.clone();
-                damage::field(&mut random, &mut damaged, step, field);
-                let _ = comparison.replay(&set, &lacking, &damaged);
-            }
-        }
-    }
-}
-
-/// A run's last step: what its effective address is, none where the address word's cell is lacking, and
-/// whether the data word's cell is.
-struct Last {
-    statements: Vec<Statement>,
-    map: &'static [(u16, u16)],
-    address: Option<u16>,
-    lacks_data_word: bool,
-}
-
-impl Last {
-    fn new(
-        statements: &[Statement],
-        map: &'static [(u16, u16)],
-        address: Option<u16>,
-        lacks_data_word: bool,
-    ) -> Last {
-        Last {
-            statements: statements.to_vec(),
-            map,
-            address,
-            lacks_data_word,
-        }
-    }
-
-    fn compare(&self, comparison: &mut Comparison) {
-        let mut statements = self.statements.clone();
-        statements.push(Statement::new(Halt, 0));
-        let set = set_bytes(&[statements]);
-        let cell = |&(address, value)| Cell { address, value };
-        let map = map_bytes(&self.map.iter().map(cell).collect::<Vec<Cell>>());
-        let last = self.statements.len() - 1;
-        let mut trace = trace_of(&set, &map, &vec![0; last + 1]);
-        let right = self.address.unwrap_or(5);
-        let flipped = (0..16).map(|bit| right ^ (1 << bit));
-        for address in flipped.chain([right, 0, 5, 65_535]) {
-            trace[last * STEP_BYTES + ADDRESS..].copy_from_slice(&address.to_le_bytes());
-            let answer = comparison.replay(&set, &map, &trace);
-            let expected = match self.address {
-                None => Err(Refusal::lacks_cell(last)),
-                Some(right) if right != address => Err(Refusal::differs(last)),
-                Some(_) if self.lacks_data_word => Err(Refusal::lacks_cell(last)),
-                Some(_) => Ok(()),
-            };
-            assert_eq!(answer.map(|_| ()), expected, "{address}");
-        }
-    }
-}
-
-#[test]
-fn effective_addresses_and_lacking_cells() {
-    let (direct, indirect) = (Statement::new(Load, 5), Statement::indirect(Load, 5));
-    let forwarded = [Statement::new(Addi, 9), Statement::new(Store, 5), indirect];
-    let mut comparison = Comparison::new();
-    for last in [
-        Last::new(&[direct], &[(5, 9)], Some(5), false),
-        Last::new(&[direct], &[(9, 5)], Some(5), true),
-        Last::new(&[indirect], &[(5, 9), (9, 1)], Some(9), false),
-        Last::new(&[indirect], &[(5, 9)], Some(9), true),
-        Last::new(&[indirect], &[(9, 1)], None, false),
-        Last::new(&[Statement::indirect(Store, 5)], &[(5, 9)], Some(9), false),
-        Last::new(&[Statement::indirect(Store, 5)], &[(9, 1)], None, false),
-        Last::new(&[Statement::indirect(Cas, 5)], &[(5, 9)], Some(9), true),
-        // The buffer's word for address 5 is 9, whatever cell 5 holds.
-        Last::new(&forwarded, &[(5, 7), (9, 1)], Some(9), false),
-        Last::new(&forwarded, &[(7, 1)], Some(9), true),
-        // Zeros that are right.
-        Last::new(&[Statement::new(Load, 0)], &[(0, 3)], Some(0), false),
-        Last::new(&[Statement::new(Jmp, 1)], &[], Some(0), false),
-    ] {
-        last.compare(&mut comparison);
-    }
-}
-
-/// 0 for the effective address passes in the steps where it is 0 alone.
-#[test]
-fn every_step_without_its_address() {
-    let (set, map, schedule) = (set(), cells(8), schedule());
-    let trace = trace_of(&set, &map, &schedule);
-    let mut comparison = Comparison::new();
-    let mut right = 0;
-    for step in 0..MAX_STEPS {
-        let bytes = step * STEP_BYTES + ADDRESS..(step + 1) * STEP_BYTES;
-        let mut zeros = trace.clone();
-        zeros[bytes.clone()].fill(0);
-        let answer = comparison.replay(&set, &map, &zeros);
-        let is_right = trace[bytes] == [0, 0];
-        let expected = if is_right {
-            Ok(())
-        } else {
-            Err(Refusal::differs(step))
-        };
-        assert_eq!(answer.map(|_| ()), expected);
-        right += usize::from(is_right);
-    }
-    assert!(right > 10 && right < MAX_STEPS - 10, "{right}");
-    let _ = comparison.replay(&set, &map, &damage::without_addresses(&trace));
 }

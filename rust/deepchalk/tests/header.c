@@ -46,15 +46,6 @@ static void encode_table(void)
     print_table(deepchalk_encode(set, 8, map, 0, 1, table, 16 * deepchalk_records(size) - 1));
 }
 
-/* What replay says of STORE [5] over these cells, with this effective address in the trace. */
-static void replay_store(const uint8_t *map, size_t map_len, uint8_t address)
-{
-    const uint8_t set[16] = {0, 1, 1, 0, 5, 0, 0, 0, 0, 17, 0, 0, 0, 0, 1, 0};
-    uint8_t trace[24] = {0, 1, 0, 0, 5, 0, 1};
-    trace[22] = address;
-    print(deepchalk_replay(set, 16, map, map_len, trace, 24));
-}
-
 /* LOAD 5, EXIT 1 for K 2, whose run reads cell 5, and its model. */
 static const uint8_t models_set[16] = {0, 0, 0, 0, 5, 0, 0, 0, 0, 18, 0, 0, 1, 0, 1, 0};
 static uint8_t model[8] = {1, 0, 1, 0, 5, 0, 9, 0};
@@ -79,8 +70,8 @@ static void decode_model(size_t trace_len)
                                        trace, trace_len, decoded_map, 1024);
     printf("%u %u %u\n", deepchalk_number(answer), (unsigned)deepchalk_steps(answer),
            (unsigned)deepchalk_decoded_cells(answer));
-    printf("%u %u %u %u %u %u\n", (unsigned)trace[22], (unsigned)trace[24 + 1], (unsigned)trace[24 + 8],
-           (unsigned)trace[24 + 22], (unsigned)decoded_map[0], (unsigned)decoded_map[2]);
+    printf("%u %u %u %u\n", (unsigned)trace[24 + 1], (unsigned)trace[24 + 8], (unsigned)decoded_map[0],
+           (unsigned)decoded_map[2]);
 }
 
 int main(void)
@@ -110,11 +101,5 @@ int main(void)
     print(deepchalk_replay(set, 24, map, 0, trace, 71));
     trace[47] = 1;
     print(deepchalk_replay(set, 24, map, 0, trace, 72));
-
-    /* Cell 5 holds 9, or is lacking. */
-    const uint8_t nine[4] = {5, 0, 9, 0};
-    replay_store(nine, 4, 9);
-    replay_store(nine, 4, 0);
-    replay_store(nine, 0, 9);
     return deepchalk_end(answer) == DEEPCHALK_CODE ? 0 : 1;
 }

@@ -1,4 +1,4 @@
-//! The program `listing`, which `rt ci` and `rt check listing` prove and build, against the second listing:
+//! The program `listing`, which `rt ci`, and `rt run` in its folder, prove and build, against the second listing:
 //! what it prints for random texts on standard input.
 
 use reference::listing::listing;
@@ -28,10 +28,10 @@ fn printed(program: &Path, text: &[u8]) -> Vec<u8> {
 
 #[test]
 fn program_and_second_listing_agree() {
-    let program = Path::new(env!("CARGO_MANIFEST_DIR")).join("../../target/bin/listing");
+    let program = Path::new(env!("CARGO_MANIFEST_DIR")).join("../../crates/listing/out/listing");
     assert!(
         program.is_file(),
-        "{} is missing: run .ci/run or rt check listing first",
+        "{} is missing: run rt ci, or rt run in crates/listing, first",
         program.display()
     );
     let mut reached = BTreeMap::new();

@@ -3,7 +3,7 @@
 
 use crate::check::{satisfies, Question};
 use crate::records::{map_bytes, CELL_BYTES, MAX_GIVEN_MAP};
-use crate::trace::{Step, STEP_BYTES};
+use crate::trace::{trace_step, STEP_BYTES};
 use crate::{Cell, Choice, End, Machine, Memory, Model, Refusal, Set};
 use std::collections::{BTreeMap, BTreeSet};
 
@@ -55,8 +55,7 @@ fn follow(set: &Set, map: &[Cell], model: &Model) -> (Vec<u8>, Vec<Cell>) {
     let mut firsts = FirstCells::new(map);
     for choice in model.run() {
         assert!(machine.permitted(choice), "the model satisfies");
-        let step = Step::of(&machine, choice).expect("the memory has every cell");
-        trace.extend_from_slice(&step.bytes());
+        trace.extend_from_slice(&trace_step(&machine, choice));
         firsts.step(&mut machine, choice);
     }
     assert!(matches!(machine.end(), End::Code(code) if code != 0));

@@ -136,8 +136,7 @@ fn add_verdict(program: &mut Program, outcome: Outcome, compared: u16, exits: bo
     program.extend(verdict);
 }
 
-/// With plain arguments.
-pub(crate) fn statements(program: &[(Instruction, u16)]) -> Vec<Statement> {
+fn statements(program: &[(Instruction, u16)]) -> Vec<Statement> {
     program
         .iter()
         .map(|&(instruction, argument)| Statement::new(instruction, argument))

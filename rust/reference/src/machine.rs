@@ -46,28 +46,16 @@ impl Thread {
         read_cell(memory, address)
     }
 
-    /// The effective address of a memory word, and the load that gives it where the argument is
-    /// indirect.
-    fn address(
-        &self,
-        memory: &Memory,
-        statement: Statement,
-    ) -> Result<(u16, Option<Loaded>), LacksCell> {
-        if !statement.indirect {
-            return Ok((statement.argument, None));
-        }
-        let loaded = self.load(memory, statement.argument)?;
-        Ok((loaded.word, Some(loaded)))
-    }
-
     /// The effect of a memory word. All reads come before the first change, so that a lacking cell
     /// leaves the thread as it was.
     fn access(&mut self, memory: &Memory, statement: Statement) -> Result<Report, LacksCell> {
-        let (address, address_word) = self.address(memory, statement)?;
-        let mut report = Report {
-            address_word,
-            ..Report::default()
-        };
+        let mut report = Report::default();
+        let mut address = statement.argument;
+        if statement.indirect {
+            let loaded = self.load(memory, address)?;
+            report.address_word = Some(loaded);
+            address = loaded.word;
+        }
         match statement.instruction {
             Store => {
                 self.adr = address;
@@ -235,19 +223,6 @@ impl<'a> Machine<'a> {
     /// there always is one.
     pub fn statement(&self, thread: usize) -> Statement {
         self.set.threads[thread][self.threads[thread].pc]
-    }
-
-    /// The effective address of a choice that executes a memory word; 0 for other words and flushes.
-    pub fn effective_address(&self, choice: Choice) -> Result<u16, LacksCell> {
-        let Choice::Execute(number) = choice else {
-            return Ok(0);
-        };
-        let statement = self.statement(number);
-        if !statement.instruction.is_memory() {
-            return Ok(0);
-        }
-        let (address, _) = self.threads[number].address(&self.memory, statement)?;
-        Ok(address)
     }
 
     pub fn end(&self) -> End {

@@ -1,7 +1,7 @@
 //! Simulation: a run by a given schedule, and its trace.
 
 use crate::records::MAX_GIVEN_MAP;
-use crate::trace::{Step, MAX_STEPS, STEP_BYTES};
+use crate::trace::{trace_step, MAX_STEPS, STEP_BYTES};
 use crate::{accept_map, accept_set, Choice, Machine, Ran, Refusal};
 
 /// Runs the schedule and writes its trace to the front of `out`. A refusal leaves `out` as it was.
@@ -22,8 +22,10 @@ pub fn simulate(set: &[u8], map: &[u8], schedule: &[u8], out: &mut [u8]) -> Resu
         if !machine.permitted(choice) {
             return Err(Refusal::not_permitted(step));
         }
-        let taken = Step::take(&mut machine, choice).map_err(|_| Refusal::lacks_cell(step))?;
-        trace.extend_from_slice(&taken.bytes());
+        trace.extend_from_slice(&trace_step(&machine, choice));
+        machine
+            .step(choice)
+            .map_err(|_| Refusal::lacks_cell(step))?;
     }
     room.copy_from_slice(&trace);
     Ok(Ran {
@@ -36,7 +38,6 @@ pub fn simulate(set: &[u8], map: &[u8], schedule: &[u8], out: &mut [u8]) -> Resu
 mod tests {
     use super::*;
     use crate::records::{map_bytes, set_bytes};
-    use crate::trace::ADDRESS;
     use crate::{Cell, End, Instruction::*, Statement};
 
     type Threads = Vec<Vec<Statement>>;
@@ -76,10 +77,6 @@ mod tests {
 
     fn accu(step: &[u8; STEP_BYTES]) -> u16 {
         crate::records::field(step, 8)
-    }
-
-    fn address(step: &[u8; STEP_BYTES]) -> u16 {
-        crate::records::field(step, ADDRESS)
     }
 
     #[test]
@@ -128,7 +125,7 @@ mod tests {
         let (ran, steps) = run(vec![swaps], &[(4, 9)], &[0; 5]).unwrap();
         assert_eq!(ran.end, End::Code(0));
         assert_eq!(accu(&steps[3]), 1);
-        assert_eq!(steps[3][16..24], [1, 0, 4, 0, 10, 0, 4, 0]);
+        assert_eq!(steps[3][16..24], [1, 0, 4, 0, 10, 0, 0, 0]);
         assert_eq!(accu(&steps[4]), 10);
         assert_eq!(steps[4][16..24], [0; 8]);
     }
@@ -182,39 +179,8 @@ mod tests {
             Statement::indirect(Load, 2),
             Statement::new(Exit, 1),
         ];
-        let map = [(2, 9), (3, 77), (9, 5)];
-        let (_, steps) = run(vec![loads.clone()], &map, &[0; 4]).unwrap();
+        let (_, steps) = run(vec![loads], &[(2, 9), (3, 77), (9, 5)], &[0; 4]).unwrap();
         assert_eq!(accu(&steps[3]), 77);
-        assert_eq!(
-            steps.iter().map(address).collect::<Vec<u16>>(),
-            [0, 2, 3, 0]
-        );
-        // After the flush cell 2 holds it.
-        let (_, steps) = run(vec![loads], &map, &[0, 0, 128, 0]).unwrap();
-        assert_eq!(
-            steps.iter().map(address).collect::<Vec<u16>>(),
-            [0, 2, 0, 3]
-        );
-    }
-
-    #[test]
-    fn addresses_of_all_words() {
-        let check = |statement: Statement, expected| {
-            let threads = vec![vec![statement, Statement::new(Halt, 0)]];
-            let (_, steps) = run(threads, &[(5, 9), (9, 300)], &[0]).unwrap();
-            assert_eq!(address(&steps[0]), expected, "{statement}");
-        };
-        for instruction in crate::Instruction::ALL {
-            match instruction {
-                word if word.is_memory() => {
-                    check(Statement::new(word, 5), 5);
-                    check(Statement::indirect(word, 5), 9);
-                }
-                word if word.is_jump() => check(Statement::new(word, 1), 0),
-                Fence | Halt => check(Statement::new(instruction, 0), 0),
-                word => check(Statement::new(word, 5), 0),
-            }
-        }
     }
 
     #[test]

@@ -1,6 +1,5 @@
 //! Trace steps: the 24 bytes that hold the state before a step.
 
-use crate::machine::LacksCell;
 use crate::records::field;
 use crate::{Cell, Choice, Instruction, Machine, Statement};
 
@@ -9,8 +8,6 @@ pub const STEP_BYTES: usize = 24;
 pub const MAX_STEPS: usize = 64;
 /// The instruction number of a flush.
 pub const FLUSH: u8 = 20;
-/// The byte at which the effective address stands, the last field.
-pub const ADDRESS: usize = 22;
 
 /// A trace step's fields.
 #[derive(Clone, Copy, Debug, PartialEq, Eq)]
@@ -26,29 +23,11 @@ pub struct Step {
     pub val: u16,
     /// The cell that the previous step wrote.
     pub written: Option<Cell>,
-    /// The effective address of a memory word, else 0.
-    pub address: u16,
 }
 
 impl Step {
     /// That of a choice that the machine permits.
-    pub fn of(machine: &Machine, choice: Choice) -> Result<Step, LacksCell> {
-        Ok(Step {
-            address: machine.effective_address(choice)?,
-            ..Step::without_address(machine, choice)
-        })
-    }
-
-    /// Takes a choice that the machine permits and gives its trace step.
-    pub fn take(machine: &mut Machine, choice: Choice) -> Result<Step, LacksCell> {
-        let step = Step::of(machine, choice)?;
-        machine.step(choice)?;
-        Ok(step)
-    }
-
-    /// All fields but the effective address, which stays 0: what is known where the address word's
-    /// cell is lacking.
-    pub fn without_address(machine: &Machine, choice: Choice) -> Step {
+    pub fn of(machine: &Machine, choice: Choice) -> Step {
         let number = choice.thread();
         let thread = &machine.threads()[number];
         let statement = match choice {
@@ -65,7 +44,6 @@ impl Step {
             adr: thread.adr,
             val: thread.val,
             written: machine.written(),
-            address: 0,
         }
     }
 
@@ -90,35 +68,9 @@ impl Step {
             adr: field(&bytes, 12),
             val: field(&bytes, 14),
             written,
-            address: field(&bytes, ADDRESS),
         };
-        let address_fits = step.told_address().is_none_or(|told| told == step.address);
         // Numbers, marks and zeros that are not as they must be come out otherwise.
-        (step.bytes() == bytes && address_fits).then_some(step)
-    }
-
-    /// The statement, if it is a memory word.
-    fn memory_word(&self) -> Option<Statement> {
-        self.statement.filter(|s| s.instruction.is_memory())
-    }
-
-    /// What the other fields tell of `address`; none where a cell holds the address word.
-    fn told_address(&self) -> Option<u16> {
-        match self.memory_word() {
-            None => Some(0),
-            Some(word) if !word.indirect => Some(word.argument),
-            Some(word) => self.forwards(word.argument).then_some(self.val),
-        }
-    }
-
-    /// The effective address, if the step executes a memory word.
-    pub fn effective_address(&self) -> Option<u16> {
-        self.memory_word().map(|_| self.address)
-    }
-
-    /// Whether a load of this address takes its word from the thread's own buffer.
-    pub fn forwards(&self, address: u16) -> bool {
-        self.full && self.adr == address
+        (step.bytes() == bytes).then_some(step)
     }
 
     /// As the listing prints it.
@@ -137,7 +89,6 @@ impl Step {
         put(10, self.mem);
         put(12, self.adr);
         put(14, self.val);
-        put(ADDRESS, self.address);
         if let Some(cell) = self.written {
             put(16, 1);
             put(18, cell.address);
@@ -155,6 +106,11 @@ impl Step {
     }
 }
 
+/// The trace step of a choice that the machine permits.
+pub fn trace_step(machine: &Machine, choice: Choice) -> [u8; STEP_BYTES] {
+    Step::of(machine, choice).bytes()
+}
+
 /// "Replay takes the choice from a step's thread and from whether its number is 20."
 pub fn choice_of(step: &[u8]) -> Choice {
     let thread = usize::from(step[0]);
@@ -169,9 +125,9 @@ pub fn choice_of(step: &[u8]) -> Choice {
 mod tests {
     use super::*;
 
-    /// CAS [5] of thread 1 at pc 3, after a step that wrote 10 at 4; cell 5 holds 515.
+    /// CAS [5] of thread 1 at pc 3, after a step that wrote 10 at 4.
     const STEP: [u8; STEP_BYTES] = [
-        1, 16, 3, 0, 5, 0, 1, 0, 7, 0, 8, 0, 9, 0, 2, 1, 1, 0, 4, 0, 10, 0, 3, 2,
+        1, 16, 3, 0, 5, 0, 1, 0, 7, 0, 8, 0, 9, 0, 2, 1, 1, 0, 4, 0, 10, 0, 0, 0,
     ];
 
     #[test]
@@ -185,7 +141,6 @@ mod tests {
         assert_eq!([step.accu, step.mem, step.adr, step.val], [7, 8, 9, 258]);
         let (address, value) = (4, 10);
         assert_eq!(step.written, Some(Cell { address, value }));
-        assert_eq!((step.address, step.effective_address()), (515, Some(515)));
         assert_eq!(step.bytes(), STEP);
         let mut flush = [0; STEP_BYTES];
         (flush[1], flush[7]) = (FLUSH, 1);
@@ -194,13 +149,12 @@ mod tests {
             (step.statement, step.word(), step.full),
             (None, "FLUSH", true)
         );
-        assert_eq!((step.address, step.effective_address()), (0, None));
         assert_eq!(step.bytes(), flush);
     }
 
     #[test]
     fn bytes_that_no_step_has() {
-        for (at, value) in [(1, 21), (6, 2), (7, 2), (16, 0), (16, 2), (17, 1)] {
+        for (at, value) in [(1, 21), (6, 2), (7, 2), (16, 0), (16, 2), (17, 1), (22, 1)] {
             let mut bytes = STEP;
             bytes[at] = value;
             assert_eq!(Step::from_bytes(bytes), None, "byte {at}");
@@ -209,43 +163,5 @@ mod tests {
         let mut bytes = STEP;
         bytes[1] = FLUSH;
         assert_eq!(Step::from_bytes(bytes), None);
-    }
-
-    /// The bytes of a step whose buffer holds 9 for address 5, with this effective address.
-    fn with_address(statement: Option<Statement>, full: bool, address: u16) -> [u8; STEP_BYTES] {
-        let step = Step {
-            thread: 0,
-            statement,
-            pc: 0,
-            full,
-            accu: 0,
-            mem: 0,
-            adr: 5,
-            val: 9,
-            written: None,
-            address,
-        };
-        step.bytes()
-    }
-
-    /// The other fields tell the effective address but where a cell holds the address word.
-    #[test]
-    fn addresses_that_no_step_has() {
-        let (load, jump) = (Instruction::Load, Instruction::Jmp);
-        for (statement, full, address) in [
-            (None, true, Some(0)),
-            (Some(Statement::new(jump, 5)), true, Some(0)),
-            (Some(Statement::new(load, 0)), true, Some(0)),
-            (Some(Statement::new(load, 5)), true, Some(5)),
-            (Some(Statement::indirect(load, 5)), true, Some(9)),
-            (Some(Statement::indirect(load, 5)), false, None),
-            (Some(Statement::indirect(load, 6)), true, None),
-        ] {
-            for given in [0, 1, 5, 6, 9, 256, 65_535] {
-                let step = Step::from_bytes(with_address(statement, full, given));
-                let fits = address.is_none_or(|address| address == given);
-                assert_eq!(step.is_some(), fits, "{statement:?}, {full}, {given}");
-            }
-        }
     }
 }

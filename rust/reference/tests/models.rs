@@ -5,7 +5,7 @@
 use reference::check::WORK_BYTES;
 use reference::decode::MAP_ROOM;
 use reference::records::{map_bytes, CELL_BYTES};
-use reference::trace::{Step, STEP_BYTES};
+use reference::trace::{trace_step, STEP_BYTES};
 use reference::{
     accept_map, accept_model, check, decode, replay, Assignment, Decoded, End, Machine, Ran,
     Refusal, Set,
@@ -64,8 +64,8 @@ fn run_of(set: &Set, assignment: &Assignment, input: &ModelInput) -> (Vec<u8>, u
     let mut machine = Machine::over(set, &assignment.first);
     let mut trace = Vec::new();
     for choice in model.run() {
-        let step = Step::take(&mut machine, choice).expect("the memory has every cell");
-        trace.extend_from_slice(&step.bytes());
+        trace.extend_from_slice(&trace_step(&machine, choice));
+        machine.step(choice).expect("the memory has every cell");
     }
     match machine.end() {
         End::Code(code) => (trace, code),

@@ -2,7 +2,6 @@
 //! can see that its inputs leave nothing out.
 
 use reference::records::{Set, MAX_GIVEN_MAP};
-use reference::replay::{retrace, Fault};
 use reference::trace::MAX_STEPS;
 use reference::{
     accept_map, accept_set, Choice, End, Instruction, Machine, Ran, Refusal, Statement,
@@ -88,8 +87,6 @@ struct Events {
 pub struct Counts {
     pub simulate: Answers,
     pub replay: Answers,
-    /// Of the replayed traces, by the number of the fault.
-    faults: [usize; 5],
     events: Events,
 }
 
@@ -131,50 +128,12 @@ impl Counts {
         }
     }
 
-    /// A replay's answer, and what the second simulator finds wrong where it is a step's refusal.
-    pub fn add_replay(
-        &mut self,
-        set: &[u8],
-        map: &[u8],
-        trace: &[u8],
-        answer: Result<Ran, Refusal>,
-    ) {
-        self.replay.add(answer);
-        if !matches!(answer, Err(refusal) if (12..=14).contains(&refusal.number)) {
-            return;
-        }
-        let set = accept_set(set).expect("a step was reached");
-        let map = accept_map(map, MAX_GIVEN_MAP).expect("a step was reached");
-        if let Err((_, fault)) = retrace(&set, map, trace) {
-            self.faults[fault as usize] += 1;
-        }
-    }
-
     /// Each row that a full run of random inputs must reach.
     pub fn rows(&self) -> Vec<(String, usize)> {
         let mut rows = self.simulate.rows("simulate", &[9, 11, 12, 14, 17]);
         rows.extend(self.replay.rows("replay", &[9, 12, 13, 14, 17]));
-        rows.extend(self.fault_rows());
         rows.extend(self.events.rows());
         rows
-    }
-
-    /// Which of a step's checks refused.
-    pub fn fault_rows(&self) -> Vec<(String, usize)> {
-        let row = |fault: Fault| {
-            let what = match fault {
-                Fault::NotPermitted => "12",
-                Fault::FieldDiffers => "13 for a field",
-                Fault::LacksAddressWord => "14 for the address word",
-                Fault::AddressDiffers => "13 for the effective address",
-                Fault::LacksDataWord => "14 for the data word",
-            };
-            (
-                format!("replayed steps: {what}"),
-                self.faults[fault as usize],
-            )
-        };
-        Fault::ALL.into_iter().map(row).collect()
     }
 
     pub fn table(&self) -> String {

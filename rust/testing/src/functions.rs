@@ -3,7 +3,7 @@
 use std::fs;
 use std::path::{Path, PathBuf};
 
-use crate::sources::{repository, text};
+use crate::sources::{repository, taken_over, text};
 
 #[derive(Clone)]
 pub struct Function {
@@ -80,13 +80,13 @@ fn functions(library: &str, module: &str, code: &str) -> Vec<Function> {
 pub fn functions_of(folder: &Path) -> Vec<Function> {
     let library = stem(folder);
     let root = text(&folder.join("src/lib.rt"));
+    let taken = taken_over(&root);
     let mut all = Vec::new();
     for path in sorted(&folder.join("src")) {
         let module = stem(&path);
         let open = module == "lib" || root.contains(&format!("\npub mod {module};"));
         for mut function in functions(&library, &module, &text(&path)) {
-            let used = format!("\npub use {module}::{};", function.name);
-            function.public &= open || root.contains(&used);
+            function.public &= open || taken.contains(&(module.as_str(), function.name.as_str()));
             all.push(function);
         }
     }

@@ -12,7 +12,6 @@ pub mod maps;
 pub mod models;
 pub mod packed;
 pub mod random;
-pub mod reads;
 pub mod schedules;
 pub mod sets;
 pub mod solver;

@@ -3,7 +3,7 @@
 
 use crate::Random;
 use reference::records::MAX_GIVEN_MAP;
-use reference::trace::{Step, MAX_STEPS};
+use reference::trace::{trace_step, MAX_STEPS};
 use reference::{accept_map, accept_set, Choice, End, Machine};
 
 /// A schedule for these bytes, which may be refused as a set or a map.
@@ -107,8 +107,7 @@ fn change(random: &mut Random, schedule: &mut Vec<u8>) {
 }
 
 /// The trace steps of a schedule as far as its choices are permitted, with the step that reads a
-/// lacking cell as the last one; its effective address is 0 where that is the address word's. Empty
-/// where the set or the map is refused.
+/// lacking cell as the last one. Empty where the set or the map is refused.
 pub fn trace_of(set: &[u8], map: &[u8], schedule: &[u8]) -> Vec<u8> {
     let mut trace = Vec::new();
     let (Ok(set), Ok(map)) = (accept_set(set), accept_map(map, MAX_GIVEN_MAP)) else {
@@ -120,9 +119,7 @@ pub fn trace_of(set: &[u8], map: &[u8], schedule: &[u8]) -> Vec<u8> {
         if !machine.permitted(choice) {
             break;
         }
-        let step = Step::of(&machine, choice);
-        let step = step.unwrap_or_else(|_| Step::without_address(&machine, choice));
-        trace.extend_from_slice(&step.bytes());
+        trace.extend_from_slice(&trace_step(&machine, choice));
         if machine.step(choice).is_err() {
             break;
         }

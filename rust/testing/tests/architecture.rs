@@ -5,12 +5,12 @@ use std::collections::{BTreeMap, BTreeSet};
 use std::fs;
 use std::path::{Path, PathBuf};
 
-use testing::sources::{repository, text};
+use testing::sources::{listed, repository, text};
 
 type Uses = BTreeMap<String, BTreeSet<String>>;
 
-/// Libraries of the Rattle kit that a crate may name. `libc` stands behind `io` and is in no source.
-const KIT: [&str; 4] = ["bytes", "check", "io", "os"];
+/// Libraries of the Rattle kit that a crate may name. `std` is always there and in no line of crates.txt.
+const KIT: [&str; 2] = ["bytes", "check"];
 
 /// How a file of specs/ says what it is for; those of `claims` hold statements alone, which are proved.
 const PURPOSES: [&str; 4] = [
@@ -20,13 +20,15 @@ const PURPOSES: [&str; 4] = [
     "Statements alone; proofs/",
 ];
 
-/// All files below a folder with one of these endings.
+/// All files below a folder with one of these endings, but for a crate's out/, which holds what `rt` made.
 fn files(folder: &Path, endings: &[&str]) -> Vec<PathBuf> {
     let mut found = Vec::new();
     for entry in fs::read_dir(folder).into_iter().flatten() {
         let path = entry.expect("an entry").path();
         if path.is_dir() {
-            found.extend(files(&path, endings));
+            if !path.ends_with("out") {
+                found.extend(files(&path, endings));
+            }
         } else if endings
             .iter()
             .any(|e| path.extension().is_some_and(|x| x == *e))
@@ -38,29 +40,13 @@ fn files(folder: &Path, endings: &[&str]) -> Vec<PathBuf> {
     found
 }
 
-/// The crates of crates.txt in its order, each with those that it lists.
-fn listed() -> Vec<(String, BTreeSet<String>)> {
-    let page = text(&repository().join("crates.txt"));
-    let lines = page.lines().filter(|line| !line.starts_with('#'));
-    let entries = lines.filter_map(|line| line.split_once(':'));
-    entries
-        .map(|(name, uses)| {
-            let uses = uses.split_whitespace().filter(|used| *used != "libc");
-            (name.to_string(), uses.map(str::to_string).collect())
-        })
-        .collect()
-}
-
 fn is_name(c: char) -> bool {
     c.is_alphanumeric() || c == '_'
 }
 
 /// Whether code names a crate: by a path in Rattle, or by a module of its definitions or proofs.
 fn names(code: &str, name: &str, rattle: bool) -> bool {
-    let antt = format!("Rattle·{name}");
-    let proved = code
-        .match_indices(&antt)
-        .any(|(at, _)| code[at + antt.len()..].starts_with(['.', '·']));
+    let proved = code.contains(&format!("Rattle.{name}."));
     let path = format!("{name}::");
     let called = |at: usize| !code[..at].ends_with(|c| is_name(c) || c == ':');
     proved || rattle && code.match_indices(&path).any(|(at, _)| called(at))

@@ -5,7 +5,7 @@
 use std::collections::{BTreeMap, BTreeSet};
 
 use testing::functions::{crates, functions_of, sorted, Function};
-use testing::sources::{repository, text};
+use testing::sources::{listed, repository, text};
 
 /// What is called in Rattle itself: a slice's length.
 const BUILT_IN: [&str; 1] = ["len"];
@@ -25,12 +25,11 @@ const LOOK_UP: [&str; 9] = [
 
 /// Each crate with itself and those that crates.txt lists for it: only their functions can be called.
 fn visible() -> BTreeMap<String, BTreeSet<String>> {
-    let page = text(&repository().join("crates.txt"));
-    let entries = page.lines().filter_map(|line| line.split_once(": "));
-    entries
-        .map(|(name, uses)| {
-            let uses = uses.split_whitespace().chain([name]);
-            (name.to_string(), uses.map(str::to_string).collect())
+    let lines = listed().into_iter();
+    lines
+        .map(|(name, mut uses)| {
+            uses.insert(name.clone());
+            (name, uses)
         })
         .collect()
 }

@@ -42,10 +42,11 @@ pub fn missed(
     waiting: &[Waiting],
     at: usize,
     thread: u8,
-    address: u16,
+    address: Option<u16>,
 ) -> impl Iterator<Item = usize> + '_ {
     let missed = move |other: &Waiting| {
-        other.store.address == address && other.thread != thread && other.covers(at)
+        let same = address.is_some() && other.store.address == address;
+        same && other.thread != thread && other.covers(at)
     };
     let indexes = 0..waiting.len();
     indexes.filter(move |&index| missed(&waiting[index]))

@@ -5,10 +5,10 @@ use reference::trace::Step;
 use reference::{Cell, Instruction, Statement};
 use std::collections::{BTreeMap, BTreeSet};
 
-/// A word that a step loaded. A word that the trace does not show is None.
+/// A word that a step loaded. An address or a word that the trace does not show is None.
 #[derive(Clone, Copy, Debug, PartialEq, Eq)]
 pub struct Loaded {
-    pub address: u16,
+    pub address: Option<u16>,
     pub word: Option<u16>,
     pub forwarded: bool,
 }
@@ -16,7 +16,7 @@ pub struct Loaded {
 /// A store that went into a buffer.
 #[derive(Clone, Copy, Debug, PartialEq, Eq)]
 pub struct Stored {
-    pub address: u16,
+    pub address: Option<u16>,
     pub value: u16,
 }
 
@@ -35,14 +35,21 @@ pub struct Effect {
 
 /// The effects of the steps, in order. A record that is no trace step has none.
 pub fn effects(steps: &[Option<Step>]) -> Vec<Effect> {
-    // A first cell that a later step shows may tell an earlier step's word.
-    let mut shown = Known::default();
-    shown.effects(steps);
-    let mut known = Known {
-        cells: shown.first,
-        ..Known::default()
-    };
-    known.effects(steps)
+    let mut first = BTreeMap::new();
+    // A first cell that a later step shows may tell an earlier step's address. Each turn finds one
+    // more at least, of at most two a step.
+    loop {
+        let mut known = Known {
+            cells: first.clone(),
+            first: first.clone(),
+            written: BTreeSet::new(),
+        };
+        let effects = (0..steps.len()).map(|at| known.step(steps, at)).collect();
+        if known.first.len() == first.len() {
+            return effects;
+        }
+        first = known.first;
+    }
 }
 
 /// The state of its thread after the step: no other thread changes it.
@@ -52,7 +59,6 @@ fn after(steps: &[Option<Step>], at: usize, thread: u8) -> Option<Step> {
 }
 
 /// The cells that the trace has shown so far.
-#[derive(Default)]
 struct Known {
     cells: BTreeMap<u16, u16>,
     /// First memory.
@@ -61,10 +67,6 @@ struct Known {
 }
 
 impl Known {
-    fn effects(&mut self, steps: &[Option<Step>]) -> Vec<Effect> {
-        (0..steps.len()).map(|at| self.step(steps, at)).collect()
-    }
-
     fn step(&mut self, steps: &[Option<Step>], at: usize) -> Effect {
         let Some(step) = steps[at] else {
             return Effect::default();
@@ -105,43 +107,51 @@ impl Known {
         written: Option<Cell>,
     ) -> Effect {
         let mut effect = Effect::default();
+        let mut address = Some(statement.argument);
         if statement.indirect {
-            let word = Some(step.address);
-            effect.address_word = Some(self.load(step, statement.argument, word));
+            let shown = match statement.instruction {
+                Instruction::Store => after.filter(|after| after.full).map(|after| after.adr),
+                Instruction::Cas => written.map(|cell| cell.address),
+                _ => None,
+            };
+            effect.address_word = self.load(step, address, shown);
+            address = effect.address_word.and_then(|loaded| loaded.word);
         }
         match statement.instruction {
             Instruction::Store => {
-                effect.stored = Some(Stored {
-                    address: step.address,
-                    value: step.accu,
-                });
+                let value = step.accu;
+                effect.stored = Some(Stored { address, value });
             }
             Instruction::Cas => {
-                let shown = written.map(|_| step.mem);
-                effect.data_word = Some(self.read(step.address, shown));
+                effect.data_word = Some(self.read(address, written.map(|_| step.mem)));
             }
             _ => {
                 let shown = after.and_then(|after| taken(statement.instruction, step, after));
-                effect.data_word = Some(self.load(step, step.address, shown));
+                effect.data_word = self.load(step, address, shown);
             }
         }
         effect
     }
 
-    fn load(&mut self, step: Step, address: u16, shown: Option<u16>) -> Loaded {
-        if step.forwards(address) {
-            return Loaded {
+    /// None where the trace does not show whether the buffer gave the word.
+    fn load(&mut self, step: Step, address: Option<u16>, shown: Option<u16>) -> Option<Loaded> {
+        if step.full && address.is_none() {
+            None
+        } else if step.full && address == Some(step.adr) {
+            Some(Loaded {
                 address,
                 word: Some(step.val),
                 forwarded: true,
-            };
+            })
+        } else {
+            Some(self.read(address, shown))
         }
-        self.read(address, shown)
     }
 
-    fn read(&mut self, address: u16, shown: Option<u16>) -> Loaded {
-        let word = shown.or(self.cells.get(&address).copied());
-        if let Some(word) = word {
+    fn read(&mut self, address: Option<u16>, shown: Option<u16>) -> Loaded {
+        let known = address.and_then(|address| self.cells.get(&address).copied());
+        let word = shown.or(known);
+        if let (Some(address), Some(word)) = (address, word) {
             self.cells.insert(address, word);
             if !self.written.contains(&address) {
                 self.first.entry(address).or_insert(word);

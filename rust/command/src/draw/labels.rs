@@ -19,7 +19,11 @@ pub fn statement(step: &Step) -> String {
 }
 
 pub fn store(store: Stored) -> String {
-    format!("{} := {}", store.address, store.value)
+    format!("{} := {}", number(store.address), store.value)
+}
+
+fn number(known: Option<u16>) -> String {
+    known.map_or("?".to_string(), |known| known.to_string())
 }
 
 /// Which word came from the thread's own buffer.
@@ -46,7 +50,7 @@ pub fn reads(effect: &Effect) -> impl Iterator<Item = Loaded> {
 /// What stands in the lane of memory.
 pub fn memory(step: &Step, effect: &Effect, at: usize, waiting: &[Waiting]) -> String {
     let read = |loaded: Loaded| {
-        let mut part = format!("cell {}", loaded.address);
+        let mut part = format!("cell {}", number(loaded.address));
         if let Some(word) = loaded.word {
             part += &format!(" = {word}");
         }

@@ -3,7 +3,7 @@
 
 mod markup;
 
-use super::effects::{effects, Effect, Loaded, Stored};
+use super::effects::{effects, Effect, Loaded};
 use super::svg;
 use markup::{check_xml, lines, texts};
 use reference::machine;
@@ -66,54 +66,11 @@ fn a_flush_ends_the_store_and_writes_the_cell() {
     assert!(!picture.contains("(old)"));
 }
 
-/// LOAD [2] while the buffer holds 3 for address 2, and STORE [3] by cell 3.
-fn indirect_trace() -> Vec<u8> {
-    let statements = [
-        Statement::new(Addi, 3),
-        Statement::new(Store, 2),
-        Statement::indirect(Load, 2),
-        Statement::indirect(Store, 3),
-        Statement::new(Halt, 0),
-    ];
-    let cell = |(address, value)| Cell { address, value };
-    let map = [(2, 9), (3, 7)].map(cell);
-    let set = set_bytes(&[statements.to_vec()]);
-    trace_of(&set, &map_bytes(&map), &[0, 0, 0, 128, 0])
-}
-
-#[test]
-fn an_indirect_access_shows_its_cells() {
-    let picture = svg(&indirect_trace());
-    let words: Vec<String> = texts(&picture).into_iter().map(|text| text.words).collect();
-    for word in [
-        "LOAD [2]",
-        "address forwarded",
-        "cell 3 = 7",
-        "cell 2 := 3",
-        "STORE [3]",
-        "7 := 7",
-    ] {
-        assert!(words.iter().any(|words| words == word), "{word}");
-    }
-    // Cell 3 is read once as a data word, then as an address word.
-    let count = words.iter().filter(|words| *words == "cell 3 = 7").count();
-    assert_eq!(count, 2);
-}
-
-#[test]
-fn zeros_for_addresses_are_no_trace_steps() {
-    let older = testing::damage::without_addresses(&indirect_trace());
-    // The first STORE, and the LOAD whose address word is forwarded.
-    let drawn: Vec<bool> = steps(&older).iter().map(Option::is_some).collect();
-    assert_eq!(drawn, [true, false, false, true, true]);
-    assert_eq!(svg(&older).matches(">no trace step</text>").count(), 2);
-}
-
 /// The set and the map are not in a trace; the machine that has them must agree with each effect.
 #[test]
 fn effects_are_the_machines() {
     let mut random = Random::new(1);
-    let mut counts = [0; 4];
+    let mut counts = [0; 3];
     for _ in 0..3000 {
         let input = Input::random(&mut random);
         let trace = trace_of(&input.set, &input.map, &input.schedule);
@@ -125,47 +82,40 @@ fn effects_are_the_machines() {
         };
         let mut machine = Machine::fresh(&set, map);
         for (record, effect) in trace.chunks_exact(STEP_BYTES).zip(effects(&steps(&trace))) {
-            let choice = choice_of(record);
+            let step = Step::from_bytes(record.try_into().unwrap()).expect("a trace step");
             // The last step may read a lacking cell.
-            let Ok(report) = machine.step(choice) else {
+            let Ok(report) = machine.step(choice_of(record)) else {
                 break;
             };
-            agrees(effect, report);
-            let thread = machine.threads()[choice.thread()];
-            let stored = (record[1] == Store.number()).then_some(Stored {
-                address: thread.adr,
-                value: thread.val,
-            });
-            assert_eq!(effect.stored, stored);
+            agrees(step, effect, report);
             counts[0] += usize::from(report.data_word.is_some());
             counts[1] += usize::from(effect.data_word.is_some_and(|loaded| loaded.word.is_some()));
             counts[2] += usize::from(effect.data_word.is_some_and(|loaded| loaded.forwarded));
-            counts[3] += usize::from(effect.address_word.is_some());
         }
     }
-    let [loads, shown, forwarded, indirect] = counts;
-    assert!(shown * 10 > loads * 8, "{counts:?}");
-    assert!(forwarded > 300 && indirect > 1_000, "{counts:?}");
+    let [loads, shown, forwarded] = counts;
+    assert!(shown * 10 > loads * 8 && forwarded > 300, "{counts:?}");
 }
 
-/// All is shown of loads but, sometimes, the data word.
-fn agrees(effect: Effect, report: machine::Report) {
-    let shown = |actual: machine::Loaded, word: Option<u16>| Loaded {
-        address: actual.address,
-        word,
-        forwarded: actual.forwarded,
+fn agrees(step: Step, effect: Effect, report: machine::Report) {
+    let known = |loaded: Option<Loaded>, actual: Option<machine::Loaded>| {
+        let Some(loaded) = loaded else { return };
+        let actual = actual.expect("the machine loads too");
+        assert_eq!(loaded.forwarded, actual.forwarded);
+        assert_eq!(loaded.address.unwrap_or(actual.address), actual.address);
+        assert_eq!(loaded.word.unwrap_or(actual.word), actual.word);
     };
-    let address_word = report.address_word.map(|word| shown(word, Some(word.word)));
-    assert_eq!(effect.address_word, address_word);
-    let word = effect.data_word.and_then(|loaded| loaded.word);
-    let data_word = report.data_word.map(|actual| shown(actual, word));
-    assert_eq!(effect.data_word, data_word);
-    if let (Some(word), Some(actual)) = (word, report.data_word) {
-        assert_eq!(word, actual.word);
-    }
+    known(effect.address_word, report.address_word);
+    known(effect.data_word, report.data_word);
     // A CAS in the last step does not show whether it matched.
     if effect.written.is_some() || effect.matched.is_some() {
         assert_eq!(effect.written, report.written);
+    }
+    // All is known of loads with plain arguments but, sometimes, the word.
+    let is_plain = step.statement.is_some_and(|statement| !statement.indirect);
+    if let (true, Some(actual)) = (is_plain, report.data_word) {
+        let loaded = effect.data_word.expect("a plain load");
+        assert_eq!(loaded.address, Some(actual.address));
     }
 }
 
@@ -188,19 +138,13 @@ fn widest(random: &mut Random) -> Vec<u8> {
             adr: random.pick(&[65_534, 65_535]),
             val: 65_535,
             written: random.chance(50).then_some(Cell { address, value }),
-            address: match statement {
-                Some(statement) if statement.instruction.is_memory() => 65_535,
-                _ => 0,
-            },
         };
         let stores = statement.is_some_and(|statement| statement.instruction == Store);
         *full = (*full || stores) && statement.is_some();
         step
     };
     let mut steps: Vec<Step> = (0..MAX_STEPS).map(&mut step).collect();
-    let last = &mut steps[MAX_STEPS - 1];
-    last.statement = Some(Statement::new(Exit, 65_535));
-    last.address = 0;
+    steps[MAX_STEPS - 1].statement = Some(Statement::new(Exit, 65_535));
     trace(&steps)
 }
 
@@ -235,7 +179,6 @@ fn long_traces(random: &mut Random) -> Vec<Vec<u8>> {
 fn words_do_not_overlap() {
     let mut random = Random::new(2);
     for trace in long_traces(&mut random) {
-        assert!(steps(&trace).iter().all(Option::is_some));
         let picture = svg(&trace);
         let texts = texts(&picture);
         assert!(texts.len() > 3 * MAX_STEPS);

@@ -18,10 +18,6 @@ pub const MODEL: [u8; 12] = [0, 1, 0, 0, 0, 1, 0, 0, 0, 1, 0, 0];
 pub const SHORTEST: &str =
     "1 0 LOAD 0 0 0 0 0 0 {}\n1 1 JZ 3 0 0 0 0 0 {}\n1 3 EXIT 7 0 0 0 0 0 {}\nend 7\n";
 
-/// The same as `show` prints it.
-pub const SHOWN: &str =
-    "1 0 LOAD 0 0 0 0 0 0 {} @0\n1 1 JZ 3 0 0 0 0 0 {}\n1 3 EXIT 7 0 0 0 0 0 {}\nend 7\n";
-
 /// A folder that the test has for itself.
 pub struct Folder(PathBuf);
 

@@ -1,4 +1,4 @@
-//! The gate's time a crate, from a log of `rt ci` or `.ci/run`.
+//! When the gate had proved each crate, from the log that `.ci/run` keeps.
 
 use crate::page::{columns, heading, row};
 use std::ffi::OsString;
@@ -11,30 +11,30 @@ pub fn print(log: Option<OsString>) {
     if crates.is_empty() {
         return heading(name, "There is no log of the gate.");
     }
-    heading(name, "Seconds, as `rt` prints them.");
+    heading(
+        name,
+        "Seconds from the start of `rt ci` until each crate was proved; they are proved side by side. One that an earlier run had proved is left out.",
+    );
     columns(1, &["Crate", "s"]);
-    let mut sum = 0;
     for (name, seconds) in crates {
         row(&[name.to_string(), seconds.to_string()]);
-        sum += seconds;
     }
-    row(&["all".to_string(), sum.to_string()]);
 }
 
-/// Lines such as `rt: base proved (4 s)`, in order; a crate that is proved twice counts once.
+/// Lines such as `4 rt: base proved`, in order: the second, and what `rt ci` printed then.
 fn proved(log: &str) -> Vec<(&str, u32)> {
-    let mut crates: Vec<(&str, u32)> = Vec::new();
+    let mut crates = Vec::new();
     for line in log.lines() {
-        let parts = line
+        let Some((seconds, said)) = line.split_once(' ') else {
+            continue;
+        };
+        let name = said
             .strip_prefix("rt: ")
-            .and_then(|rest| rest.split_once(" proved ("));
-        let Some((name, rest)) = parts else { continue };
-        let seconds = rest
-            .strip_suffix(" s)")
-            .and_then(|seconds| seconds.parse().ok());
-        if let Some(seconds) = seconds {
-            crates.retain(|known| known.0 != name);
-            crates.push((name, seconds));
+            .and_then(|rest| rest.strip_suffix(" proved"));
+        if let (Ok(seconds), Some(name)) = (seconds.parse(), name) {
+            if !name.contains(' ') {
+                crates.push((name, seconds));
+            }
         }
     }
     crates

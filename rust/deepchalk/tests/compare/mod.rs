@@ -92,7 +92,7 @@ impl Comparison {
             ("trace as it was", lent_trace.unchanged()),
         ];
         self.demand(&agree, "replay", &inputs, None, number, answer);
-        self.counts.add_replay(set, map, trace, answer);
+        self.counts.replay.add(answer);
         answer
     }
 
