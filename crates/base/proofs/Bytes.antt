@@ -1,6 +1,7 @@
 -- Laws of bytes written at a place, of lists of bytes that are the same, and of a word's two bytes. Assumes nothing.
-use Rattle.std.proofs.Common.{◌≡◌, ℕ, suc, ◌+◌, ◌-◌, ◌*◌, ◌/◌, ◌%◌, ◌<◌, ◌≤◌, Bool, true, false, cond, ◌&&◌, eqb, leb, List, [], ◌∷◌, ◌++◌, length, get_or, take, drop, sym, refl, ap, ◌∙◌, append_assoc, append-nil, zero-add, add-one, arith, length-append, length-drop, drop_of_length-le, length-take-le, take_all, drop-cons, drop-drop, take_at, eq-eqb, ne_eqb, eqb-true, le-leb, leb-true}
-use lib.Seq.{take-length, drop-append-add, take-append_seam}
+use Rattle.std.proofs.Common.{◌≡◌, ℕ, suc, ◌+◌, ◌-◌, ◌*◌, ◌/◌, ◌%◌, ◌<◌, ◌≤◌, Bool, true, false, cond, ◌&&◌, eqb, leb, List, [], ◌∷◌, ◌++◌, length, get_or, take, drop, fold, zip, sym, refl, ap, ◌∙◌, append_assoc, zero-add, add-one, arith, length-append, length-drop, length-take-le, drop-cons, drop-drop, take_at, eq-eqb, ne_eqb, eqb-true, le-leb, leb-true}
+use lib.Seq.{drop-append-add, take-append_seam}
+use Rattle.std.proofs.Math.Bool.{and_assoc}
 use borrow.Author.Tests.{lt-leb}
 use Rattle.base.specs.Bytes.{splice, placed, over, same}
 use Rattle.base.proofs.Choice.{chosen, passed, and_true, and_right_false, and_left, and_right, clash}
@@ -62,12 +63,10 @@ length-placed xs i ys = go (leb (i + length ys) (length xs)) refl
 -- ---- lists of bytes that are the same
 
 pub same_self : (a : List ℕ) → same a a ≡ true
-unfolding same
 same_self [] = refl
 same_self (x ∷ a) = and_true (eq-eqb x x refl) (same_self a)
 
 pub same_equal : (a b : List ℕ) → same a b ≡ true → a ≡ b
-unfolding same
 same_equal [] [] e = refl
 same_equal [] (y ∷ b) e = clash e refl
 same_equal (x ∷ a) [] e = clash e refl
@@ -77,21 +76,26 @@ same_equal (x ∷ a) (y ∷ b) e =
     rw (h, t)
 
 pub same_lengths : (a b : List ℕ) → (length a ≡ length b → ⊥) → same a b ≡ false
-unfolding same
 same_lengths [] [] f = absurd (f refl)
 same_lengths [] (y ∷ b) f = refl
 same_lengths (x ∷ a) [] f = refl
 same_lengths (x ∷ a) (y ∷ b) f = and_right_false (eqb x y) (same_lengths a b (λ e. f (ap suc e)))
 
+-- all of two lists of one length compared, by a fold over their pairs
+pub fold-same : (equal : Bool) (a b : List ℕ) → length a ≡ length b → fold (λ (all : Bool) (p : ℕ × ℕ). all && eqb p.0 p.1) equal (zip a b) ≡ (equal && same a b)
+fold-same true [] [] e = refl
+fold-same false [] [] e = refl
+fold-same equal [] (y ∷ b) e = absurd (omega (arith, e))
+fold-same equal (x ∷ a) [] e = absurd (omega (arith, e))
+fold-same equal (x ∷ a) (y ∷ b) e = fold-same (equal && eqb x y) a b (omega (arith, e)) ∙ and_assoc equal (eqb x y) (same a b)
+
 pub same-empty : (a : List ℕ) → eqb (length a) 0 ≡ same a []
-unfolding same
 same-empty [] = refl
 same-empty (x ∷ a) = ne_eqb (length (x ∷ a)) 0 (omega arith)
 
 -- one turn of a loop over both
 pub same_next : (equal : Bool) (a b : List ℕ) (i : ℕ) → i < length a → i < length b →
     (equal && same (drop i a) (drop i b)) ≡ (equal && eqb (get_or a i 0) (get_or b i 0) && same (drop (i + 1) a) (drop (i + 1) b))
-unfolding same
 same_next true a b i h k = rw (add-one, drop-cons a i 0 h, drop-cons b i 0 k)
 same_next false a b i h k = refl
 

@@ -1,5 +1,6 @@
 -- Bytes in slices: little-endian fields, and bytes written at a place. A reader of the calls believes this. Assumes nothing.
-use Rattle.std.specs.Prelude.{ℕ, ◌+◌, ◌*◌, ◌/◌, ◌%◌, Bool, true, false, cond, ◌&&◌, List, [], ◌∷◌, ◌++◌, length, take, drop, ◌==◌, nat_le, slice_index}
+use Rattle.std.specs.Str.{bytes_eq}
+use Rattle.std.specs.Prelude.{ℕ, ◌+◌, ◌*◌, ◌/◌, ◌%◌, Bool, cond, List, ◌∷◌, ◌++◌, length, take, drop, nat_le, slice_index}
 
 -- the word whose two bytes stand from index i on, low byte first
 abbrev pub word_at : List ℕ → ℕ → ℕ
@@ -22,8 +23,5 @@ unfoldable pub over : List ℕ → List ℕ → List ℕ
 over ys xs = ys ++ drop (length ys) xs
 
 -- two lists of bytes are the same
-unfoldable pub same : List ℕ → List ℕ → Bool
-same [] [] = true
-same [] (y ∷ ys) = false
-same (x ∷ xs) [] = false
-same (x ∷ xs) (y ∷ ys) = x == y && same xs ys
+abbrev pub same : List ℕ → List ℕ → Bool
+same = bytes_eq

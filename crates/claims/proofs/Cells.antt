@@ -14,8 +14,10 @@ use Rattle.base.proofs.Below.{number-yes, number-no}
 use Rattle.base.specs.Below.{number}
 use Rattle.base.proofs.Choice.{and_true, and_false, and_right_false, clash}
 use Rattle.text_lines.specs.Lines.{lines, map_line}
-use Rattle.text_lines.specs.declared.Cell.{Cell}
-use Rattle.text.specs.Sections.{dots, is_good, inserted, cell_added, cells_from, cells}
+use Rattle.std.specs.Prelude.{Option, None, Some, Result, Ok, Err}
+use Rattle.records.specs.declared.Cell.{Cell}
+use Rattle.records.specs.declared.refusals.Refusal.{Refusal}
+use Rattle.text.specs.Sections.{dots, holds, held_inserted, inserted, cell_added, cells_from, cells}
 use Rattle.text.proofs.Below.{cond_where}
 use Rattle.text.proofs.Inserted.{In, in_at, at_in, length_inserted, inserted_in, inserted-keeps, inserted-from}
 use Rattle.claims.specs.Sections.{line, sections, section_of, holds_cell, CellsAreTheMap}
@@ -47,8 +49,8 @@ module _ (text : List ℕ) where
 
   pub record Listed (i : ℕ) (cs : List Cell) : Type 0 where
     pub count : length cs ≡ number i (holds_cell text)
-    pub listed : (j : ℕ) → j < i → holds_cell text j ≡ true → In (map_line (line text j)) cs
-    pub held : (c : Cell) → In c cs → (j : ℕ) × (j < i) × (holds_cell text j ≡ true) × (c ≡ map_line (line text j))
+    pub listed : (j : ℕ) → j < i → holds_cell text j ≡ true → (c : Cell) × In c cs × (map_line (line text j) ≡ Ok (Some c))
+    pub held : (c : Cell) → In c cs → (j : ℕ) × (j < i) × (holds_cell text j ≡ true) × (map_line (line text j) ≡ Ok (Some c))
 
   listed_same : (i : ℕ) (cs : List Cell) → holds_cell text i ≡ false → Listed i cs → Listed (suc i) cs
   listed_same i cs f o = record {
@@ -60,18 +62,15 @@ module _ (text : List ℕ) where
     held = λ c m. let r = o.held c m in (r.0, omega (arith, r.1), r.2, r.3);
   }
 
-  listed_more : (i : ℕ) (cs : List Cell) → holds_cell text i ≡ true → Listed i cs → Listed (suc i) (inserted (map_line (line text i)) cs)
-  listed_more i cs e o = record {
+  listed_more : (i : ℕ) (cs : List Cell) (c : Cell) → map_line (line text i) ≡ Ok (Some c) → holds_cell text i ≡ true → Listed i cs → Listed (suc i) (inserted c cs)
+  listed_more i cs c is e o = record {
     count = omega (arith, length_inserted c cs, o.count, number-yes (holds_cell text) i e);
     listed = λ j h f. elim (ℕ_discrete j i) [
-      | yes q ↦ subst (λ (k : ℕ). In (map_line (line text k)) (inserted c cs)) (sym q) (inserted_in c cs)
-      | no g ↦ inserted-keeps (map_line (line text j)) c cs (o.listed j (omega arith) f)
+      | yes q ↦ (c, inserted_in c cs, ap (λ (k : ℕ). map_line (line text k)) q ∙ is)
+      | no g ↦ let r = o.listed j (omega arith) f in (r.0, inserted-keeps r.0 c cs r.1, r.2)
     ];
-    held = λ d m. ⊎_elim (λ q. (i, omega arith, e, q)) (λ n. let r = o.held d n in (r.0, omega (arith, r.1), r.2, r.3)) (inserted-from d c cs m);
+    held = λ d m. ⊎_elim (λ q. (i, omega arith, e, is ∙ ap (λ (x : Cell). Ok (Some x)) (sym q))) (λ n. let r = o.held d n in (r.0, omega (arith, r.1), r.2, r.3)) (inserted-from d c cs m);
   }
-    where
-      c : Cell
-      c = map_line (line text i)
 
   listed_next : (i : ℕ) (cs : List Cell) → i < length (lines text) → Listed i cs → Listed (suc i) (following i cs)
   unfolding cell_added
@@ -79,11 +78,14 @@ module _ (text : List ℕ) where
       let left = dots-after text i (omega arith) in
       cond_where (Listed (suc i)) (eqb (dots (drop i (lines text))) 0)
       (λ z. let last = eq-eqb (section_of text i) (sections text) (omega (arith, eqb-true (dots (drop i (lines text))) 0 z)) in
-      cond_where (Listed (suc i)) (is_good (map_line (line text i)).form)
-      (λ g. listed_more i cs (and_true last g) o)
-      (λ g. listed_same i cs (and_right_false (eqb (section_of text i) (sections text)) g) o))
+      held (map_line (line text i)) refl last)
       (λ z. let some = eqb-false (dots (drop i (lines text))) 0 z in
-      listed_same i cs (and_false (is_good (map_line (line text i)).form) (ne_eqb (section_of text i) (sections text) (λ e. some (omega arith)))) o)
+      listed_same i cs (and_false (holds (map_line (line text i))) (ne_eqb (section_of text i) (sections text) (λ e. some (omega arith)))) o)
+    where
+      held : (r : Result (Option Cell) Refusal) → map_line (line text i) ≡ r → eqb (section_of text i) (sections text) ≡ true → Listed (suc i) (held_inserted r cs)
+      held (Ok (Some c)) e last = listed_more i cs c e (and_true last (ap holds e)) o
+      held (Ok None) e last = listed_same i cs (and_right_false (eqb (section_of text i) (sections text)) (ap holds e)) o
+      held (Err refusal) e last = listed_same i cs (and_right_false (eqb (section_of text i) (sections text)) (ap holds e)) o
 
   listed-after : (i : ℕ) → i ≤ length (lines text) → Listed i (after i)
   unfolding after number
@@ -97,6 +99,6 @@ cells_are_the_map text =
     let o = subst (Listed text n) (after-all text) (listed-after text n (omega arith)) in
     record {
       count = o.count;
-      listed = λ i h e. in_at (map_line (line text i)) cs (o.listed i h e);
+      listed = λ i h e. let r = o.listed i h e in let k = in_at r.0 cs r.1 in (k.0, k.1, r.2 ∙ ap (λ (c : Cell). Ok (Some c)) (sym k.2));
       held = λ k h. o.held _ (at_in cs k h);
     }

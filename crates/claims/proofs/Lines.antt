@@ -9,6 +9,9 @@ use lib.Dec.{eqb}
 use lib.ListN.{length, get_or, take, drop, get_or-replicate, get_or-eq_default, get_or-append}
 use lib.Seq.{get_or-append-add, get_or-drop, take-append_seam}
 use borrow.Author.Tests.{ltb-true, eqb-true, eqb-false, not-true, not-false}
+use Rattle.std.proofs.lemmas.List.{get_or-take}
+use Rattle.std.proofs.lemmas.List.Folds.{length-prefix_len}
+use Rattle.std.proofs.lemmas.List.Sums.{prefix_len_passes}
 use Rattle.base.specs.Bytes.{same, over}
 use Rattle.base.proofs.Bytes.{same_equal}
 use Rattle.base.proofs.Choice.{and_left, refuted, clash}
@@ -78,21 +81,12 @@ lines-part_the_text text = record { joined = lines-joined text; parted = lines-p
 
 -- ---- labels
 
--- every byte of a run passes
-run-passes : (test : ℕ → Bool) (s : List ℕ) (i : ℕ) → i < length (take (run test s) s) → test (get_or (take (run test s) s) i 0) ≡ true
-unfolding run
-run-passes test [] i h = absurd (omega arith)
-run-passes test (b ∷ s) i h = go (run-passes test s) (test b) refl i h
-  where
-    go : ((k : ℕ) → k < length (take (run test s) s) → test (get_or (take (run test s) s) k 0) ≡ true) → (t : Bool) → test b ≡ t →
-        (i : ℕ) → i < length (take (cond t (suc (run test s)) 0) (b ∷ s)) → test (get_or (take (cond t (suc (run test s)) 0) (b ∷ s)) i 0) ≡ true
-    go before true e zero l = e
-    go before true e (suc i) l = before i (omega arith)
-    go before false e i l = absurd (omega arith)
-
 -- no byte of a name is 0
 name-byte : (s : List ℕ) (i : ℕ) → i < length (name s) → get_or (name s) i 0 ≡ 0 → ⊥
-name-byte s i h e = clash {A = ⊥} (sym (ap is_name_byte e) ∙ run-passes is_name_byte s i h) refl
+name-byte s i h e =
+    let n = run is_name_byte s in
+    let below : i < n = omega (arith, length-prefix_len is_name_byte s) in
+    clash {A = ⊥} (ap is_name_byte (sym e ∙ get_or-take n s i 0 below) ∙ prefix_len_passes is_name_byte s i 0 below) refl
 
 filled : (i : ℕ) → get_or unlabelled i 0 ≡ 0
 filled i = elim (dec_lt i 16) [

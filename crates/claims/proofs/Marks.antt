@@ -1,4 +1,5 @@
 -- Marks and checkpoints as document 002 has them (specs/Marks.antt states it), from the machine's laws of marks. Assumes nothing.
+use Rattle.std.specs.Prelude.{is_some}
 use Prim.Native.Nat.{ℕ, suc, ◌<◌}
 use mathlib.Core.Path.{◌≡◌, refl, ap, sym, subst, ◌∙◌}
 use mathlib.Core.Bool.{Bool, true, false, cond, not, ◌&&◌, ◌||◌}
@@ -12,7 +13,7 @@ use Rattle.base.proofs.Choice.{passed, and_left, and_right, clash}
 use Rattle.records.specs.Instructions.{CHECK}
 use Rattle.records.specs.Sets.{Set, set_of}
 use Rattle.records.specs.declared.Statement.{Statement}
-use Rattle.machine.specs.Machine.{State, start, unmarked, current, actor, is_check, contains, marked_at, opened, permitted, leaves_mark, step}
+use Rattle.machine.specs.Machine.{State, start, unmarked, current, actor, is_check, contains, marked_at, opened, permitted, leaves_mark, step, checkpoint_of}
 use Rattle.machine.specs.Runs.{after}
 use Rattle.machine.specs.declared.Choice.{Choice}
 use Rattle.machine.specs.declared.Choice.TheVariants.{Execute, Flush}
@@ -58,8 +59,8 @@ counted S s t id may is opens u =
 
 one_mark_lem : (s : State) (t id other : ℕ) → block s id t ≡ true → block s other t ≡ true → id ≡ other
 one_mark_lem s t id other p q =
-    sym (eqb-true (s.marks t).checkpoint id (and_right (s.marks t).on _ p))
-    ∙ eqb-true (s.marks t).checkpoint other (and_right (s.marks t).on _ q)
+    sym (eqb-true (checkpoint_of (s.marks t)) id (and_right (is_some (s.marks t)) _ p))
+    ∙ eqb-true (checkpoint_of (s.marks t)) other (and_right (is_some (s.marks t)) _ q)
 
 -- ---- never two open
 
@@ -93,8 +94,8 @@ in_a_row set s stands t id may is opens =
     let here = and_right (eqb t t) (is_check S t id (s.threads t).pc) is in
     let has = some_at (is_check S t id) (S.count t) (s.threads t).pc (inside (s.threads t).pc (and_left (eqb (current S s t).number CHECK) _ here)) here in
     let marked = subst (λ (b : Bool). (not b || block s id t) ≡ true) has (every-at (λ u. not (contains S u id) || block s id u) S.threads t opens (permitted-actor S s (Execute t) may)) in
-    let r = stands t (and_left (s.marks t).on _ marked) in
-    (r.0, r.1, subst (λ (c : ℕ). is_check S t c r.0 ≡ true) (eqb-true (s.marks t).checkpoint id (and_right (s.marks t).on _ marked)) r.2)
+    let r = stands t (and_left (is_some (s.marks t)) _ marked) in
+    (r.0, r.1, subst (λ (c : ℕ). is_check S t c r.0 ≡ true) (eqb-true (checkpoint_of (s.marks t)) id (and_right (is_some (s.marks t)) _ marked)) r.2)
   where
     S : Set
     S = set_of set

@@ -16,10 +16,9 @@ use Rattle.records.specs.Sets.{Set, WellFormedSet, set_of, set_accepted}
 use Rattle.records.proofs.Maps.{few-cells}
 use Rattle.records.proofs.Sets.{well-formed}
 use Rattle.machine.specs.Machine.{State, start, no_write}
-use Rattle.machine.specs.Maps.{begin, retrace}
+use Rattle.machine.specs.Maps.{begin, retrace, ran}
 use Rattle.machine.specs.Runs.{after, some_permitted, end_of}
 use Rattle.machine.specs.Traces.{trace, step_length}
-use Rattle.machine.specs.declared.RunAnswer.TheVariants.{Ran}
 use Rattle.machine.specs.declared.Choice.{Choice}
 use Rattle.machine.specs.declared.Choice.TheVariants.{Execute}
 use Rattle.machine.specs.declared.End.TheVariants.{Code, Stuck, Open}
@@ -155,7 +154,7 @@ module _ (set map : List ℕ) (bound : ℕ) (accepted : set_accepted set ≡ tru
         ∙ subst⁻¹ (λ (r : List Choice). (after S first r).ended ≡ true) fails.last (last-ends S first fails.before fails.thread fails.exit)
 
     over-followed : retrace S (begin (decoded_map set map bound g)) no_write 0 (length run) (trace S first no_write run)
-        ≡ Ran (length run) (Code (after S first run).code)
+        ≡ ran (length run) (Code (after S first run).code)
     unfolding begin
     over-followed =
         let over-map = decoded_map set map bound g in
@@ -163,9 +162,9 @@ module _ (set map : List ℕ) (bound : ℕ) (accepted : set_accepted set ≡ tru
         ap (retrace S (begin over-map) no_write 0 (length run)) (sym over.traced)
         ∙ retrace-trace S (begin over-map) no_write 0 run well (inside-start S well (map_value over-map)) over-taken
         ∙ follow-taken S (begin over-map) 0 run over-taken
-        ∙ ap₂ Ran count (ended-code S (after S (start (map_value over-map)) run) over-ended ∙ ap Code over.code_same)
+        ∙ ap₂ ran count (ended-code S (after S (start (map_value over-map)) run) over-ended ∙ ap Code over.code_same)
 
-    trace-replays : replayed set (decoded_map set map bound g) (decoded_trace set bound g) ≡ Ran (length run) (Code (after S first run).code)
+    trace-replays : replayed set (decoded_map set map bound g) (decoded_trace set bound g) ≡ ran (length run) (Code (after S first run).code)
     unfolding decoded_trace
     trace-replays =
         let bytes = trace S first no_write run in

@@ -3,7 +3,7 @@ use Prim.Native.Nat.{ℕ, suc, ◌+◌, ◌<◌}
 use mathlib.Core.Path.{◌≡◌, refl, ap, sym, subst, subst⁻¹, ◌∙◌}
 use mathlib.Core.Bool.{Bool, true, false, cond, not, ◌&&◌}
 use mathlib.Core.List.{List}
-use mathlib.Core.Logic.{◌⊎◌, ◌↔◌, inl, inr, ⊎_elim}
+use mathlib.Core.Logic.{◌↔◌, inl, inr, ⊎_elim}
 use native.Mathlib.Omega.{arith}
 use lib.Dec.{eqb, ltb, leb}
 use lib.ListN.{length, drop}
@@ -16,66 +16,60 @@ use Rattle.base.proofs.Choice.{chosen, passed, and_true, and_left, and_right, re
 use Rattle.records.specs.Instructions.{CHECK, is_jump}
 use Rattle.records.specs.Sets.{records, number_at, argument_at, opens_at}
 use Rattle.text_lines.specs.Lines.{lines, is_dot, statement_line, map_line}
-use Rattle.text_lines.specs.declared.Form.{Form}
-use Rattle.text_lines.specs.declared.Form.TheVariants.{Empty, Malformed, Large, Good}
+use Rattle.std.specs.Prelude.{None}
+use Rattle.std.specs.Result.{result_err}
+use Rattle.records.specs.declared.Cell.{Cell}
 use Rattle.text_lines.specs.declared.Stated.{Stated}
-use Rattle.text_lines.specs.declared.Cell.{Cell}
 use Rattle.text.specs.Sections.{Threads, dots}
 use Rattle.text.specs.Records.{is_named, pc_of, argument_of, set_bytes, statements_before, map_cell}
-use Rattle.text.specs.Answers.{line_refusal, refusal_in, threads_fit, statements_fit, doubled_at, target_fits, thread_fits, labels_fit, checkpoints_fit, address_doubled, map_fits}
+use Rattle.text.specs.Answers.{refusal_in, threads_fit, statements_fit, doubled_at, target_fits, thread_fits, labels_fit, checkpoints_fit, address_doubled, map_fits}
 use Rattle.text.proofs.Accepted.{plain-argument, target_below, statement-fits, counts-between}
 use Rattle.text.proofs.Below.{cond_where, between, some-found, least-found}
 use Rattle.text.proofs.Sets.{records-set, place-below, number-set, argument-set, place}
 use Rattle.text.proofs.Statements.{Kept}
 use Rattle.claims.specs.Sections.{line, sections, section_of}
-use Rattle.claims.specs.Texts.{form_of, LineFollows, ThreadsFollow, StatementsFollow, Each, NotDoubled, TargetKnown, LabelsFollow, Among, CheckpointsFollow, MapFollows}
+use Rattle.claims.specs.Texts.{refusal_of, LineFollows, ThreadsFollow, StatementsFollow, Each, NotDoubled, TargetKnown, LabelsFollow, Among, CheckpointsFollow, MapFollows}
 use Rattle.claims.proofs.Checkpoints.{firsts, length-firsts, firsts-among, opens-few}
 use Rattle.claims.proofs.Sections.{dots-after}
 
 -- ---- rows 2 and 3: lines
 
-refused_form : (form : Form) → line_refusal form ≡ 0 → (form ≡ Empty) ⊎ (form ≡ Good)
-refused_form Empty e = inl refl
-refused_form Good e = inr refl
-refused_form Malformed e = absurd (omega arith)
-refused_form Large e = absurd (omega arith)
-
 module _ (text : List ℕ) (i : ℕ) (h : i < length (lines text)) where
   abbrev rest : List (List ℕ)
   rest = drop (suc i) (lines text)
 
-  -- the refusal of a line that is no dot line is that of its form
-  pub refusal_is : is_dot (line text i) ≡ false → refusal_in (line text i) rest ≡ line_refusal (form_of text i)
+  -- what refuses a line that is no dot line
+  pub refusal_is : is_dot (line text i) ≡ false → refusal_in (line text i) rest ≡ refusal_of text i
   unfolding refusal_in
-  refusal_is d = passed _ _ d ∙ ap line_refusal (go (ltb (section_of text i) (sections text)) refl)
+  refusal_is d = passed _ _ d ∙ go (ltb (section_of text i) (sections text)) refl
     where
       left : section_of text i + dots rest ≡ sections text
       left = omega (arith, number-no (λ j. is_dot (line text j)) i d, dots-after text (suc i) h)
 
-      go : (b : Bool) → ltb (section_of text i) (sections text) ≡ b → cond (eqb (dots rest) 0) (map_line (line text i)).form (statement_line (line text i)).form
-          ≡ cond b (statement_line (line text i)).form (map_line (line text i)).form
+      go : (b : Bool) → ltb (section_of text i) (sections text) ≡ b → cond (eqb (dots rest) 0) (result_err (map_line (line text i))) (result_err (statement_line (line text i)))
+          ≡ cond b (result_err (statement_line (line text i))) (result_err (map_line (line text i)))
       go true e = passed _ _ (ne_eqb (dots rest) 0 (omega (arith, left, ltb-true (section_of text i) (sections text) e)))
       go false e = chosen _ _ (eq-eqb (dots rest) 0 (omega (arith, left, ltb-false (section_of text i) (sections text) e)))
 
-  dot_passes : is_dot (line text i) ≡ true → refusal_in (line text i) rest ≡ 0
+  dot_passes : is_dot (line text i) ≡ true → refusal_in (line text i) rest ≡ None
   unfolding refusal_in
   dot_passes d = chosen _ _ d
 
-  line-follows : refusal_in (line text i) rest ≡ 0 → LineFollows text i
+  line-follows : refusal_in (line text i) rest ≡ None → LineFollows text i
   line-follows e = go (is_dot (line text i)) refl
     where
       go : (b : Bool) → is_dot (line text i) ≡ b → LineFollows text i
       go true d = inl d
-      go false d = inr (refused_form (form_of text i) (sym (refusal_is d) ∙ e))
+      go false d = inr (sym (refusal_is d) ∙ e)
 
-  line-passes : LineFollows text i → refusal_in (line text i) rest ≡ 0
+  line-passes : LineFollows text i → refusal_in (line text i) rest ≡ None
   line-passes f = go (is_dot (line text i)) refl
     where
-      go : (b : Bool) → is_dot (line text i) ≡ b → refusal_in (line text i) rest ≡ 0
+      go : (b : Bool) → is_dot (line text i) ≡ b → refusal_in (line text i) rest ≡ None
       go true d = dot_passes d
-      go false d = refusal_is d ∙ ⊎_elim (λ e. clash e d) (λ w. ⊎_elim (λ e. ap line_refusal e) (λ e. ap line_refusal e) w) f
+      go false d = refusal_is d ∙ ⊎_elim (λ e. clash e d) (λ e. e) f
 
-  pub line-rule : refusal_in (line text i) rest ≡ 0 ↔ LineFollows text i
+  pub line-rule : refusal_in (line text i) rest ≡ None ↔ LineFollows text i
   line-rule = (line-follows, line-passes)
 
 -- ---- rows 4 and 5: threads and statements

@@ -5,6 +5,7 @@ use mathlib.Core.Path.{◌≡◌, refl, ap, ap₂, sym, ◌∙◌}
 use mathlib.Core.Bool.{true, cond, ◌&&◌}
 use mathlib.Core.List.{List, [], ◌∷◌, ◌++◌}
 use native.Mathlib.Omega.{arith}
+use Rattle.std.specs.Prelude.{Result, Option}
 use lib.Dec.{eqb, ltb, leb}
 use lib.ListN.{length, take, drop, length-drop, take-append-drop}
 use borrow.Author.Tests.{ltb-false, le-ltb, eqb-true, eq-eqb, leb-true, le-leb}
@@ -14,14 +15,15 @@ use Rattle.records.specs.Maps.{map_accepted, map_value, run_cells}
 use Rattle.records.specs.Sets.{Set, set_of, set_accepted, WellFormedSet}
 use Rattle.machine.specs.Machine.{State, start, actor, step, written, no_write}
 use Rattle.machine.specs.Runs.{choices, takes, is_run}
-use Rattle.machine.specs.Maps.{Held, begin, outcome, advanced, on_outcome, follow, retrace}
+use Rattle.machine.specs.Maps.{Held, begin, outcome, advanced, on_outcome, follow, retrace, ran, refused_at}
 use Rattle.machine.specs.Traces.{trace_step, trace, step_choice, step_length}
-use Rattle.machine.specs.declared.RunAnswer.{RunAnswer}
-use Rattle.machine.specs.declared.RunAnswer.TheVariants.{Ran, Refused}
+use Rattle.machine.specs.declared.Run.{Run}
+use Rattle.records.specs.declared.refusals.Refusal.TheVariants.{NotPermitted, Differs}
+use Rattle.records.specs.declared.refusals.Refused.{Refused}
 use Rattle.machine.specs.declared.Choice.{Choice}
 use Rattle.machine.specs.declared.Choice.TheVariants.{Execute, Flush}
 use Rattle.machine.specs.declared.End.{End}
-use Rattle.machine.specs.declared.Written.{Written}
+use Rattle.records.specs.declared.Cell.{Cell}
 use Rattle.base.proofs.Bytes.{same_self, same_equal}
 use Rattle.records.proofs.Sets.{well-formed}
 use Rattle.machine.proofs.Runs.{ran-after, ran_where, ran-taken}
@@ -36,16 +38,16 @@ use Rattle.claims.specs.Runs.{AreBytes, Simulates, ReplayAcceptsWhatSimulationWr
 -- ---- replay and the run that a trace shows
 
 -- one step of a trace, its choice taken to be c
-abbrev retrace_by : Set → Held → Written → ℕ → ℕ → List ℕ → Choice → RunAnswer
+abbrev retrace_by : Set → Held → Option Cell → ℕ → ℕ → List ℕ → Choice → Result Run Refused
 retrace_by S h w i n bytes c =
     cond (takes S h.state c)
     (cond (same (take step_length bytes) (trace_step S h.state w c))
     (on_outcome (outcome S h c) i (retrace S (advanced S h c) (written S h.state c) (suc i) n (drop step_length bytes)))
-    (Refused 13 i))
-    (Refused 12 i)
+    (refused_at Differs i))
+    (refused_at NotPermitted i)
 
 -- to retrace a run's own trace is to follow the run
-pub retrace-trace : (S : Set) (h : Held) (w : Written) (i : ℕ) (run : List Choice) → WellFormedSet S → Inside S h.state.threads →
+pub retrace-trace : (S : Set) (h : Held) (w : Option Cell) (i : ℕ) (run : List Choice) → WellFormedSet S → Inside S h.state.threads →
     AllTaken S h run → retrace S h w i (length run) (trace S h.state w run) ≡ follow S h i run
 unfolding retrace follow advanced
 retrace-trace S h w i [] well inside taken = refl
@@ -65,15 +67,15 @@ none_left [] e = refl
 none_left (b ∷ bytes) e = absurd (omega arith)
 
 -- what is retraced to an end is the trace of the run that its steps show, and that run is followed to that end
-pub retrace-ran : (S : Set) (h : Held) (w : Written) (i n : ℕ) (bytes : List ℕ) (m : ℕ) (e : End) → length bytes ≡ step_length * n →
-    retrace S h w i n bytes ≡ Ran m e →
-    (follow S h i (step_choices n bytes) ≡ Ran m e) × (bytes ≡ trace S h.state w (step_choices n bytes))
+pub retrace-ran : (S : Set) (h : Held) (w : Option Cell) (i n : ℕ) (bytes : List ℕ) (m : ℕ) (e : End) → length bytes ≡ step_length * n →
+    retrace S h w i n bytes ≡ ran m e →
+    (follow S h i (step_choices n bytes) ≡ ran m e) × (bytes ≡ trace S h.state w (step_choices n bytes))
 unfolding retrace follow advanced step_choices trace
 retrace-ran S h w i zero bytes m e l p = (p, none_left bytes (omega arith))
 retrace-ran S h w i (suc n) bytes m e l p =
     let c = step_choice bytes in
-    let (t, p₁) = ran_where (takes S h.state c) 12 i p in
-    let (s, p₂) = ran_where (same (take step_length bytes) (trace_step S h.state w c)) 13 i p₁ in
+    let (t, p₁) = ran_where (takes S h.state c) _ p in
+    let (s, p₂) = ran_where (same (take step_length bytes) (trace_step S h.state w c)) _ p₁ in
     let (o, p₃) = ran-taken (outcome S h c) i p₂ in
     let l₁ : length (drop step_length bytes) ≡ step_length * n = simp length-drop (omega arith) in
     let (f, q) = retrace-ran S (advanced S h c) (written S h.state c) (suc i) n (drop step_length bytes) m e l₁ p₃ in (
@@ -87,19 +89,19 @@ retrace-ran S h w i (suc n) bytes m e l p =
 pub record SimulatedTo (set map schedule : List ℕ) (n : ℕ) (e : End) : Type 0 where
   pub accepted : (set_accepted set && map_accepted run_cells map) ≡ true
   pub few : length schedule ≤ 64
-  pub followed : follow (set_of set) (begin map) 0 (choices schedule) ≡ Ran n e
+  pub followed : follow (set_of set) (begin map) 0 (choices schedule) ≡ ran n e
 
-pub simulated-ran : (set map schedule : List ℕ) (room n : ℕ) (e : End) → simulated set map schedule room ≡ Ran n e →
+pub simulated-ran : (set map schedule : List ℕ) (room n : ℕ) (e : End) → simulated set map schedule room ≡ ran n e →
     SimulatedTo set map schedule n e
 unfolding simulated limited
 simulated-ran set map schedule room n e p =
-    let (a, p₁) = ran_where (set_accepted set && map_accepted run_cells map) 9 0 p in
-    let (b, p₂) = ran-after (ltb 64 (length schedule)) 17 0 p₁ in
-    let (c, p₃) = ran-after (ltb room (step_length * length schedule)) 11 0 p₂ in
+    let (a, p₁) = ran_where (set_accepted set && map_accepted run_cells map) _ p in
+    let (b, p₂) = ran-after (ltb 64 (length schedule)) _ p₁ in
+    let (c, p₃) = ran-after (ltb room (step_length * length schedule)) _ p₂ in
     record { accepted = a; few = ltb-false 64 (length schedule) b; followed = p₃ }
 
 pub ran-simulated : (set map schedule : List ℕ) (n : ℕ) (e : End) → SimulatedTo set map schedule n e →
-    simulated set map schedule (step_length * length schedule) ≡ Ran n e
+    simulated set map schedule (step_length * length schedule) ≡ ran n e
 unfolding simulated limited
 ran-simulated set map schedule n e s =
     chosen _ _ s.accepted
@@ -112,18 +114,18 @@ pub record ReplayedTo (set map bytes : List ℕ) (n : ℕ) (e : End) : Type 0 wh
   pub accepted : (set_accepted set && map_accepted run_cells map) ≡ true
   pub whole : length bytes ≡ step_length * (length bytes / step_length)
   pub few : length bytes / step_length ≤ 64
-  pub retraced : retrace (set_of set) (begin map) no_write 0 (length bytes / step_length) bytes ≡ Ran n e
+  pub retraced : retrace (set_of set) (begin map) no_write 0 (length bytes / step_length) bytes ≡ ran n e
 
-pub replayed-ran : (set map bytes : List ℕ) (n : ℕ) (e : End) → replayed set map bytes ≡ Ran n e → ReplayedTo set map bytes n e
+pub replayed-ran : (set map bytes : List ℕ) (n : ℕ) (e : End) → replayed set map bytes ≡ ran n e → ReplayedTo set map bytes n e
 unfolding replayed limited_trace
 replayed-ran set map bytes n e p =
-    let (a, p₁) = ran_where (set_accepted set && map_accepted run_cells map) 9 0 p in
-    let (b, p₂) = ran_where (eqb (length bytes % step_length) 0 && leb (length bytes / step_length) 64) 17 0 p₁ in
+    let (a, p₁) = ran_where (set_accepted set && map_accepted run_cells map) _ p in
+    let (b, p₂) = ran_where (eqb (length bytes % step_length) 0 && leb (length bytes / step_length) 64) _ p₁ in
     let z = eqb-true (length bytes % step_length) 0 (and_left (eqb (length bytes % step_length) 0) (leb (length bytes / step_length) 64) b) in
     let few = leb-true (length bytes / step_length) 64 (and_right (eqb (length bytes % step_length) 0) (leb (length bytes / step_length) 64) b) in
     record { accepted = a; whole = omega arith; few = few; retraced = p₂ }
 
-pub ran-replayed : (set map bytes : List ℕ) (n : ℕ) (e : End) → ReplayedTo set map bytes n e → replayed set map bytes ≡ Ran n e
+pub ran-replayed : (set map bytes : List ℕ) (n : ℕ) (e : End) → ReplayedTo set map bytes n e → replayed set map bytes ≡ ran n e
 unfolding replayed limited_trace
 ran-replayed set map bytes n e r =
     let whole = r.whole in
@@ -175,7 +177,7 @@ one-schedule set map first second out n e b c s t =
     schedule-shown set map first n e out s ∙ sym (schedule-shown set map second n e out t)
 
 -- what replay accepts, simulation writes; what simulation writes, replay accepts
-simulation_writes : (set map bytes : List ℕ) (n : ℕ) (e : End) → replayed set map bytes ≡ Ran n e →
+simulation_writes : (set map bytes : List ℕ) (n : ℕ) (e : End) → replayed set map bytes ≡ ran n e →
     (schedule : List ℕ) × AreBytes schedule × Simulates set map schedule n e bytes
 unfolding begin schedule_trace
 simulation_writes set map bytes n e p =
@@ -201,7 +203,7 @@ simulation_writes set map bytes n e p =
     )
 
 replay_accepts : (set map bytes schedule : List ℕ) (n : ℕ) (e : End) → Simulates set map schedule n e bytes →
-    replayed set map bytes ≡ Ran n e
+    replayed set map bytes ≡ ran n e
 unfolding begin schedule_trace
 replay_accepts set map bytes schedule n e s =
     let S = set_of set in

@@ -14,8 +14,10 @@ use Rattle.base.proofs.Below.{number-grows, number-yes, number-no}
 use Rattle.base.proofs.Choice.{and_true, and_false, and_right_false, and_left, or_false, or_left, or_right, clash}
 use Rattle.records.specs.Instructions.{is_last}
 use Rattle.text_lines.specs.Lines.{lines, is_dot, statement_line}
+use Rattle.std.specs.Prelude.{Option, None, Some, Result, Ok, Err}
+use Rattle.records.specs.declared.refusals.Refusal.{Refusal}
 use Rattle.text_lines.specs.declared.Stated.{Stated}
-use Rattle.text.specs.Sections.{Threads, dots, is_good, halt, no_threads, added, is_complete, gained, closed, line_added, threads_from, threads}
+use Rattle.text.specs.Sections.{Threads, dots, holds, held_added, halt, no_threads, added, is_complete, gained, closed, line_added, threads_from, threads}
 use Rattle.text.proofs.Below.{cond_where}
 use Rattle.text.proofs.Statements.{added-others, added-count, added-last, added-earlier, gained-ended, gained-others, gained-earlier}
 use Rattle.claims.specs.Sections.{line, sections, section_of, holds_statement, statements_before, Gains, ThreadsAreTheSections}
@@ -87,19 +89,19 @@ module _ (text : List ℕ) where
     pub ended : T.ended ≡ section_of text i
     pub counts : (s : ℕ) → s < sections text → T.ended ≤ s → T.count s ≡ statements_before text s i
     pub shut : (s : ℕ) → s < T.ended → Gains (statements_before text s i) (T.count s) (T.statement s)
-    pub held : (s j : ℕ) → s < sections text → j < i → holds_statement text s j ≡ true → T.statement s (statements_before text s j) ≡ statement_line (line text j)
+    pub held : (s j : ℕ) → s < sections text → j < i → holds_statement text s j ≡ true → statement_line (line text j) ≡ Ok (Some (T.statement s (statements_before text s j)))
 
   -- a line holds no statement of another section, and a dot line holds none
   elsewhere : (s i : ℕ) → (section_of text i ≡ s → ⊥) → holds_statement text s i ≡ false
-  elsewhere s i f = and_false (is_good (statement_line (line text i)).form) (and_false (not (ends i)) (ne_eqb (section_of text i) s f))
+  elsewhere s i f = and_false (holds (statement_line (line text i))) (and_false (not (ends i)) (ne_eqb (section_of text i) s f))
 
   at_dot : (s i : ℕ) → ends i ≡ true → holds_statement text s i ≡ false
-  at_dot s i d = and_false (is_good (statement_line (line text i)).form) (and_right_false (eqb (section_of text i) s) (ap not d))
+  at_dot s i d = and_false (holds (statement_line (line text i))) (and_right_false (eqb (section_of text i) s) (ap not d))
 
   holds_section : (s i : ℕ) → holds_statement text s i ≡ true → section_of text i ≡ s
   holds_section s i e =
       let here = eqb (section_of text i) s in
-      eqb-true (section_of text i) s (and_left here (not (ends i)) (and_left (here && not (ends i)) (is_good (statement_line (line text i)).form) e))
+      eqb-true (section_of text i) s (and_left here (not (ends i)) (and_left (here && not (ends i)) (holds (statement_line (line text i))) e))
 
   -- statements of a section before line i come before its next one
   written-before : (s j i : ℕ) → j < i → holds_statement text s j ≡ true → statements_before text s j < statements_before text s i
@@ -119,10 +121,7 @@ module _ (text : List ℕ) where
   }
 
   -- a line of the open section
-  module _ (i : ℕ) (T : Threads) (d : ends i ≡ false) (g : is_good (statement_line (line text i)).form ≡ true) (most : T.ended < sections text) (o : Sorted i T) where
-    abbrev x : Stated
-    x = statement_line (line text i)
-
+  module _ (i : ℕ) (T : Threads) (x : Stated) (d : ends i ≡ false) (is : statement_line (line text i) ≡ Ok (Some x)) (most : T.ended < sections text) (o : Sorted i T) where
     abbrev more : Threads
     more = added x T
 
@@ -131,7 +130,7 @@ module _ (text : List ℕ) where
     more-ended = refl
 
     here : holds_statement text T.ended i ≡ true
-    here = and_true (and_true (eq-eqb (section_of text i) T.ended (sym o.ended)) (ap not d)) g
+    here = and_true (and_true (eq-eqb (section_of text i) T.ended (sym o.ended)) (ap not d)) (ap holds is)
 
     other : (s : ℕ) → (s ≡ T.ended → ⊥) → holds_statement text s i ≡ false
     other s f = elsewhere s i (λ e. f (sym e ∙ sym o.ended))
@@ -140,14 +139,16 @@ module _ (text : List ℕ) where
     own-count : more.count T.ended ≡ statements_before text T.ended (suc i)
     own-count = omega (arith, added-count x T, o.counts T.ended most (omega arith), number-yes (holds_statement text T.ended) i here)
 
-    own_held : (j : ℕ) → j < suc i → holds_statement text T.ended j ≡ true → more.statement T.ended (statements_before text T.ended j) ≡ statement_line (line text j)
+    own_held : (j : ℕ) → j < suc i → holds_statement text T.ended j ≡ true → statement_line (line text j) ≡ Ok (Some (more.statement T.ended (statements_before text T.ended j)))
     own_held j l e =
         let n = o.counts T.ended most (omega arith) in
         elim (ℕ_discrete j i) [
-          | yes q ↦ ap (λ (k : ℕ). more.statement T.ended (statements_before text T.ended k)) q ∙ ap (more.statement T.ended) (sym n) ∙ added-last x T ∙ ap (λ (k : ℕ). statement_line (line text k)) (sym q)
+          | yes q ↦
+              let last : more.statement T.ended (statements_before text T.ended j) ≡ x = ap (λ (k : ℕ). more.statement T.ended (statements_before text T.ended k)) q ∙ ap (more.statement T.ended) (sym n) ∙ added-last x T in
+              ap (λ (k : ℕ). statement_line (line text k)) q ∙ is ∙ ap (λ (y : Stated). Ok (Some y)) (sym last)
           | no f ↦
               let b = written-before T.ended j i (omega arith) e in
-              added-earlier x T (statements_before text T.ended j) (omega arith) ∙ o.held T.ended j most (omega arith) e
+              o.held T.ended j most (omega arith) e ∙ ap (λ (y : Stated). Ok (Some y)) (sym (added-earlier x T (statements_before text T.ended j) (omega arith)))
         ]
 
     -- a line of another section stands before line i
@@ -170,8 +171,8 @@ module _ (text : List ℕ) where
           (sym (number-no (holds_statement text s) i (other s f))) (sym (added-others x T s f).0) (λ p. sym ((added-others x T s f).1 p))
           (o.shut s (omega (arith, more-ended)));
       held = λ s j h l e. elim (ℕ_discrete s T.ended) [
-        | yes q ↦ subst⁻¹ (λ (u : ℕ). more.statement u (statements_before text u j) ≡ statement_line (line text j)) q (own_held j l (subst (λ (u : ℕ). holds_statement text u j ≡ true) q e))
-        | no f ↦ (added-others x T s f).1 (statements_before text s j) ∙ o.held s j h (earlier s j l f e) e
+        | yes q ↦ subst⁻¹ (λ (u : ℕ). statement_line (line text j) ≡ Ok (Some (more.statement u (statements_before text u j)))) q (own_held j l (subst (λ (u : ℕ). holds_statement text u j ≡ true) q e))
+        | no f ↦ o.held s j h (earlier s j l f e) e ∙ ap (λ (y : Stated). Ok (Some y)) (sym ((added-others x T s f).1 (statements_before text s j)))
       ];
     }
 
@@ -228,7 +229,7 @@ module _ (text : List ℕ) where
       ];
       held = λ s j h l e. elim (ℕ_discrete j i) [
         | yes q ↦ clash (sym (ap (holds_statement text s) q) ∙ e) (at_dot s i d)
-        | no f ↦ kept-held s j h (omega arith) e ∙ o.held s j h (omega arith) e
+        | no f ↦ o.held s j h (omega arith) e ∙ ap (λ (y : Stated). Ok (Some y)) (sym (kept-held s j h (omega arith) e))
       ];
     }
 
@@ -243,12 +244,15 @@ module _ (text : List ℕ) where
       (λ z. let none = eqb-true (dots (drop (suc i) (lines text))) 0 z in
       sorted-same i T d (λ s l. elsewhere s i (λ q. omega (arith, left))) (omega (arith, o.ended, left)) o)
       (λ z. let some = eqb-false (dots (drop (suc i) (lines text))) 0 z in
-      cond_where (Sorted (suc i)) (is_good (statement_line (line text i)).form)
-      (λ g. sorted-added i T d g (omega (arith, o.ended, left)) o)
-      (λ g. sorted-same i T d (λ s l. and_right_false (eqb (section_of text i) s && not (ends i)) g) (omega (arith, o.ended, left)) o)))
+      held (statement_line (line text i)) refl d (omega (arith, o.ended, left))))
     where
       left : section_of text (suc i) + dots (drop (suc i) (lines text)) ≡ sections text
       left = dots-after (suc i) h
+
+      held : (r : Result (Option Stated) Refusal) → statement_line (line text i) ≡ r → ends i ≡ false → T.ended < sections text → Sorted (suc i) (held_added r T)
+      held (Ok (Some x)) e d most = sorted-added i T x d e most o
+      held (Ok None) e d most = sorted-same i T d (λ s l. and_right_false (eqb (section_of text i) s && not (ends i)) (ap holds e)) (omega arith) o
+      held (Err refusal) e d most = sorted-same i T d (λ s l. and_right_false (eqb (section_of text i) s && not (ends i)) (ap holds e)) (omega arith) o
 
   sorted_after : (i : ℕ) → i ≤ length (lines text) → Sorted i (after i)
   unfolding after number
@@ -269,6 +273,6 @@ threads_are_the_sections text =
       statements = λ s i h l e. o.held s i h l e;
       held = λ s p h l.
           let r = number_reach (holds_statement text s) n p l in
-          (r.0, r.1, r.2, ap ((threads (lines text)).statement s) (sym r.3) ∙ o.held s r.0 h r.1 r.2);
+          (r.0, r.1, r.2, o.held s r.0 h r.1 r.2 ∙ ap (λ (k : ℕ). Ok (Some ((threads (lines text)).statement s k))) r.3);
       ends = λ s h. o.shut s (omega (arith, o.ended));
     }

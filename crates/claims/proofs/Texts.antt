@@ -1,14 +1,14 @@
 -- Demand 2 for texts (specs/Texts.antt states it): the answer by the rules, and what the records of a text hold. Assumes nothing.
 use Prim.Native.Nat.{ℕ, zero, suc, ◌+◌, ◌-◌, ◌*◌, ◌≤◌, ◌<◌}
-use mathlib.Core.Path.{◌≡◌, refl, ap, ap₂, sym, subst⁻¹, ◌∙◌}
+use mathlib.Core.Path.{◌≡◌, refl, ap, sym, subst⁻¹, ◌∙◌}
 use mathlib.Core.Bool.{Bool, true, false, cond, not}
 use mathlib.Core.List.{List, [], ◌∷◌}
 use mathlib.Core.Logic.{◌⊎◌, ◌↔◌, inl, inr, ⊎_elim}
 use native.Mathlib.Omega.{arith}
-use lib.Dec.{eqb, ltb, leb}
+use lib.Dec.{ltb, leb}
 use lib.ListN.{length, get_or, drop}
 use lib.Seq.{take-append_seam, drop-append_seam}
-use borrow.Author.Tests.{eqb-true, ltb-false, leb-true, lt-ltb, le-ltb, le-leb, eq-eqb, ne_eqb}
+use borrow.Author.Tests.{ltb-false, leb-true, lt-ltb, le-ltb, le-leb}
 use Rattle.base.specs.Bytes.{over}
 use Rattle.base.proofs.Bytes.{length_over, same_self}
 use Rattle.base.proofs.Choice.{chosen, passed, and_true, and_left, and_right, refuted, clash}
@@ -16,78 +16,85 @@ use Rattle.records.specs.Instructions.{is_jump}
 use Rattle.records.specs.Sets.{set_of}
 use Rattle.records.specs.declared.Statement.{Statement}
 use Rattle.text_lines.specs.Lines.{lines, unlabelled}
-use Rattle.text_lines.specs.declared.Form.{Form}
-use Rattle.text_lines.specs.declared.Form.TheVariants.{Malformed, Large}
-use Rattle.text_lines.specs.declared.Cell.{Cell}
+use Rattle.std.specs.Prelude.{Option, None, Some, Result, Ok, Err, is_ok}
+use Rattle.records.specs.Refusals.{number, of_call}
+use Rattle.records.specs.declared.Cell.{Cell}
+use Rattle.records.specs.declared.refusals.Refusal.{Refusal}
+use Rattle.records.specs.declared.refusals.Refusal.TheVariants.{TextLength, Malformed, Number, Threads as ByThreads, Statements as ByStatements, Label as ByLabel, Checkpoints as ByCheckpoints, Map as ByMap, Room as ByRoom}
+use Rattle.records.specs.declared.refusals.Refused.{Refused}
 use Rattle.text.specs.Sections.{Threads, threads, cells}
 use Rattle.text.specs.Records.{is_named, argument_of, set_bytes, map_bytes, statements}
-use Rattle.text.specs.Answers.{line_refusal, refusal_in, in_lines, threads_fit, statements_fit, labels_fit, checkpoints_fit, map_fits, room_fits, refused, whole, answer, output_by, set_output, map_output}
-use Rattle.text.specs.declared.ReadAnswer.{ReadAnswer}
-use Rattle.text.specs.declared.ReadAnswer.TheVariants.{Read, Refused}
+use Rattle.text.specs.Answers.{refusal_in, refused_or, in_lines, threads_fit, statements_fit, labels_fit, checkpoints_fit, map_fits, room_fits, refused, whole, answer, output_by, set_output, map_output}
+use Rattle.text.specs.declared.Counts.{Counts}
 use Rattle.text.proofs.Accepted.{Fitting, fitting, set-accepted}
 use Rattle.text.proofs.Maps.{cells-ordered, map-fits, length-map, cells-map, address-map, value-map}
 use Rattle.text.proofs.Sets.{length-set, number-set, mode-set, argument-set, count_set, threads-set, statement-set}
 use Rattle.text.proofs.Statements.{Kept, kept-threads}
 use Rattle.claims.specs.Sections.{line}
-use Rattle.claims.specs.Texts.{SizeFollows, LinesFollow, Follows, Room, AcceptedExactly, FirstLine, Refusals, RefusedInOrder, SetSays, MapSays, RecordsSayTheText, WrittenOver, OutputsHoldTheRecords}
+use Rattle.claims.specs.Texts.{Refuses, SizeFollows, LinesFollow, Follows, Room, AcceptedExactly, FirstLine, Refusals, RefusedInOrder, SetSays, MapSays, RecordsSayTheText, WrittenOver, OutputsHoldTheRecords}
 use Rattle.claims.proofs.Rules.{refusal_is, line-rule, threads-rule, statements-rule, labels-rule, checkpoints-rule, map-rule, by_number_lem, label_at}
 
 -- ---- lines in order
 
 -- no line is refused
 abbrev Passes : List (List ℕ) → Type 0
-Passes ls = (i : ℕ) → i < length ls → refusal_in (get_or ls i []) (drop (suc i) ls) ≡ 0
+Passes ls = (i : ℕ) → i < length ls → refusal_in (get_or ls i []) (drop (suc i) ls) ≡ None
 
-abbrev Refusal : ReadAnswer → Type 0
-Refusal r = (number : ℕ) × (place : ℕ) × (r ≡ Refused number place)
+abbrev IsRefused : Result Counts Refused → Type 0
+IsRefused r = (e : Refused) × (r ≡ Err e)
 
-lines-pass : (n : ℕ) (ls : List (List ℕ)) (next : ReadAnswer) → Passes ls → in_lines n ls next ≡ next
+-- a refusal by what refuses the whole text
+refuses : (refusal : Refusal) (r : Result Counts Refused) → r ≡ refused refusal → Refuses r (number refusal) 0
+refuses refusal r e = (of_call refusal, e, refl, refl)
+
+lines-pass : (n : ℕ) (ls : List (List ℕ)) (next : Result Counts Refused) → Passes ls → in_lines n ls next ≡ next
 unfolding in_lines
 lines-pass n [] next f = refl
 lines-pass n (l ∷ ls) next f =
-    chosen _ _ (eq-eqb (refusal_in l ls) 0 (f 0 (omega arith))) ∙ lines-pass (suc n) ls next (λ i h. f (suc i) (omega arith))
+    ap (λ (o : Option Refusal). refused_or o n (in_lines (suc n) ls next)) (f 0 (omega arith)) ∙ lines-pass (suc n) ls next (λ i h. f (suc i) (omega arith))
 
 -- the first line that is refused decides
-lines_refuse : (n : ℕ) (ls : List (List ℕ)) (next : ReadAnswer) (i : ℕ) → i < length ls →
-    ((j : ℕ) → j < i → refusal_in (get_or ls j []) (drop (suc j) ls) ≡ 0) → (refusal_in (get_or ls i []) (drop (suc i) ls) ≡ 0 → ⊥) →
-    in_lines n ls next ≡ Refused (refusal_in (get_or ls i []) (drop (suc i) ls)) (n + i)
+lines_refuse : (n : ℕ) (ls : List (List ℕ)) (next : Result Counts Refused) (i : ℕ) (refusal : Refusal) → i < length ls →
+    ((j : ℕ) → j < i → refusal_in (get_or ls j []) (drop (suc j) ls) ≡ None) → refusal_in (get_or ls i []) (drop (suc i) ls) ≡ Some refusal →
+    in_lines n ls next ≡ Err (record { refusal = refusal; place = n + i })
 unfolding in_lines
-lines_refuse n [] next i h f g = absurd (omega arith)
-lines_refuse n (l ∷ ls) next zero h f g =
-    passed _ _ (ne_eqb (refusal_in l ls) 0 g) ∙ ap (Refused (refusal_in l ls)) (omega arith)
-lines_refuse n (l ∷ ls) next (suc i) h f g =
-    chosen _ _ (eq-eqb (refusal_in l ls) 0 (f 0 (omega arith)))
-    ∙ lines_refuse (suc n) ls next i (omega arith) (λ j k. f (suc j) (omega arith)) g
-    ∙ ap (Refused (refusal_in (get_or ls i []) (drop (suc i) ls))) (omega arith)
+lines_refuse n [] next i refusal h f g = absurd (omega arith)
+lines_refuse n (l ∷ ls) next zero refusal h f g =
+    ap (λ (o : Option Refusal). refused_or o n (in_lines (suc n) ls next)) g
+    ∙ ap (λ (k : ℕ). Err (record { refusal = refusal; place = k })) (let e : n ≡ n + 0 = omega arith in e)
+lines_refuse n (l ∷ ls) next (suc i) refusal h f g =
+    ap (λ (o : Option Refusal). refused_or o n (in_lines (suc n) ls next)) (f 0 (omega arith))
+    ∙ lines_refuse (suc n) ls next i refusal (omega arith) (λ j k. f (suc j) (omega arith)) g
+    ∙ ap (λ (k : ℕ). Err (record { refusal = refusal; place = k })) (let e : suc n + i ≡ n + suc i = omega arith in e)
 
-lines-judged : (n : ℕ) (ls : List (List ℕ)) (next : ReadAnswer) → Passes ls ⊎ Refusal (in_lines n ls next)
+lines-judged : (n : ℕ) (ls : List (List ℕ)) (next : Result Counts Refused) → Passes ls ⊎ IsRefused (in_lines n ls next)
 unfolding in_lines
 lines-judged n [] next = inl (λ i h. absurd (omega arith))
-lines-judged n (l ∷ ls) next = go (lines-judged (suc n) ls next) (eqb (refusal_in l ls) 0) refl
+lines-judged n (l ∷ ls) next = go (lines-judged (suc n) ls next) (refusal_in l ls) refl
   where
-    go : Passes ls ⊎ Refusal (in_lines (suc n) ls next) → (b : Bool) → eqb (refusal_in l ls) 0 ≡ b →
-        Passes (l ∷ ls) ⊎ Refusal (cond b (in_lines (suc n) ls next) (Refused (refusal_in l ls) n))
-    go judged false e = inr (refusal_in l ls, n, refl)
-    go (inl f) true e = inl all
+    go : Passes ls ⊎ IsRefused (in_lines (suc n) ls next) → (o : Option Refusal) → refusal_in l ls ≡ o →
+        Passes (l ∷ ls) ⊎ IsRefused (refused_or o n (in_lines (suc n) ls next))
+    go judged (Some refusal) e = inr (record { refusal = refusal; place = n }, refl)
+    go (inl f) None e = inl all
       where
         all : Passes (l ∷ ls)
-        all zero h = eqb-true (refusal_in l ls) 0 e
+        all zero h = e
         all (suc i) h = f i (omega arith)
-    go (inr r) true e = inr r
+    go (inr r) None e = inr r
 
 -- ---- the answer
 
 -- a test of the whole text: it passes, or the text is refused
-tested : {A : Type 0} (b : Bool) (n : ℕ) (next : ReadAnswer) → (b ≡ true → A ⊎ Refusal next) → A ⊎ Refusal (cond (not b) (refused n) next)
+tested : {A : Type 0} (b : Bool) (n : Refusal) (next : Result Counts Refused) → (b ≡ true → A ⊎ IsRefused next) → A ⊎ IsRefused (cond (not b) (refused n) next)
 tested true n next f = f refl
-tested false n next f = inr (n, 0, refl)
+tested false n next f = inr (of_call n, refl)
 
 -- a test that a broken rule fails
-broken : {A : Type 0} (b : Bool) (n : ℕ) (next : ReadAnswer) → b ≡ true ↔ A → (A → ⊥) → cond (not b) (refused n) next ≡ refused n
+broken : {A : Type 0} (b : Bool) (n : Refusal) (next : Result Counts Refused) → b ≡ true ↔ A → (A → ⊥) → cond (not b) (refused n) next ≡ refused n
 broken b n next rule f = chosen _ _ (ap not (refuted b (λ e. f (rule.0 e))))
 
 -- a test that a kept rule passes
-kept : {A : Type 0} (b : Bool) (n : ℕ) (next : ReadAnswer) → b ≡ true ↔ A → A → cond (not b) (refused n) next ≡ next
+kept : {A : Type 0} (b : Bool) (n : Refusal) (next : Result Counts Refused) → b ≡ true ↔ A → A → cond (not b) (refused n) next ≡ next
 kept b n next rule a = passed _ _ (ap not (rule.1 a))
 
 module _ (text : List ℕ) (set_room map_room : ℕ) where
@@ -111,11 +118,11 @@ module _ (text : List ℕ) (set_room map_room : ℕ) where
   lined h f = sized h ∙ lines-pass 1 (lines text) (whole T cs set_room map_room) (passes f)
 
   -- every text follows document 01 or is refused
-  by_whole : SizeFollows text → LinesFollow text → Follows text ⊎ Refusal (whole T cs set_room map_room)
+  by_whole : SizeFollows text → LinesFollow text → Follows text ⊎ IsRefused (whole T cs set_room map_room)
   unfolding whole
   by_whole h f =
-      tested (threads_fit T) 4 _ (λ a. tested (statements_fit T) 5 _ (λ b. tested (labels_fit T) 6 _ (λ c.
-      tested (checkpoints_fit (set_bytes T)) 7 _ (λ d. tested (map_fits cs) 8 _ (λ e. inl (record {
+      tested (threads_fit T) ByThreads _ (λ a. tested (statements_fit T) ByStatements _ (λ b. tested (labels_fit T) ByLabel _ (λ c.
+      tested (checkpoints_fit (set_bytes T)) ByCheckpoints _ (λ d. tested (map_fits cs) ByMap _ (λ e. inl (record {
         row1 = h;
         rows2and3 = f;
         row4 = (threads-rule T).0 a;
@@ -125,36 +132,36 @@ module _ (text : List ℕ) (set_room map_room : ℕ) where
         row8 = (map-rule cs).0 e;
       }))))))
 
-  by_lines : SizeFollows text → Passes (lines text) → Follows text ⊎ Refusal (answer text set_room map_room)
+  by_lines : SizeFollows text → Passes (lines text) → Follows text ⊎ IsRefused (answer text set_room map_room)
   by_lines h f =
       let follow : LinesFollow text = λ i l. (line-rule text i l).0 (f i l) in
-      subst⁻¹ (λ (r : ReadAnswer). Follows text ⊎ Refusal r) (lined h follow) (by_whole h follow)
+      subst⁻¹ (λ (r : Result Counts Refused). Follows text ⊎ IsRefused r) (lined h follow) (by_whole h follow)
 
-  by_size : SizeFollows text → Follows text ⊎ Refusal (answer text set_room map_room)
-  by_size h = ⊎_elim (by_lines h) (λ r. inr (subst⁻¹ Refusal (sized h) r)) (lines-judged 1 (lines text) (whole T cs set_room map_room))
+  by_size : SizeFollows text → Follows text ⊎ IsRefused (answer text set_room map_room)
+  by_size h = ⊎_elim (by_lines h) (λ r. inr (subst⁻¹ IsRefused (sized h) r)) (lines-judged 1 (lines text) (whole T cs set_room map_room))
 
-  too_long : (SizeFollows text → ⊥) → answer text set_room map_room ≡ refused 1
+  too_long : (SizeFollows text → ⊥) → answer text set_room map_room ≡ refused TextLength
   unfolding answer
   too_long f = chosen _ _ (lt-ltb 16384 (length text) (omega arith))
 
-  judged : Follows text ⊎ Refusal (answer text set_room map_room)
+  judged : Follows text ⊎ IsRefused (answer text set_room map_room)
   judged = go (ltb 16384 (length text)) refl
     where
-      go : (b : Bool) → ltb 16384 (length text) ≡ b → Follows text ⊎ Refusal (answer text set_room map_room)
-      go true e = inr (1, 0, too_long (λ h. clash e (le-ltb 16384 (length text) h)))
+      go : (b : Bool) → ltb 16384 (length text) ≡ b → Follows text ⊎ IsRefused (answer text set_room map_room)
+      go true e = inr (of_call TextLength, too_long (λ h. clash e (le-ltb 16384 (length text) h)))
       go false e = by_size (ltb-false 16384 (length text) e)
 
   -- ---- a text that follows document 01
 
-  read_or_short : Follows text → answer text set_room map_room ≡ cond (not (room_fits T cs set_room map_room)) (refused 11) (Read (statements T) (length cs))
+  read_or_short : Follows text → answer text set_room map_room ≡ cond (not (room_fits T cs set_room map_room)) (refused ByRoom) (Ok (record { statements = statements T; cells = length cs }))
   unfolding whole
   read_or_short f =
       lined f.row1 f.rows2and3
-      ∙ kept (threads_fit T) 4 _ (threads-rule T) f.row4
-      ∙ kept (statements_fit T) 5 _ (statements-rule T) f.row5
-      ∙ kept (labels_fit T) 6 _ (labels-rule T) f.row6
-      ∙ kept (checkpoints_fit (set_bytes T)) 7 _ (checkpoints-rule T sound) f.row7
-      ∙ kept (map_fits cs) 8 _ (map-rule cs) f.row8
+      ∙ kept (threads_fit T) ByThreads _ (threads-rule T) f.row4
+      ∙ kept (statements_fit T) ByStatements _ (statements-rule T) f.row5
+      ∙ kept (labels_fit T) ByLabel _ (labels-rule T) f.row6
+      ∙ kept (checkpoints_fit (set_bytes T)) ByCheckpoints _ (checkpoints-rule T sound) f.row7
+      ∙ kept (map_fits cs) ByMap _ (map-rule cs) f.row8
 
   room-rule : room_fits T cs set_room map_room ≡ true ↔ Room text set_room map_room
   room-rule =
@@ -166,30 +173,32 @@ module _ (text : List ℕ) (set_room map_room : ℕ) where
 
   -- ---- a text that is refused
 
-  first-line : SizeFollows text → (i : ℕ) (form : Form) → FirstLine text i form → (line_refusal form ≡ 0 → ⊥) → answer text set_room map_room ≡ Refused (line_refusal form) (i + 1)
-  first-line h i form l f =
-      let here : refusal_in (line text i) (drop (suc i) (lines text)) ≡ line_refusal form = refusal_is text i l.inside l.no_dot ∙ ap line_refusal l.is_form in
+  first-line : SizeFollows text → (i : ℕ) (refusal : Refusal) → FirstLine text i refusal → Refuses (answer text set_room map_room) (number refusal) (i + 1)
+  first-line h i refusal l =
+      let here : refusal_in (line text i) (drop (suc i) (lines text)) ≡ Some refusal = refusal_is text i l.inside l.no_dot ∙ l.is_refused in
       let inside = l.inside in
-      let place : 1 + i ≡ i + 1 = omega arith in
-      sized h
-      ∙ lines_refuse 1 (lines text) (whole T cs set_room map_room) i l.inside (λ j k. (line-rule text j (omega arith)).1 (l.before j k)) (λ z. f (sym here ∙ z))
-      ∙ ap₂ Refused here place
+      let place : 1 + i ≡ i + 1 = omega arith in (
+        record { refusal = refusal; place = 1 + i },
+        sized h ∙ lines_refuse 1 (lines text) (whole T cs set_room map_room) i refusal l.inside (λ j k. (line-rule text j (omega arith)).1 (l.before j k)) here,
+        refl,
+        place,
+      )
 
   refusals : Refusals text T cs (answer text set_room map_room)
   unfolding whole
   refusals = record {
-    row1 = too_long;
-    row2 = λ h i l. first-line h i Malformed l (λ z. omega arith);
-    row3 = λ h i l. first-line h i Large l (λ z. omega arith);
-    row4 = λ h l f. lined h l ∙ broken (threads_fit T) 4 _ (threads-rule T) f;
-    row5 = λ h l a f. lined h l ∙ kept (threads_fit T) 4 _ (threads-rule T) a ∙ broken (statements_fit T) 5 _ (statements-rule T) f;
-    row6 = λ h l a b f. lined h l ∙ kept (threads_fit T) 4 _ (threads-rule T) a ∙ kept (statements_fit T) 5 _ (statements-rule T) b
-        ∙ broken (labels_fit T) 6 _ (labels-rule T) f;
-    row7 = λ h l a b c f. lined h l ∙ kept (threads_fit T) 4 _ (threads-rule T) a ∙ kept (statements_fit T) 5 _ (statements-rule T) b
-        ∙ kept (labels_fit T) 6 _ (labels-rule T) c ∙ broken (checkpoints_fit (set_bytes T)) 7 _ (checkpoints-rule T sound) f;
-    row8 = λ h l a b c d f. lined h l ∙ kept (threads_fit T) 4 _ (threads-rule T) a ∙ kept (statements_fit T) 5 _ (statements-rule T) b
-        ∙ kept (labels_fit T) 6 _ (labels-rule T) c ∙ kept (checkpoints_fit (set_bytes T)) 7 _ (checkpoints-rule T sound) d
-        ∙ broken (map_fits cs) 8 _ (map-rule cs) f;
+    row1 = λ f. refuses TextLength _ (too_long f);
+    row2 = λ h i l. first-line h i Malformed l;
+    row3 = λ h i l. first-line h i Number l;
+    row4 = λ h l f. refuses ByThreads _ (lined h l ∙ broken (threads_fit T) ByThreads _ (threads-rule T) f);
+    row5 = λ h l a f. refuses ByStatements _ (lined h l ∙ kept (threads_fit T) ByThreads _ (threads-rule T) a ∙ broken (statements_fit T) ByStatements _ (statements-rule T) f);
+    row6 = λ h l a b f. refuses ByLabel _ (lined h l ∙ kept (threads_fit T) ByThreads _ (threads-rule T) a ∙ kept (statements_fit T) ByStatements _ (statements-rule T) b
+        ∙ broken (labels_fit T) ByLabel _ (labels-rule T) f);
+    row7 = λ h l a b c f. refuses ByCheckpoints _ (lined h l ∙ kept (threads_fit T) ByThreads _ (threads-rule T) a ∙ kept (statements_fit T) ByStatements _ (statements-rule T) b
+        ∙ kept (labels_fit T) ByLabel _ (labels-rule T) c ∙ broken (checkpoints_fit (set_bytes T)) ByCheckpoints _ (checkpoints-rule T sound) f);
+    row8 = λ h l a b c d f. refuses ByMap _ (lined h l ∙ kept (threads_fit T) ByThreads _ (threads-rule T) a ∙ kept (statements_fit T) ByStatements _ (statements-rule T) b
+        ∙ kept (labels_fit T) ByLabel _ (labels-rule T) c ∙ kept (checkpoints_fit (set_bytes T)) ByCheckpoints _ (checkpoints-rule T sound) d
+        ∙ broken (map_fits cs) ByMap _ (map-rule cs) f);
   }
 
 -- ---- the records of a text
@@ -241,34 +250,34 @@ written_over bytes out h = record {
 }
 
 module _ (text set map : List ℕ) where
-  outputs-read : (r : ReadAnswer) (m n : ℕ) → r ≡ Read m n → Room text (length set) (length map) →
+  outputs-read : (r : Result Counts Refused) (counts : Counts) → r ≡ Ok counts → Room text (length set) (length map) →
       WrittenOver (set_bytes (threads (lines text))) set (set_output r text set) × WrittenOver (map_bytes (cells (lines text))) map (map_output r text map)
   unfolding set_output map_output
-  outputs-read r m n e room =
+  outputs-read r counts e room =
       let T = threads (lines text) in
       let cs = cells (lines text) in
-      subst⁻¹ (λ (a : ReadAnswer). WrittenOver (set_bytes T) set (output_by a (set_bytes T) set) × WrittenOver (map_bytes cs) map (output_by a (map_bytes cs) map)) e
+      subst⁻¹ (λ (a : Result Counts Refused). WrittenOver (set_bytes T) set (output_by a (set_bytes T) set) × WrittenOver (map_bytes cs) map (output_by a (map_bytes cs) map)) e
       (written_over (set_bytes T) set (omega (arith, length-set T, room.0)), written_over (map_bytes cs) map (omega (arith, length-map cs, room.1)))
 
-  outputs-stay : (r : ReadAnswer) → Refusal r → (set_output r text set ≡ set) × (map_output r text map ≡ map)
+  outputs-stay : (r : Result Counts Refused) → IsRefused r → (set_output r text set ≡ set) × (map_output r text map ≡ map)
   unfolding set_output map_output
-  outputs-stay r (number, place, e) =
-      (ap (λ (a : ReadAnswer). output_by a (set_bytes (threads (lines text))) set) e, ap (λ (a : ReadAnswer). output_by a (map_bytes (cells (lines text))) map) e)
+  outputs-stay r (refused, e) =
+      (ap (λ (a : Result Counts Refused). output_by a (set_bytes (threads (lines text))) set) e, ap (λ (a : Result Counts Refused). output_by a (map_bytes (cells (lines text))) map) e)
 
 -- ---- the claims
 
-read-refused : {A : Type 0} (r : ReadAnswer) (m n : ℕ) → r ≡ Read m n → Refusal r → A
-read-refused r m n e (number, place, q) = let z : ◌≡◌ {A = ℕ} 0 1 = cc in absurd (omega arith)
+read-refused : {A : Type 0} (r : Result Counts Refused) (counts : Counts) → r ≡ Ok counts → IsRefused r → A
+read-refused r counts e (refused, q) = clash (ap is_ok e) (ap is_ok q)
 
 pub accepted-exactly : AcceptedExactly
 accepted-exactly text set_room map_room =
     let rule = room-rule text set_room map_room in
     record {
       accepted = λ r. (
-        λ e. ⊎_elim (λ f. f) (read-refused _ _ _ e) (judged text set_room map_room),
-        λ f. read_or_short text set_room map_room f ∙ kept _ 11 _ rule r,
+        λ e. ⊎_elim (λ f. f) (read-refused _ _ e) (judged text set_room map_room),
+        λ f. read_or_short text set_room map_room f ∙ kept _ ByRoom _ rule r,
       );
-      short = λ f r. read_or_short text set_room map_room f ∙ broken _ 11 _ rule r;
+      short = λ f r. refuses ByRoom _ (read_or_short text set_room map_room f ∙ broken _ ByRoom _ rule r);
       refused = λ f. ⊎_elim (λ t. absurd (f t)) (λ r. r) (judged text set_room map_room);
     }
 
@@ -292,7 +301,7 @@ outputs_hold_the_records text set map =
     let r = answer text (length set) (length map) in
     let decided = accepted-exactly text (length set) (length map) in
     record {
-      read = λ f room. outputs-read text set map r _ _ ((decided.accepted room).1 f) room;
-      short = λ room. outputs-stay text set map r (⊎_elim (λ f. (11, 0, decided.short f room)) (λ q. q) (judged text (length set) (length map)));
+      read = λ f room. outputs-read text set map r _ ((decided.accepted room).1 f) room;
+      short = λ room. outputs-stay text set map r (⊎_elim (λ f. let q = decided.short f room in (q.0, q.1)) (λ q. q) (judged text (length set) (length map)));
       refused = λ f. outputs-stay text set map r (decided.refused f);
     }

@@ -1,14 +1,17 @@
 -- Document 01's starred cases ("Sample runs") and the cases of change request 2026-05 as one table, a field for each, stated by the machine, the
 -- table and simulation. Statements alone; proofs/Cases.antt proves them. Assumes nothing.
-use Rattle.std.specs.Prelude.{ℕ, suc, ◌≤◌, ◌≡◌, Bool, true, false, List, [], ◌∷◌, ◌++◌}
+use Rattle.std.specs.Prelude.{ℕ, suc, ◌≤◌, ◌≡◌, Bool, true, false, List, [], ◌∷◌, ◌++◌, Result, Err}
 use Rattle.base.specs.Bytes.{word}
 use Rattle.records.specs.Instructions.{LOAD, STORE, FENCE, ADDI, MULI, JMP, JZ, MEM, CAS, HALT, EXIT, CHECK}
 use Rattle.records.specs.Maps.{map_accepted}
+use Rattle.records.specs.Refusals.{number}
+use Rattle.records.specs.declared.refusals.Refused.{Refused}
 use Rattle.records.specs.Sets.{set_of, set_accepted}
 use Rattle.records.specs.declared.Statement.{Statement}
 use Rattle.machine.specs.Machine.{State, start, executed}
+use Rattle.machine.specs.Maps.{ran}
 use Rattle.machine.specs.Runs.{choices, is_run, after}
-use Rattle.machine.specs.declared.RunAnswer.TheVariants.{Ran, Refused}
+use Rattle.machine.specs.declared.Run.{Run}
 use Rattle.machine.specs.declared.End.TheVariants.{Code, Open}
 use Rattle.machine.specs.declared.Thread.{Thread}
 use Rattle.simulation.specs.Simulation.{simulated}
@@ -94,6 +97,10 @@ after7 memory = after (set_of set7) (start memory) (choices (0 ∷ 0 ∷ 0 ∷ [
 abbrev pub marked_alone : (ℕ → ℕ) → List ℕ → Bool
 marked_alone memory schedule = block (after (set_of set_alone) (start memory) (choices schedule)) 0 0
 
+-- a run is refused by this number at this step
+abbrev pub Refuses : Result Run Refused → (digits step : ℕ) → Type 0
+Refuses answer digits step = (r : Refused) × (answer ≡ Err r) × (number r.refusal ≡ digits) × (r.place ≡ step)
+
 -- ---- the table
 
 pub record StarredCases : Type 0 where
@@ -109,7 +116,7 @@ pub record StarredCases : Type 0 where
   pub case3_map1 : Accepted set3 (cell 0 1) × ForNoBound set3 (cell 0 1)
   -- 4. Threads (JMP 0) and (ADDI 1, EXIT 3): schedule 1, 0, 1 runs and ends with 3.
   -- The run's assignment satisfies the table: the jump to itself keeps its statement where it did not run ("Traps in the encoding").
-  pub case4 : (simulated set4 [] (1 ∷ 0 ∷ 1 ∷ []) 72 ≡ Ran 3 (Code 3))
+  pub case4 : (simulated set4 [] (1 ∷ 0 ∷ 1 ∷ []) 72 ≡ ran 3 (Code 3))
       × (Accepted set4 [] × ((memory : ℕ → ℕ) → IsMemory memory → Satisfying set4 [] 3 (assignment_of memory (choices (1 ∷ 0 ∷ 1 ∷ [])))))
   -- 5. ADDI 1, JZ 2, EXIT 2: yes for K 3.
   pub case5 : Accepted set5 [] × Satisfiable set5 [] 3
@@ -121,16 +128,16 @@ pub record StarredCases : Type 0 where
   pub case7 : (memory : ℕ → ℕ) → Agrees (cell 4 9) memory →
       (is_run (set_of set7) (start memory) (choices (0 ∷ 0 ∷ 0 ∷ [])) ≡ true) × (((after7 memory).memory 4 ≡ 10) × (((after7 memory).threads 0).accu ≡ 1))
   -- 8. FENCE with full 1: refusal 12; CHECK runs.
-  pub case8 : (simulated (set8 FENCE) [] (0 ∷ 0 ∷ []) 48 ≡ Refused 12 1) × (simulated (set8 CHECK) [] (0 ∷ 0 ∷ []) 48 ≡ Ran 2 Open)
+  pub case8 : Refuses (simulated (set8 FENCE) [] (0 ∷ 0 ∷ []) 48) 12 1 × (simulated (set8 CHECK) [] (0 ∷ 0 ∷ []) 48 ≡ ran 2 Open)
   -- Request 2026-05. "One thread (CHECK 0, JMP 0) whose second CHECK comes two steps after its first": marked, cleared by the jump, marked again;
   -- it never waits.
-  pub ping_alone : (simulated set_alone [] (0 ∷ 0 ∷ 0 ∷ 0 ∷ []) 96 ≡ Ran 4 Open)
+  pub ping_alone : (simulated set_alone [] (0 ∷ 0 ∷ 0 ∷ 0 ∷ []) 96 ≡ ran 4 Open)
       × ((memory : ℕ → ℕ) → (marked_alone memory (0 ∷ []) ≡ true) × ((marked_alone memory (0 ∷ 0 ∷ []) ≡ false) × (marked_alone memory (0 ∷ 0 ∷ 0 ∷ []) ≡ true)))
   -- "One of two threads where it falls in the clearing step": (CHECK 0, CHECK 0, EXIT 1) and (CHECK 0, JMP 0). Schedule 0, 1, 0 runs; then thread 0
   -- waits, so a further 0 is refusal 12; once thread 1 has come again it ends with 1.
-  pub ping_clearing : (simulated (set_meeting JMP) [] (0 ∷ 1 ∷ 0 ∷ []) 72 ≡ Ran 3 Open)
-      × ((simulated (set_meeting JMP) [] (0 ∷ 1 ∷ 0 ∷ 0 ∷ []) 96 ≡ Refused 12 3)
-      × (simulated (set_meeting JMP) [] (0 ∷ 1 ∷ 0 ∷ 1 ∷ 1 ∷ 0 ∷ []) 144 ≡ Ran 6 (Code 1)))
+  pub ping_clearing : (simulated (set_meeting JMP) [] (0 ∷ 1 ∷ 0 ∷ []) 72 ≡ ran 3 Open)
+      × (Refuses (simulated (set_meeting JMP) [] (0 ∷ 1 ∷ 0 ∷ 0 ∷ []) 96) 12 3
+      × (simulated (set_meeting JMP) [] (0 ∷ 1 ∷ 0 ∷ 1 ∷ 1 ∷ 0 ∷ []) 144 ≡ ran 6 (Code 1)))
   -- By the table: not for K 5, yes for K 6.
   pub ping_bounds : Accepted (set_meeting JMP) [] × (Unsatisfiable (set_meeting JMP) [] 5 × Satisfiable (set_meeting JMP) [] 6)
   -- With (CHECK 0, HALT) as the second thread: for no K.

@@ -6,8 +6,8 @@ use Rattle.std.specs.Prelude.{ℕ, ◌≤◌, ◌≡◌, true, ◌||◌, List, �
 use Rattle.records.specs.Maps.{map_accepted, mapped, map_value}
 use Rattle.records.specs.Sets.{set_of}
 use Rattle.machine.specs.Machine.{start}
+use Rattle.machine.specs.Maps.{ran}
 use Rattle.machine.specs.Runs.{after}
-use Rattle.machine.specs.declared.RunAnswer.TheVariants.{Ran}
 use Rattle.machine.specs.declared.End.TheVariants.{Code}
 use Rattle.replay.specs.Replay.{replayed}
 use Rattle.table.specs.Values.{Assignment, satisfies}
@@ -40,7 +40,7 @@ pub record Decodes (set map : List ℕ) (bound : ℕ) (g : Assignment) : Type 0 
   pub values_are : (a : ℕ) → mapped (decoded_map set map bound g) a ≡ true → map_value (decoded_map set map bound g) a ≡ g.first a
   -- over that map the trace replays to that run's code and step count
   pub replays : replayed set (decoded_map set map bound g) (decoded_trace set bound g)
-      ≡ Ran (length (run_of (set_of set).threads bound g)) (Code (after (set_of set) (start g.first) (run_of (set_of set).threads bound g)).code)
+      ≡ ran (length (run_of (set_of set).threads bound g)) (Code (after (set_of set) (start g.first) (run_of (set_of set).threads bound g)).code)
 
 -- a trace of at most so many steps that replays to a code other than 0 over some map of at most 256 cells that contains the set's
 pub record ReplaysToFailure (set map : List ℕ) (bound : ℕ) (trace : List ℕ) : Type 0 where
@@ -52,7 +52,7 @@ pub record ReplaysToFailure (set map : List ℕ) (bound : ℕ) (trace : List ℕ
   pub code : ℕ
   pub bounded : steps ≤ bound
   pub failing : code ≡ 0 → ⊥
-  pub replays : replayed set other trace ≡ Ran steps (Code code)
+  pub replays : replayed set other trace ≡ ran steps (Code code)
 
 -- the traces that accepted models decode to
 pub record DecodedFromModel (set map : List ℕ) (bound : ℕ) (trace : List ℕ) : Type 0 where

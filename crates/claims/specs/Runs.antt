@@ -4,8 +4,8 @@ use Rattle.std.specs.Prelude.{ℕ, ◌*◌, ◌<◌, ◌≡◌, true, List, [], 
 use Rattle.records.specs.Maps.{map_value}
 use Rattle.records.specs.Sets.{set_of}
 use Rattle.machine.specs.Machine.{start}
+use Rattle.machine.specs.Maps.{ran}
 use Rattle.machine.specs.Runs.{choices, is_run, after, end_of}
-use Rattle.machine.specs.declared.RunAnswer.TheVariants.{Ran}
 use Rattle.machine.specs.declared.End.{End}
 use Rattle.simulation.specs.Simulation.{simulated, schedule_trace}
 use Rattle.replay.specs.Replay.{replayed}
@@ -17,14 +17,14 @@ AreBytes (k ∷ schedule) = (k < 256) × AreBytes schedule
 
 -- simulation, lent the room that 11 asks, takes the schedule's n steps to the end e and writes this trace
 pub record Simulates (set map schedule : List ℕ) (n : ℕ) (e : End) (trace : List ℕ) : Type 0 where
-  pub answer : simulated set map schedule (24 * length schedule) ≡ Ran n e
+  pub answer : simulated set map schedule (24 * length schedule) ≡ ran n e
   pub writes : schedule_trace set map schedule ≡ trace
 
 -- Replay accepts exactly the traces that simulation writes for the same set and map, with the same count and end.
 abbrev pub ReplayAcceptsWhatSimulationWrites : Type 0
 ReplayAcceptsWhatSimulationWrites =
     (set map trace : List ℕ) (n : ℕ) (e : End) →
-    replayed set map trace ≡ Ran n e ↔ ((schedule : List ℕ) × AreBytes schedule × Simulates set map schedule n e trace)
+    replayed set map trace ≡ ran n e ↔ ((schedule : List ℕ) × AreBytes schedule × Simulates set map schedule n e trace)
 
 -- One trace comes from one schedule.
 abbrev pub OneSchedule : Type 0
@@ -41,4 +41,4 @@ pub record RunOf (set map schedule : List ℕ) (n : ℕ) (e : End) : Type 0 wher
 
 abbrev pub SimulationRuns : Type 0
 SimulationRuns =
-    (set map schedule : List ℕ) (room n : ℕ) (e : End) → simulated set map schedule room ≡ Ran n e → RunOf set map schedule n e
+    (set map schedule : List ℕ) (room n : ℕ) (e : End) → simulated set map schedule room ≡ ran n e → RunOf set map schedule n e

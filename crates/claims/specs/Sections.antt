@@ -1,13 +1,13 @@
 -- What a set text holds, by its lines: demand 2's "what the text says". specs/Texts.antt states the rest of that demand. Statements alone; proofs/
 -- proves them. Assumes nothing.
-use Rattle.std.specs.Prelude.{ℕ, ◌+◌, ◌-◌, ◌<◌, ◌≡◌, Bool, true, false, not, ◌&&◌, List, [], ◌∷◌, ◌++◌, eqb, length, get_or}
+use Rattle.std.specs.Prelude.{ℕ, ◌+◌, ◌-◌, ◌<◌, ◌≡◌, Bool, true, false, not, ◌&&◌, List, [], ◌∷◌, ◌++◌, Some, Ok, eqb, length, get_or}
 use Rattle.base.specs.Below.{number}
 use Rattle.records.specs.Instructions.{is_last}
 use Rattle.text_lines.specs.Characters.{name}
 use Rattle.text_lines.specs.Lines.{lines, is_dot, is_label, padded, statement_line, map_line}
 use Rattle.text_lines.specs.declared.Stated.{Stated}
-use Rattle.text_lines.specs.declared.Cell.{Cell}
-use Rattle.text.specs.Sections.{Threads, is_good, halt, threads, cells}
+use Rattle.records.specs.declared.Cell.{Cell}
+use Rattle.text.specs.Sections.{Threads, holds, halt, threads, cells}
 use Rattle.text.specs.Records.{is_named, map_cell}
 
 -- ---- lines
@@ -41,7 +41,7 @@ section_of text i = number i (λ j. is_dot (line text j))
 
 -- line i holds a statement of section s
 abbrev pub holds_statement : List ℕ → ℕ → ℕ → Bool
-holds_statement text s i = eqb (section_of text i) s && not (is_dot (line text i)) && is_good (statement_line (line text i)).form
+holds_statement text s i = eqb (section_of text i) s && not (is_dot (line text i)) && holds (statement_line (line text i))
 
 -- how many statements of section s stand before line i
 abbrev pub statements_before : List ℕ → ℕ → ℕ → ℕ
@@ -57,9 +57,9 @@ pub record Gains (n count : ℕ) (x : ℕ → Stated) : Type 0 where
 pub record ThreadsOf (text : List ℕ) (T : Threads) : Type 0 where
   pub count : T.ended ≡ sections text
   pub statements : (s i : ℕ) → s < sections text → i < length (lines text) → holds_statement text s i ≡ true →
-      T.statement s (statements_before text s i) ≡ statement_line (line text i)
+      statement_line (line text i) ≡ Ok (Some (T.statement s (statements_before text s i)))
   pub held : (s p : ℕ) → s < sections text → p < statements_before text s (length (lines text)) →
-      (i : ℕ) × (i < length (lines text)) × (holds_statement text s i ≡ true) × (T.statement s p ≡ statement_line (line text i))
+      (i : ℕ) × (i < length (lines text)) × (holds_statement text s i ≡ true) × (statement_line (line text i) ≡ Ok (Some (T.statement s p)))
   pub ends : (s : ℕ) → s < sections text → Gains (statements_before text s (length (lines text))) (T.count s) (T.statement s)
 
 abbrev pub ThreadsAreTheSections : Type 0
@@ -69,13 +69,13 @@ ThreadsAreTheSections = (text : List ℕ) → ThreadsOf text (threads (lines tex
 
 -- line i holds a cell of the map, which follows the last dot
 abbrev pub holds_cell : List ℕ → ℕ → Bool
-holds_cell text i = eqb (section_of text i) (sections text) && is_good (map_line (line text i)).form
+holds_cell text i = eqb (section_of text i) (sections text) && holds (map_line (line text i))
 
 -- The map's cells are those of its lines.
 pub record CellsOf (text : List ℕ) (cs : List Cell) : Type 0 where
   pub count : length cs ≡ number (length (lines text)) (holds_cell text)
-  pub listed : (i : ℕ) → i < length (lines text) → holds_cell text i ≡ true → (k : ℕ) × (k < length cs) × (map_cell cs k ≡ map_line (line text i))
-  pub held : (k : ℕ) → k < length cs → (i : ℕ) × (i < length (lines text)) × (holds_cell text i ≡ true) × (map_cell cs k ≡ map_line (line text i))
+  pub listed : (i : ℕ) → i < length (lines text) → holds_cell text i ≡ true → (k : ℕ) × (k < length cs) × (map_line (line text i) ≡ Ok (Some (map_cell cs k)))
+  pub held : (k : ℕ) → k < length cs → (i : ℕ) × (i < length (lines text)) × (holds_cell text i ≡ true) × (map_line (line text i) ≡ Ok (Some (map_cell cs k)))
 
 abbrev pub CellsAreTheMap : Type 0
 CellsAreTheMap = (text : List ℕ) → CellsOf text (cells (lines text))

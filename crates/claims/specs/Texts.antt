@@ -1,21 +1,27 @@
 -- Demand 2 for texts: "A set text is accepted exactly when it follows document 01, and its records say what the text says." specs/Sections.antt says
 -- what a text's threads and cells are. Statements alone; proofs/Texts.antt proves them. Assumes nothing.
-use Rattle.std.specs.Prelude.{ℕ, ◌+◌, ◌*◌, ◌≤◌, ◌<◌, ◌≡◌, true, false, cond, List, [], ◌∷◌, ◌⊎◌, ◌↔◌, ltb, length, take, drop}
+use Rattle.std.specs.Prelude.{ℕ, ◌+◌, ◌*◌, ◌≤◌, ◌<◌, ◌≡◌, true, false, cond, List, [], ◌∷◌, Option, None, Some, Result, Ok, Err, ◌⊎◌, ◌↔◌, ltb, length, take, drop}
+use Rattle.std.specs.Result.{result_err}
 use Rattle.records.specs.Instructions.{CHECK, is_jump}
 use Rattle.records.specs.Maps.{address_at, value_at, map_accepted}
 use Rattle.records.specs.Maps.{cells as cells_in}
 use Rattle.records.specs.Sets.{set_of, set_accepted}
 use Rattle.text_lines.specs.Lines.{lines, is_dot, statement_line, map_line}
-use Rattle.text_lines.specs.declared.Form.{Form}
-use Rattle.text_lines.specs.declared.Form.TheVariants.{Empty, Malformed, Large, Good}
+use Rattle.records.specs.Refusals.{number}
+use Rattle.records.specs.declared.Cell.{Cell}
+use Rattle.records.specs.declared.refusals.Refusal.{Refusal}
+use Rattle.records.specs.declared.refusals.Refusal.TheVariants.{Malformed, Number}
+use Rattle.records.specs.declared.refusals.Refused.{Refused}
 use Rattle.text_lines.specs.declared.Stated.{Stated}
-use Rattle.text_lines.specs.declared.Cell.{Cell}
 use Rattle.text.specs.Sections.{Threads, threads, cells}
 use Rattle.text.specs.Records.{is_named, statements, map_cell, set_bytes, map_bytes}
 use Rattle.text.specs.Answers.{answer, set_output, map_output}
-use Rattle.text.specs.declared.ReadAnswer.{ReadAnswer}
-use Rattle.text.specs.declared.ReadAnswer.TheVariants.{Read, Refused}
+use Rattle.text.specs.declared.Counts.{Counts}
 use Rattle.claims.specs.Sections.{line, sections, section_of}
+
+-- a text is refused by this number at this line
+abbrev pub Refuses : Result Counts Refused → (digits line : ℕ) → Type 0
+Refuses answer digits line = (r : Refused) × (answer ≡ Err r) × (number r.refusal ≡ digits) × (r.place ≡ line)
 
 -- ---- the rules, by the row that refuses what breaks them
 
@@ -23,13 +29,13 @@ use Rattle.claims.specs.Sections.{line, sections, section_of}
 abbrev pub SizeFollows : List ℕ → Type 0
 SizeFollows text = length text ≤ 16384
 
--- the form of line i: as a thread's line where a dot line ends its section, else as one of the map
-abbrev pub form_of : List ℕ → ℕ → Form
-form_of text i = cond (ltb (section_of text i) (sections text)) (statement_line (line text i)).form (map_line (line text i)).form
+-- what refuses line i: as a thread's line where a dot line ends its section, else as one of the map
+abbrev pub refusal_of : List ℕ → ℕ → Option Refusal
+refusal_of text i = cond (ltb (section_of text i) (sections text)) (result_err (statement_line (line text i))) (result_err (map_line (line text i)))
 
 -- 2 and 3: a line is a dot line, or empty, or holds what it may hold
 abbrev pub LineFollows : List ℕ → ℕ → Type 0
-LineFollows text i = (is_dot (line text i) ≡ true) ⊎ ((form_of text i ≡ Empty) ⊎ (form_of text i ≡ Good))
+LineFollows text i = (is_dot (line text i) ≡ true) ⊎ (refusal_of text i ≡ None)
 
 abbrev pub LinesFollow : List ℕ → Type 0
 LinesFollow text = (i : ℕ) → i < length (lines text) → LineFollows text i
@@ -92,9 +98,9 @@ Room text set_room map_room = (8 * statements (threads (lines text)) ≤ set_roo
 -- where there is room, a text that follows document 01 is read, and no other; any other text is refused, whatever the room
 pub record Decided (text : List ℕ) (set_room map_room : ℕ) : Type 0 where
   pub accepted : Room text set_room map_room →
-      answer text set_room map_room ≡ Read (statements (threads (lines text))) (length (cells (lines text))) ↔ Follows text
-  pub short : Follows text → (Room text set_room map_room → ⊥) → answer text set_room map_room ≡ Refused 11 0
-  pub refused : (Follows text → ⊥) → (number : ℕ) × (place : ℕ) × (answer text set_room map_room ≡ Refused number place)
+      answer text set_room map_room ≡ Ok (record { statements = statements (threads (lines text)); cells = length (cells (lines text)) }) ↔ Follows text
+  pub short : Follows text → (Room text set_room map_room → ⊥) → Refuses (answer text set_room map_room) 11 0
+  pub refused : (Follows text → ⊥) → (r : Refused) × (answer text set_room map_room ≡ Err r)
 
 -- A set text is accepted exactly when it follows document 01.
 abbrev pub AcceptedExactly : Type 0
@@ -102,24 +108,24 @@ AcceptedExactly = (text : List ℕ) (set_room map_room : ℕ) → Decided text s
 
 -- ---- refused by the first row that is broken
 
--- line i is the first that breaks the rules, and it is of this form
-pub record FirstLine (text : List ℕ) (i : ℕ) (form : Form) : Type 0 where
+-- line i is the first that breaks the rules, and this refuses it
+pub record FirstLine (text : List ℕ) (i : ℕ) (refusal : Refusal) : Type 0 where
   pub inside : i < length (lines text)
   pub before : (j : ℕ) → j < i → LineFollows text j
   pub no_dot : is_dot (line text i) ≡ false
-  pub is_form : form_of text i ≡ form
+  pub is_refused : refusal_of text i ≡ Some refusal
 
 -- Texts: 1, then lines in order, then 4 to 8. Place is the line (from 1) for 2 and 3, else 0. T and cs are the text's threads and cells.
-pub record Refusals (text : List ℕ) (T : Threads) (cs : List Cell) (r : ReadAnswer) : Type 0 where
-  pub row1 : (SizeFollows text → ⊥) → r ≡ Refused 1 0
-  pub row2 : SizeFollows text → (i : ℕ) → FirstLine text i Malformed → r ≡ Refused 2 (i + 1)
-  pub row3 : SizeFollows text → (i : ℕ) → FirstLine text i Large → r ≡ Refused 3 (i + 1)
-  pub row4 : SizeFollows text → LinesFollow text → (ThreadsFollow T → ⊥) → r ≡ Refused 4 0
-  pub row5 : SizeFollows text → LinesFollow text → ThreadsFollow T → (StatementsFollow T → ⊥) → r ≡ Refused 5 0
-  pub row6 : SizeFollows text → LinesFollow text → ThreadsFollow T → StatementsFollow T → (LabelsFollow T → ⊥) → r ≡ Refused 6 0
-  pub row7 : SizeFollows text → LinesFollow text → ThreadsFollow T → StatementsFollow T → LabelsFollow T → (CheckpointsFollow T → ⊥) → r ≡ Refused 7 0
+pub record Refusals (text : List ℕ) (T : Threads) (cs : List Cell) (r : Result Counts Refused) : Type 0 where
+  pub row1 : (SizeFollows text → ⊥) → Refuses r 1 0
+  pub row2 : SizeFollows text → (i : ℕ) → FirstLine text i Malformed → Refuses r 2 (i + 1)
+  pub row3 : SizeFollows text → (i : ℕ) → FirstLine text i Number → Refuses r 3 (i + 1)
+  pub row4 : SizeFollows text → LinesFollow text → (ThreadsFollow T → ⊥) → Refuses r 4 0
+  pub row5 : SizeFollows text → LinesFollow text → ThreadsFollow T → (StatementsFollow T → ⊥) → Refuses r 5 0
+  pub row6 : SizeFollows text → LinesFollow text → ThreadsFollow T → StatementsFollow T → (LabelsFollow T → ⊥) → Refuses r 6 0
+  pub row7 : SizeFollows text → LinesFollow text → ThreadsFollow T → StatementsFollow T → LabelsFollow T → (CheckpointsFollow T → ⊥) → Refuses r 7 0
   pub row8 : SizeFollows text → LinesFollow text → ThreadsFollow T → StatementsFollow T → LabelsFollow T → CheckpointsFollow T →
-      (MapFollows cs → ⊥) → r ≡ Refused 8 0
+      (MapFollows cs → ⊥) → Refuses r 8 0
 
 abbrev pub RefusedInOrder : Type 0
 RefusedInOrder = (text : List ℕ) (set_room map_room : ℕ) → Refusals text (threads (lines text)) (cells (lines text)) (answer text set_room map_room)
@@ -161,7 +167,7 @@ pub record WrittenOver (bytes before after : List ℕ) : Type 0 where
   pub size : length after ≡ length before
 
 -- what two lent outputs hold after the answer r
-pub record Outputs (text set map : List ℕ) (r : ReadAnswer) : Type 0 where
+pub record Outputs (text set map : List ℕ) (r : Result Counts Refused) : Type 0 where
   pub read : Follows text → Room text (length set) (length map) →
       WrittenOver (set_bytes (threads (lines text))) set (set_output r text set) × WrittenOver (map_bytes (cells (lines text))) map (map_output r text map)
   pub short : (Room text (length set) (length map) → ⊥) → (set_output r text set ≡ set) × (map_output r text map ≡ map)

@@ -1,6 +1,6 @@
 -- What the search for first cells gives for a run within its limits. Assumes nothing.
 use Prim.Native.Nat.{ℕ, ◌*◌, ◌/◌, ◌≤◌}
-use mathlib.Core.Path.{◌≡◌, ap, ◌∙◌}
+use mathlib.Core.Path.{◌≡◌, ap, sym, ◌∙◌}
 use mathlib.Core.Bool.{true, ◌&&◌}
 use mathlib.Core.List.{List}
 use native.Mathlib.Omega.{arith}
@@ -16,7 +16,8 @@ use Rattle.machine.specs.Runs.{choices, is_run}
 use Rattle.machine.specs.Traces.{trace, step_length}
 use Rattle.decoding.specs.Decodings.{cells_below, longest_map}
 use Rattle.first_cells.specs.Firsts.{first_cell, fits, found_by, written_by}
-use Rattle.first_cells.specs.declared.Found.{Found}
+use Rattle.decoding.specs.declared.Decoded.{Decoded}
+use Rattle.std.specs.Prelude.{Option, Some}
 
 -- a set's map, and a run of at most 64 steps
 pub record Asked (S : Set) (map : List ℕ) (first : ℕ → ℕ) (schedule : List ℕ) : Type 0 where
@@ -26,13 +27,13 @@ pub record Asked (S : Set) (map : List ℕ) (first : ℕ → ℕ) (schedule : Li
   pub runs : is_run S (start first) (choices schedule) ≡ true
 
 -- the run's steps and cells, its trace, and the map
-pub record Given (S : Set) (map : List ℕ) (first : ℕ → ℕ) (schedule before after cells_before cells_after : List ℕ) (r : Found) : Type 0 where
+pub record Given (S : Set) (map : List ℕ) (first : ℕ → ℕ) (schedule before after cells_before cells_after : List ℕ) (r : Decoded) : Type 0 where
   pub steps : r.steps ≡ length schedule
   pub count : r.cells ≡ number 65536 (first_cell S map first schedule)
   pub traced : after ≡ over (trace S (start first) no_write (choices schedule)) before
   pub found : cells_after ≡ over (cells_below (first_cell S map first schedule) first 65536) cells_before
 
-module _ (S : Set) (map : List ℕ) (first : ℕ → ℕ) (schedule before after cells_before cells_after : List ℕ) (r : Found)
+module _ (S : Set) (map : List ℕ) (first : ℕ → ℕ) (schedule before after cells_before cells_after : List ℕ) (r : Option Decoded)
     (asked : Asked S map first schedule) (room : step_length * length schedule ≤ length before) (map_room : longest_map ≤ length cells_before) where
   ran : (fits S map schedule (length before) (length cells_before) && is_run S (start first) (choices schedule)) ≡ true
   ran =
@@ -40,19 +41,23 @@ module _ (S : Set) (map : List ℕ) (first : ℕ → ℕ) (schedule before after
       and_true (and_true (and_true (and_true (and_true (le-leb S.threads 4 asked.few_threads) asked.accepted)
       (le-leb (length schedule) 64 asked.few_steps)) (le-leb (length schedule) (length before / step_length) few)) (le-leb longest_map (length cells_before) map_room)) asked.runs
 
-  abbrev whole : Found
-  whole = record { ran = true; steps = length schedule; cells = number 65536 (first_cell S map first schedule) }
+  abbrev whole : Decoded
+  whole = record { steps = length schedule; cells = number 65536 (first_cell S map first schedule) }
 
-  pub given : r ≡ found_by S map first schedule (length before) (length cells_before) →
+  -- something is found
+  pub is-found : r ≡ found_by S map first schedule (length before) (length cells_before) → r ≡ Some whole
+  unfolding found_by
+  is-found e = e ∙ chosen _ _ ran
+
+  pub given : (d : Decoded) → r ≡ Some d → r ≡ found_by S map first schedule (length before) (length cells_before) →
       after ≡ written_by r (trace S (start first) no_write (choices schedule)) before →
       cells_after ≡ written_by r (cells_below (first_cell S map first schedule) first 65536) cells_before →
-      Given S map first schedule before after cells_before cells_after r
-  unfolding found_by
-  given e t m =
-      let w : r ≡ whole = e ∙ chosen _ _ ran in
+      Given S map first schedule before after cells_before cells_after d
+  given d is e t m =
+      let same : Some d ≡ Some whole = sym is ∙ is-found e in
       record {
-        steps = ap (λ (x : Found). x.steps) w;
-        count = ap (λ (x : Found). x.cells) w;
-        traced = t ∙ ap (λ (x : Found). written_by x (trace S (start first) no_write (choices schedule)) before) w;
-        found = m ∙ ap (λ (x : Found). written_by x (cells_below (first_cell S map first schedule) first 65536) cells_before) w;
+        steps = cc;
+        count = cc;
+        traced = t ∙ ap (λ (x : Option Decoded). written_by x (trace S (start first) no_write (choices schedule)) before) is;
+        found = m ∙ ap (λ (x : Option Decoded). written_by x (cells_below (first_cell S map first schedule) first 65536) cells_before) is;
       }

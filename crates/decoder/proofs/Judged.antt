@@ -21,7 +21,11 @@ use Rattle.encoding.proofs.Bytes.{Bytes}
 use Rattle.encoding.proofs.WellFormed.{well-formed}
 use Rattle.decoding.specs.Models.{bits, listed_cells, model_fits, assigned}
 use Rattle.encoder.specs.Answers.{size_answer, encode_answer}
-use Rattle.encoder.specs.declared.TableAnswer.TheVariants.{Encoded}
+use Rattle.std.specs.Prelude.{Result, Ok, Err}
+use Rattle.records.specs.Refusals.{of_call}
+use Rattle.records.specs.declared.refusals.Refusal.TheVariants.{Model, Room}
+use Rattle.records.specs.declared.refusals.Refused.{Refused}
+use Rattle.decoding.specs.declared.Decoded.{Decoded}
 use Rattle.evaluation.specs.Evaluations.{record_at, formula_in, value_in, given_by, turned, false_in}
 use Rattle.evaluation.proofs.Choices.{small-choices}
 use Rattle.evaluation.proofs.Evaluated.{at_turn, evaluated}
@@ -29,10 +33,7 @@ use Rattle.evaluation.proofs.Tables.{SmallChoices}
 use Rattle.claims.specs.Lookups.{ReadsBack}
 use Rattle.claims.proofs.Lookups.{looks_back_once, inside}
 use Rattle.claims.proofs.Models.{bytes_of}
-use Rattle.decoder.specs.Answers.{false_record, judged, model_answer, decoded, too_short, model_decoding}
-use Rattle.decoder.specs.declared.CheckAnswer.TheVariants.{Refused}
-use Rattle.decoder.specs.declared.DecodeAnswer.{DecodeAnswer}
-use Rattle.decoder.specs.declared.DecodeAnswer.TheVariants.{Refused as Undecoded}
+use Rattle.decoder.specs.Answers.{false_record, unsatisfied, judged, model_answer, decoded, too_short, model_decoding}
 use Rattle.decoder.proofs.Sized.{Sized, sized}
 use Rattle.decoding.specs.Decodings.{longest_map}
 use Rattle.machine.specs.Traces.{step_length}
@@ -45,19 +46,19 @@ model-bits threads bound model h =
     let b = every (bits threads bound) (λ i. ltb (get_or model i 0) 2) in
     leb-true (bits threads bound) (length model) (and_left a b (and_left (a && b) (map_accepted run_cells (listed_cells threads bound model)) h))
 
-module _ (set map : List ℕ) (bound n : ℕ) (e : size_answer set map bound ≡ Encoded n) where
+module _ (set map : List ℕ) (bound n : ℕ) (e : size_answer set map bound ≡ Ok n) where
   abbrev facts : Sized set map bound n
   facts = sized set map bound n e
 
   -- the table is written where there is room
-  pub encodes : (room : ℕ) → 16 * n ≤ room → encode_answer set map bound room ≡ Encoded n
+  pub encodes : (room : ℕ) → 16 * n ≤ room → encode_answer set map bound room ≡ Ok n
   unfolding encode_answer
   encodes room h =
       let s = facts in
       let p = s.count in
       chosen _ _ (and_true s.accepted s.mapped)
       ∙ (chosen _ _ (and_true (lt-ltb 0 bound s.some_step) (le-leb bound 64 s.few_steps))
-      ∙ (passed _ _ (le-ltb room (16 * length (table_of set map bound)) (omega arith)) ∙ ap Encoded (sym p)))
+      ∙ (passed _ _ (le-ltb room (16 * length (table_of set map bound)) (omega arith)) ∙ ap Ok (sym p)))
 
   module _ (model : List ℕ) (threads : ℕ) where
     module _ (bytes : Bytes set) (map_bytes : Bytes map) (t : threads ≡ (set_of set).threads) (few : threads < 256) (short : n < 4294967296)
@@ -98,11 +99,11 @@ module _ (set map : List ℕ) (bound n : ℕ) (e : size_answer set map bound ≡
       fits-there : (b : Bool) → model_fits threads bound model ≡ b → model_fits (set_of set).threads bound model ≡ b
       fits-there b h = ap (λ (T : ℕ). model_fits T bound model) (sym t) ∙ h
 
-      pub unfit : model_fits threads bound model ≡ false → Refused 15 0 ≡ model_answer set map bound model room
+      pub unfit : model_fits threads bound model ≡ false → Err (of_call Model) ≡ model_answer set map bound model room
       unfolding model_answer
       unfit h = sym (passed _ _ (fits-there false h))
 
-      pub short : model_fits threads bound model ≡ true → room < 32 * n → Refused 11 0 ≡ model_answer set map bound model room
+      pub short : model_fits threads bound model ≡ true → room < 32 * n → Err (of_call Room) ≡ model_answer set map bound model room
       unfolding model_answer
       short h l =
           let p = facts.count in
@@ -119,17 +120,17 @@ module _ (set map : List ℕ) (bound n : ℕ) (e : size_answer set map bound ≡
       -- ---- decoding
 
       module _ (trace_room map_room : ℕ) where
-        abbrev answer : DecodeAnswer
+        abbrev answer : Result Decoded Refused
         answer = model_decoding set map bound model room trace_room map_room
 
         short-there : (b : Bool) → too_short n bound room trace_room map_room ≡ b → too_short (length (table_of set map bound)) bound room trace_room map_room ≡ b
         short-there b h = ap (λ (k : ℕ). too_short k bound room trace_room map_room) (sym facts.count) ∙ h
 
-        pub run-unfit : model_fits threads bound model ≡ false → Undecoded 15 0 ≡ answer
+        pub run-unfit : model_fits threads bound model ≡ false → Err (of_call Model) ≡ answer
         unfolding model_decoding
         run-unfit h = sym (passed _ _ (fits-there false h))
 
-        pub run_short : model_fits threads bound model ≡ true → too_short n bound room trace_room map_room ≡ true → Undecoded 11 0 ≡ answer
+        pub run_short : model_fits threads bound model ≡ true → too_short n bound room trace_room map_room ≡ true → Err (of_call Room) ≡ answer
         unfolding model_decoding
         run_short h l = sym (chosen _ _ (fits-there true h) ∙ chosen _ _ (short-there true l))
 
@@ -141,13 +142,13 @@ module _ (set map : List ℕ) (bound n : ℕ) (e : size_answer set map bound ≡
           false-there : k ≡ there
           false-there = f ∙ ap (λ (T : ℕ). false_record (assigned T bound model) (table_of set map bound)) t
 
-          pub run-refused : k < n → Undecoded 16 k ≡ answer
+          pub run-refused : k < n → Err (unsatisfied k) ≡ answer
           unfolding model_decoding
           run-refused m =
-              ap (Undecoded 16) false-there
+              ap (λ (k : ℕ). Err (unsatisfied k)) false-there
               ∙ sym (chosen _ _ (fits-there true h) ∙ (passed _ _ (short-there false l) ∙ chosen _ _ (lt-ltb there (length (table_of set map bound)) (omega (arith, m, false-there, facts.count)))))
 
-          pub run-accepted : n ≤ k → decoded set map bound (assigned (set_of set).threads bound model) ≡ answer
+          pub run-accepted : n ≤ k → Ok (decoded set map bound (assigned (set_of set).threads bound model)) ≡ answer
           unfolding model_decoding
           run-accepted m =
               sym (chosen _ _ (fits-there true h) ∙ (passed _ _ (short-there false l) ∙ passed _ _ (le-ltb there (length (table_of set map bound)) (omega (arith, m, false-there, facts.count)))))

@@ -1,5 +1,4 @@
 -- The model check and decoding give what document 01 says.
-mod Cleared
 mod Given
 mod Judged
 pub mod Satisfied

@@ -14,8 +14,8 @@ use Rattle.table.specs.Values.{Assignment, Value, as_bit, is_demand, met, satisf
 use Rattle.table.specs.declared.Formula.{Formula}
 use Rattle.encoding.specs.Encodings.{table_of}
 use Rattle.decoding.specs.Models.{model_fits, assigned, first_false}
-use Rattle.decoder.specs.Answers.{false_record, judged, model_answer, check_answer}
-use Rattle.decoder.specs.declared.CheckAnswer.TheVariants.{Accepted, Refused}
+use Rattle.std.specs.Prelude.{Ok, Err}
+use Rattle.decoder.specs.Answers.{false_record, unsatisfied, judged, model_answer, check_answer}
 
 -- a record is found exactly where not all is met
 found_unmet : (values : ℕ → Value) (table : List Formula) (n : ℕ) → ltb (first_false values n table) (n + length table) ≡ not (met values table)
@@ -33,15 +33,15 @@ found_unmet values (f ∷ table) n =
 
 -- the answer past 11, by whether the assignment satisfies
 pub judged-satisfies : (g : Assignment) (table : List Formula) →
-    judged (false_record g table) (length table) ≡ cond (satisfies g table) Accepted (Refused 16 (false_record g table))
+    judged (false_record g table) (length table) ≡ cond (satisfies g table) (Ok (tt {0})) (Err (unsatisfied (false_record g table)))
 unfolding satisfies
 judged-satisfies g table =
     let e : 0 + length table ≡ length table = omega arith in
-    ap (λ (b : Bool). cond b (Refused 16 (false_record g table)) Accepted)
+    ap (λ (b : Bool). cond b (Err (unsatisfied (false_record g table))) (Ok (tt {0})))
     (ap (ltb (false_record g table)) (sym e) ∙ found_unmet (values_of g table) table 0)
     ∙ turned (met (values_of g table) table)
   where
-    turned : (b : Bool) → cond (not b) (Refused 16 (false_record g table)) Accepted ≡ cond b Accepted (Refused 16 (false_record g table))
+    turned : (b : Bool) → cond (not b) (Err (unsatisfied (false_record g table))) (Ok (tt {0})) ≡ cond b (Ok (tt {0})) (Err (unsatisfied (false_record g table)))
     turned true = refl
     turned false = refl
 
@@ -50,8 +50,8 @@ pub check-satisfies : (set map : List ℕ) (bound : ℕ) (model : List ℕ) (roo
     set_accepted set ≡ true → map_accepted set_cells map ≡ true → 0 < bound → bound ≤ 64 →
     model_fits (set_of set).threads bound model ≡ true → 32 * length (table_of set map bound) ≤ room →
     check_answer set map bound model room
-    ≡ cond (satisfies (assigned (set_of set).threads bound model) (table_of set map bound)) Accepted
-    (Refused 16 (false_record (assigned (set_of set).threads bound model) (table_of set map bound)))
+    ≡ cond (satisfies (assigned (set_of set).threads bound model) (table_of set map bound)) (Ok (tt {0}))
+    (Err (unsatisfied (false_record (assigned (set_of set).threads bound model) (table_of set map bound))))
 unfolding check_answer model_answer
 check-satisfies set map bound model room a m some few fits h =
     chosen _ _ (and_true a m) ∙ (chosen _ _ (and_true (lt-ltb 0 bound some) (le-leb bound 64 few)) ∙ (chosen _ _ fits

@@ -1,7 +1,7 @@
 -- A model that no constraint or goal refuses decodes to a run that fails, so what the search for its first cells gives is the decoding.
 -- Assumes nothing.
 use Prim.Native.Nat.{ℕ, suc, ◌+◌, ◌≤◌}
-use mathlib.Core.Path.{◌≡◌, refl, ap, ap₂, sym, fun_ext, ◌∙◌}
+use mathlib.Core.Path.{◌≡◌, refl, ap, ap₂, sym, subst, subst⁻¹, fun_ext, ◌∙◌}
 use mathlib.Core.Bool.{Bool, true, false, cond, not, ◌&&◌, ◌||◌}
 use mathlib.Core.List.{List, [], ◌∷◌}
 use native.Mathlib.Omega.{arith}
@@ -9,7 +9,7 @@ use lib.ListN.{length}
 use Rattle.base.specs.Below.{number}
 use Rattle.base.specs.Bytes.{over}
 use Rattle.base.proofs.Choice.{chosen, passed, and_true}
-use Rattle.records.specs.Maps.{mapped, map_value}
+use Rattle.records.specs.Maps.{cells, mapped, map_value}
 use Rattle.records.specs.Sets.{set_of, set_by, layout_of}
 use Rattle.records.specs.declared.Layout.{Layout}
 use Rattle.records.proofs.Layouts.{set-read, few-threads}
@@ -28,11 +28,10 @@ use Rattle.decoding.proofs.Maps.{agrees-value}
 use Rattle.first_cells.specs.Firsts.{first_memory}
 use Rattle.first_cells.proofs.Order.{memory-map, memory-first}
 use Rattle.decoder.proofs.Given.{Asked, Given}
-use Rattle.first_cells.specs.declared.Found.{Found}
+use Rattle.decoding.specs.declared.Decoded.{Decoded}
 use Rattle.claims.specs.Models.{Decodes}
 use Rattle.claims.proofs.Models.{demand_three, bytes_of}
 use Rattle.decoder.specs.Answers.{false_record, decoded}
-use Rattle.decoder.specs.declared.DecodeAnswer.TheVariants.{Decoded}
 use Rattle.decoder.proofs.Sized.{Sized}
 
 -- where no constraint or goal is 0 all are 1
@@ -103,14 +102,30 @@ module _ (set map : List ℕ) (bound n : ℕ) (s : Sized set map bound n) (set_b
         runs = (λ i. is_run (set_there i) (start cells_of) (run i)) ∙ model-decodes.fails.fails.permitted;
       }
 
-      module _ (before after cells_before cells_after : List ℕ) (r : Found)
+      -- the search, over the cells as the code takes them from the model
+      module _ (first : List ℕ) (there : first ≡ listed_cells (set_of set).threads bound model) where
+        memory : first_memory map first ≡ cells_of
+        memory = ap (first_memory map) there ∙ memory-there
+
+        pub asked-first : Asked (set_by set layout) map (first_memory map first) schedule
+        asked-first = subst⁻¹ (λ (m : ℕ → ℕ). Asked (set_by set layout) map m schedule) memory asked
+
+        pub given-first : (before after cells_before cells_after : List ℕ) (r : Decoded) →
+            Given (set_by set layout) map (first_memory map first) schedule before after cells_before cells_after r →
+            Given (set_by set layout) map cells_of schedule before after cells_before cells_after r
+        given-first before after cells_before cells_after r =
+            subst (λ (m : ℕ → ℕ). Given (set_by set layout) map m schedule before after cells_before cells_after r) memory
+
+      module _ (before after cells_before cells_after : List ℕ) (r : Decoded)
           (given : Given (set_by set layout) map cells_of schedule before after cells_before cells_after r) where
-        pub shown-answer : Decoded r.steps r.cells ≡ decoded set map bound g
+        pub shown-answer : r ≡ decoded set map bound g
         unfolding assigned decoded_map
-        shown-answer = ap₂ Decoded
-            (given.steps ∙ (sym (length-choices schedule) ∙ ap length run))
-            (given.count ∙ ((λ i. number 65536 (λ a. mapped map a || reads_first (set_there i) (start cells_of) (run i) a))
-            ∙ sym (cells_count (λ a. mapped map a || reads_first (set_of set) (start cells_of) (run_of (set_of set).threads bound g) a) cells_of 65536)))
+        shown-answer =
+            let steps : r.steps ≡ length (run_of (set_of set).threads bound g) = given.steps ∙ sym (length-choices schedule) ∙ ap length run in
+            let count : r.cells ≡ cells (decoded_map set map bound g)
+            = given.count ∙ (λ i. number 65536 (λ a. mapped map a || reads_first (set_there i) (start cells_of) (run i) a))
+            ∙ sym (cells_count (λ a. mapped map a || reads_first (set_of set) (start cells_of) (run_of (set_of set).threads bound g) a) cells_of 65536) in
+            λ i. record { steps = steps i; cells = count i }
 
         pub shown-trace : after ≡ over (decoded_trace set bound g) before
         unfolding assigned decoded_trace

@@ -1,6 +1,6 @@
 -- What the answer about a table's size says of the model check and of decoding. Assumes nothing.
 use Prim.Native.Nat.{ℕ, ◌≤◌, ◌<◌}
-use mathlib.Core.Path.{◌≡◌, refl, ap, ap₂, sym, ◌∙◌}
+use mathlib.Core.Path.{◌≡◌, refl, ap, sym, ◌∙◌}
 use mathlib.Core.Bool.{Bool, true, false, cond, ◌&&◌}
 use mathlib.Core.List.{List}
 use borrow.Author.Tests.{ltb-true, leb-true}
@@ -11,29 +11,26 @@ use Rattle.records.specs.Maps.{map_accepted, set_cells}
 use Rattle.records.specs.Sets.{set_accepted}
 use Rattle.encoding.specs.Encodings.{table_of}
 use Rattle.encoder.specs.Answers.{size_answer}
-use Rattle.encoder.specs.declared.TableAnswer.{TableAnswer as Size}
-use Rattle.encoder.specs.declared.TableAnswer.TheVariants.{Encoded, Refused as Unsized}
+use Rattle.std.specs.Prelude.{Result, Ok, Err}
+use Rattle.records.specs.Refusals.{number as number_of, of_call}
+use Rattle.records.specs.declared.refusals.Refusal.{Refusal}
+use Rattle.records.specs.declared.refusals.Refusal.TheVariants.{Records, Bound}
+use Rattle.records.specs.declared.refusals.Refused.{Refused}
 use Rattle.decoder.specs.Answers.{model_answer, check_answer, model_decoding, decode_answer}
-use Rattle.decoder.specs.declared.CheckAnswer.TheVariants.{Refused}
-use Rattle.decoder.specs.declared.DecodeAnswer.TheVariants.{Refused as Undecoded}
 
 -- ---- the parts of an answer about a size
 
-abbrev is_size : Size → Bool
-is_size (Encoded records) = true
-is_size (Unsized number place) = false
+abbrev is_size : Result ℕ Refused → Bool
+is_size (Ok records) = true
+is_size (Err refused) = false
 
-abbrev size : Size → ℕ
-size (Encoded records) = records
-size (Unsized number place) = 0
+abbrev size : Result ℕ Refused → ℕ
+size (Ok records) = records
+size (Err refused) = 0
 
-abbrev refusal : Size → ℕ
-refusal (Encoded records) = 0
-refusal (Unsized number place) = number
-
-abbrev place_of : Size → ℕ
-place_of (Encoded records) = 0
-place_of (Unsized number place) = place
+abbrev refused_by : Result ℕ Refused → Refused
+refused_by (Ok records) = of_call Records
+refused_by (Err refused) = refused
 
 -- ---- what it says
 
@@ -51,7 +48,7 @@ module _ (set map : List ℕ) (bound : ℕ) where
     pub few_steps : bound ≤ 64
     pub count : n ≡ length (table_of set map bound)
 
-  pub sized : (n : ℕ) → size_answer set map bound ≡ Encoded n → Sized n
+  pub sized : (n : ℕ) → size_answer set map bound ≡ Ok n → Sized n
   unfolding size_answer
   sized n e = go records refl steps refl
     where
@@ -66,53 +63,53 @@ module _ (set map : List ℕ) (bound : ℕ) where
       go true p false q = clash (ap is_size e) (ap is_size (chosen _ _ p ∙ passed _ _ q))
       go false p b q = clash (ap is_size e) (ap is_size (passed _ _ p))
 
-  -- 9 and 10, then the rest of a call; `refuse` makes its refusals
-  module _ {A : Type 0} (refuse : ℕ → ℕ → A) (rest : A) where
-    passes : (n : ℕ) → size_answer set map bound ≡ Encoded n → rest ≡ cond records (cond steps rest (refuse 10 0)) (refuse 9 0)
+  -- 9 and 10, then the rest of a call
+  module _ {A : Type 0} (rest : Result A Refused) where
+    abbrev whole : Result A Refused
+    whole = cond records (cond steps rest (Err (of_call Bound))) (Err (of_call Records))
+
+    passes : (n : ℕ) → size_answer set map bound ≡ Ok n → rest ≡ whole
     unfolding size_answer
     passes n e = go records refl steps refl
       where
-        go : (a : Bool) → records ≡ a → (b : Bool) → steps ≡ b → rest ≡ cond records (cond steps rest (refuse 10 0)) (refuse 9 0)
+        go : (a : Bool) → records ≡ a → (b : Bool) → steps ≡ b → rest ≡ whole
         go true p true q = sym (chosen _ _ p ∙ chosen _ _ q)
         go true p false q = clash (ap is_size e) (ap is_size (chosen _ _ p ∙ passed _ _ q))
         go false p b q = clash (ap is_size e) (ap is_size (passed _ _ p))
 
     -- a refusal of the size is the call's, and it is not 16
-    refuses : (number place : ℕ) → size_answer set map bound ≡ Unsized number place →
-        (refuse number place ≡ cond records (cond steps rest (refuse 10 0)) (refuse 9 0)) × (eqb number 16 ≡ false)
+    refuses : (r : Refused) → size_answer set map bound ≡ Err r → (Err r ≡ whole) × (eqb (number_of r.refusal) 16 ≡ false)
     unfolding size_answer
-    refuses number place e = go records refl steps refl
+    refuses r e = go records refl steps refl
       where
-        refused : (k : ℕ) → eqb k 16 ≡ false → size_answer set map bound ≡ Unsized k 0 → (refuse k 0 ≡ cond records (cond steps rest (refuse 10 0)) (refuse 9 0)) →
-            (refuse number place ≡ cond records (cond steps rest (refuse 10 0)) (refuse 9 0)) × (eqb number 16 ≡ false)
+        refused : (k : Refusal) → eqb (number_of k) 16 ≡ false → size_answer set map bound ≡ Err (of_call k) → Err (of_call k) ≡ whole →
+            (Err r ≡ whole) × (eqb (number_of r.refusal) 16 ≡ false)
         refused k differs d f =
-            let n : number ≡ k = sym (ap refusal e) ∙ ap refusal d in
-            let m : place ≡ 0 = sym (ap place_of e) ∙ ap place_of d in
-            (ap₂ refuse n m ∙ f, ap (λ (i : ℕ). eqb i 16) n ∙ differs)
+            let same : r ≡ of_call k = ap refused_by (sym e ∙ d) in
+            (ap Err same ∙ f, ap (λ (q : Refused). eqb (number_of q.refusal) 16) same ∙ differs)
 
-        go : (a : Bool) → records ≡ a → (b : Bool) → steps ≡ b →
-            (refuse number place ≡ cond records (cond steps rest (refuse 10 0)) (refuse 9 0)) × (eqb number 16 ≡ false)
+        go : (a : Bool) → records ≡ a → (b : Bool) → steps ≡ b → (Err r ≡ whole) × (eqb (number_of r.refusal) 16 ≡ false)
         go true p true q = clash (ap is_size (chosen _ _ p ∙ chosen _ _ q)) (ap is_size e)
-        go true p false q = refused 10 refl (chosen _ _ p ∙ passed _ _ q) (sym (chosen _ _ p ∙ passed _ _ q))
-        go false p b q = refused 9 refl (passed _ _ p) (sym (passed _ _ p))
+        go true p false q = refused Bound refl (chosen _ _ p ∙ passed _ _ q) (sym (chosen _ _ p ∙ passed _ _ q))
+        go false p b q = refused Records refl (passed _ _ p) (sym (passed _ _ p))
 
   module _ (model : List ℕ) (room : ℕ) where
-    pub checked : (n : ℕ) → size_answer set map bound ≡ Encoded n → model_answer set map bound model room ≡ check_answer set map bound model room
+    pub checked : (n : ℕ) → size_answer set map bound ≡ Ok n → model_answer set map bound model room ≡ check_answer set map bound model room
     unfolding check_answer
-    checked n e = passes Refused (model_answer set map bound model room) n e
+    checked n e = passes (model_answer set map bound model room) n e
 
-    pub unchecked : (number place : ℕ) → size_answer set map bound ≡ Unsized number place →
-        (Refused number place ≡ check_answer set map bound model room) × (eqb number 16 ≡ false)
+    pub unchecked : (r : Refused) → size_answer set map bound ≡ Err r →
+        (Err r ≡ check_answer set map bound model room) × (eqb (number_of r.refusal) 16 ≡ false)
     unfolding check_answer
-    unchecked number place e = refuses Refused (model_answer set map bound model room) number place e
+    unchecked r e = refuses (model_answer set map bound model room) r e
 
     module _ (trace_room map_room : ℕ) where
-      pub run-checked : (n : ℕ) → size_answer set map bound ≡ Encoded n →
+      pub run-checked : (n : ℕ) → size_answer set map bound ≡ Ok n →
           model_decoding set map bound model room trace_room map_room ≡ decode_answer set map bound model room trace_room map_room
       unfolding decode_answer
-      run-checked n e = passes Undecoded (model_decoding set map bound model room trace_room map_room) n e
+      run-checked n e = passes (model_decoding set map bound model room trace_room map_room) n e
 
-      pub run-unchecked : (number place : ℕ) → size_answer set map bound ≡ Unsized number place →
-          (Undecoded number place ≡ decode_answer set map bound model room trace_room map_room) × (eqb number 16 ≡ false)
+      pub run-unchecked : (r : Refused) → size_answer set map bound ≡ Err r →
+          (Err r ≡ decode_answer set map bound model room trace_room map_room) × (eqb (number_of r.refusal) 16 ≡ false)
       unfolding decode_answer
-      run-unchecked number place e = refuses Undecoded (model_decoding set map bound model room trace_room map_room) number place e
+      run-unchecked r e = refuses (model_decoding set map bound model room trace_room map_room) r e

@@ -1,4 +1,5 @@
 -- First cells read: a step reads at most two cells and EXIT none, and every cell read has an address of 16 bits. Assumes nothing.
+use Rattle.std.specs.Prelude.{Option, is_some}
 use Prim.Native.Nat.{ℕ, ◌*◌, ◌≤◌, ◌<◌}
 use mathlib.Core.Path.{◌≡◌, refl, ap, ap₂, fun_ext, subst⁻¹, ◌∙◌}
 use mathlib.Core.Bool.{Bool, true, false, cond, not, ◌&&◌, ◌||◌}
@@ -13,13 +14,13 @@ use Rattle.base.proofs.Choice.{cond_both, and_right, clash}
 use Rattle.records.specs.Instructions.{LOAD, STORE, FENCE, ADD, ADDI, SUB, SUBI, MUL, MULI, MEM, CAS, HALT, EXIT, is_memory}
 use Rattle.records.specs.Sets.{Set}
 use Rattle.records.specs.declared.Statement.{Statement}
-use Rattle.machine.specs.Machine.{State, current, actor, acted, written, reads, step}
+use Rattle.machine.specs.Machine.{State, current, actor, acted, written, reads, step, cell_of}
 use Rattle.machine.specs.Machine.{forwards, load, address, takes_word, word_taken, reads_argument, reads_address, cells_read, row, executed, with_accu, cas_matches}
 use Rattle.machine.specs.Runs.{after}
 use Rattle.machine.specs.declared.Choice.{Choice}
 use Rattle.machine.specs.declared.Choice.TheVariants.{Execute, Flush}
 use Rattle.machine.specs.declared.Thread.{Thread}
-use Rattle.machine.specs.declared.Written.{Written}
+use Rattle.records.specs.declared.Cell.{Cell}
 use Rattle.encoding.specs.Checkpoints.{member}
 use Rattle.encoding.proofs.Sorts.{Words}
 use Rattle.decoding.specs.Decodings.{writes, reads_first}
@@ -178,17 +179,17 @@ module _ (S : Set) (argued : Words S) where
       executed-word (current S s t) (s.threads t) s.memory (argued t (s.threads t).pc) (registers t) words
   acted-word s (registers, words) (Flush t) = record { accu_is = (registers t).accu_is; val_is = (registers t).val_is }
 
-  written-word : (s : State) → Worded s → (c : Choice) → (written S s c).value < 65536
+  written-word : (s : State) → Worded s → (c : Choice) → (cell_of (written S s c)).value < 65536
   unfolding written
   written-word s (registers, words) (Execute t) =
-      cond_both (λ (w : Written). w.value < 65536) (cas_matches (current S s t) (s.threads t) s.memory) (registers t).accu_is (omega arith)
+      cond_both (λ (w : Option Cell). (cell_of w).value < 65536) (cas_matches (current S s t) (s.threads t) s.memory) (registers t).accu_is (omega arith)
   written-word s (registers, words) (Flush t) = (registers t).val_is
 
   step-word : (s : State) (c : Choice) → Worded s → Worded (step S s c)
   unfolding step
   step-word s c h = (
     λ t. cond_both Register (eqb t (actor c)) (acted-word s h c) (h.0 t),
-    λ a. cond_both (λ (v : ℕ). v < 65536) ((written S s c).done && eqb (written S s c).address a) (written-word s h c) (h.1 a),
+    λ a. cond_both (λ (v : ℕ). v < 65536) ((is_some (written S s c)) && eqb (cell_of (written S s c)).address a) (written-word s h c) (h.1 a),
   )
 
   pub first-words : (s : State) (run : List Choice) → Worded s → (a : ℕ) → reads_first S s run a ≡ true → a < 65536

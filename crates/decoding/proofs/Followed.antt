@@ -1,4 +1,5 @@
 -- A run over a memory that is known in part: where the cells first read are known, every step is the run's own. Assumes nothing.
+use Rattle.std.specs.Prelude.{Option}
 use Prim.Native.Nat.{ℕ}
 use mathlib.Core.Path.{◌≡◌, refl, ap, ap₂, sym, subst⁻¹, ◌∙◌}
 use mathlib.Core.Bool.{Bool, true, false, cond, not, ◌&&◌, ◌||◌}
@@ -9,7 +10,7 @@ use Rattle.base.proofs.Choice.{and_true, and_left, and_right, or_true, or_right_
 use Rattle.records.specs.Instructions.{CAS, is_memory}
 use Rattle.records.specs.Sets.{Set}
 use Rattle.records.specs.declared.Statement.{Statement}
-use Rattle.machine.specs.Machine.{State, current, permitted, acted, leaves_mark, wrote, no_write, written, memory_after, exits, all_halted, reads, step}
+use Rattle.machine.specs.Machine.{State, current, permitted, acted, leaves_mark, wrote, no_write, written, memory_after, exits, all_halted, reads, step, cell_of}
 use Rattle.machine.specs.Machine.{forwards, address, takes_word, word_taken, reads_argument, reads_address, cells_read, row, next_pc, with_pc, executed, cas_matches}
 use Rattle.machine.specs.Maps.{Held, knows_all, known_after, advanced}
 use Rattle.machine.specs.Runs.{takes, is_run, after}
@@ -17,7 +18,7 @@ use Rattle.machine.specs.Traces.{shown, trace_step, trace}
 use Rattle.machine.specs.declared.Choice.{Choice}
 use Rattle.machine.specs.declared.Choice.TheVariants.{Execute, Flush}
 use Rattle.machine.specs.declared.Thread.{Thread}
-use Rattle.machine.specs.declared.Written.{Written}
+use Rattle.records.specs.declared.Cell.{Cell}
 use Rattle.machine.proofs.Loads.{knows-cells}
 use Rattle.machine.proofs.Runs.{AllTaken, outcome-taken, run-first, run-rest}
 use Rattle.encoding.specs.Checkpoints.{member}
@@ -100,7 +101,7 @@ module _ (S : Set) (s : State) (m : ℕ → ℕ) where
   takes_same (Execute t) = refl
   takes_same (Flush t) = refl
 
-  traced-same : (w : Written) (c : Choice) → trace_step S (with_memory m s) w c ≡ trace_step S s w c
+  traced-same : (w : Option Cell) (c : Choice) → trace_step S (with_memory m s) w c ≡ trace_step S s w c
   unfolding trace_step shown
   traced-same w (Execute t) = refl
   traced-same w (Flush t) = refl
@@ -155,7 +156,7 @@ abbrev pub held_part : (ℕ → ℕ) → (ℕ → Bool) → State → Held
 held_part m known s = record { state = with_memory m s; known = known }
 
 -- the run is followed there with the same trace, and comes to the same end
-pub record Along (S : Set) (s : State) (m : ℕ → ℕ) (known : ℕ → Bool) (w : Written) (run : List Choice) : Type 0 where
+pub record Along (S : Set) (s : State) (m : ℕ → ℕ) (known : ℕ → Bool) (w : Option Cell) (run : List Choice) : Type 0 where
   pub taken : AllTaken S (held_part m known s) run
   pub traced : trace S (with_memory m s) w run ≡ trace S s w run
   pub ended_same : (after S (with_memory m s) run).ended ≡ (after S s run).ended
@@ -178,7 +179,7 @@ module _ (S : Set) where
     unfolding step
     agrees_after a = go (writes (written S s c) a)
       where
-        go : (b : Bool) → (b || known a) ≡ true → cond b (written S s c).value (m a) ≡ cond b (written S s c).value (s.memory a)
+        go : (b : Bool) → (b || known a) ≡ true → cond b (cell_of (written S s c)).value (m a) ≡ cond b (cell_of (written S s c)).value (s.memory a)
         go true e = refl
         go false e = agrees a e
 
@@ -190,7 +191,7 @@ module _ (S : Set) where
         go true f = or_true (known a) f
         go false f = or_right_true (writes (written S s c) a) (first a (or_right_true (member a (reads S s c)) (and_true (ap not f) e)))
 
-  pub along : (s : State) (m : ℕ → ℕ) (known : ℕ → Bool) (w : Written) (run : List Choice) → is_run S s run ≡ true →
+  pub along : (s : State) (m : ℕ → ℕ) (known : ℕ → Bool) (w : Option Cell) (run : List Choice) → is_run S s run ≡ true →
       ((a : ℕ) → known a ≡ true → m a ≡ s.memory a) → ((a : ℕ) → reads_first S s run a ≡ true → known a ≡ true) → Along S s m known w run
   unfolding trace after advanced
   along s m known w [] r agrees first = record { taken = tt; traced = refl; ended_same = refl; code_same = refl }
@@ -208,7 +209,7 @@ module _ (S : Set) where
         );
         traced =
             ap₂ (λ (bytes more : List ℕ). bytes ++ more) (traced-same S s m w c)
-            (ap₂ (λ (t : State) (v : Written). trace S t v run) stepped writing ∙ rest.traced);
+            (ap₂ (λ (t : State) (v : Option Cell). trace S t v run) stepped writing ∙ rest.traced);
         ended_same = ap (λ (t : State). (after S t run).ended) stepped ∙ rest.ended_same;
         code_same = ap (λ (t : State). (after S t run).code) stepped ∙ rest.code_same;
       }

@@ -2,8 +2,8 @@
 pub mod Assigned
 pub mod Below
 pub mod Cells
+pub mod Chunks
 pub mod FirstReads
 pub mod Followed
-pub mod Lookups
 pub mod Maps
 pub mod Runs

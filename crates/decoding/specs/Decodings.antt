@@ -1,15 +1,15 @@
 -- What decoding makes of an assignment: its run, the run's trace, and the map (document 01, "Records"). A reader of the calls believes this. Assumes
 -- nothing.
-use Rattle.std.specs.Prelude.{ℕ, zero, suc, ◌+◌, ◌-◌, Bool, false, cond, not, ◌&&◌, ◌||◌, List, [], ◌∷◌, ◌++◌, eqb, ltb}
+use Rattle.std.specs.Prelude.{ℕ, zero, suc, ◌+◌, ◌-◌, Bool, false, cond, not, ◌&&◌, ◌||◌, List, [], ◌∷◌, ◌++◌, eqb, ltb, Option, is_some}
 use Rattle.base.specs.Below.{some, least}
 use Rattle.base.specs.Bytes.{word}
 use Rattle.records.specs.Maps.{mapped}
 use Rattle.records.specs.Sets.{Set, set_of}
-use Rattle.machine.specs.Machine.{State, start, step, reads, written, no_write}
+use Rattle.machine.specs.Machine.{State, start, step, reads, written, no_write, cell_of}
 use Rattle.machine.specs.Traces.{trace}
 use Rattle.machine.specs.declared.Choice.{Choice}
 use Rattle.machine.specs.declared.Choice.TheVariants.{Execute, Flush}
-use Rattle.machine.specs.declared.Written.{Written}
+use Rattle.records.specs.declared.Cell.{Cell}
 use Rattle.table.specs.Values.{Assignment}
 use Rattle.encoding.specs.Checkpoints.{member}
 
@@ -44,8 +44,8 @@ decoded_trace set bound g = trace (set_of set) (start g.first) no_write (run_of 
 -- ---- the map
 
 -- a step wrote address a
-abbrev pub writes : Written → ℕ → Bool
-writes w a = w.done && eqb w.address a
+abbrev pub writes : Option Cell → ℕ → Bool
+writes w a = is_some w && eqb (cell_of w).address a
 
 -- a first cell read: by a load not forwarded or a CAS, before any write to it
 unfoldable pub reads_first : Set → State → List Choice → ℕ → Bool

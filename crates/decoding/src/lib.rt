@@ -16,28 +16,18 @@ pub const MODEL_CELLS: usize = Machine::MAP_CELLS;
 // Bytes of the longest map that decoding writes.
 pub const MAP_BYTES: usize = Layout::CELL * MODEL_CELLS;
 
-// What is known of a cell: whether it is, and its value, 0 where it is not.
-#[derive(Clone, Copy)]
-pub struct Known {
-    pub known: bool,
-    pub value: u16,
+// What a decoding gives: how many steps its run has, and how many cells the map.
+#[derive(Clone, Copy, Debug, PartialEq, Eq)]
+pub struct Decoded {
+    pub steps: u16,
+    pub cells: u16,
 }
 
-// The cell of a map at an address.
-pub fn cell_of(map: &[u8], a: u16) -> Known
+// The value of a map's cell at an address, None where there is no such cell.
+pub fn cell_of(map: &[u8], a: u16) -> Option<u16>
     ensures { result ≡ cell_of map.now a }
 {
-    let n = map.len() / Layout::CELL;
-    let mut k: usize = 0;
-    while k < n {
-        if base::word_at(map, Layout::CELL * k) == a {
-            let value = base::word_at(map, Layout::CELL * k + 2);
-            return Known { known: true, value };
-        }
-        k += 1;
-    }
-    Known {
-        known: false,
-        value: 0,
-    }
+    let (cells, _) = map.as_chunks::<{ Layout::CELL }>();
+    let k = cells.iter().position(|cell| base::word_at(cell, 0) == a)?;
+    Some(base::word_at(&cells[k], 2))
 }

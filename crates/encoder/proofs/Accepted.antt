@@ -1,8 +1,14 @@
 -- What acceptance gives the code: limits, checkpoints, and the table as the definition has it. Assumes nothing.
 use Prim.Native.Nat.{ℕ, ◌≤◌, ◌<◌}
-use mathlib.Core.Path.{◌≡◌, refl, ap, sym, ◌∙◌, subst}
-use mathlib.Core.Bool.{Bool, true, false, cond, ◌&&◌}
+use mathlib.Core.Path.{◌≡◌, ap, sym, ◌∙◌, subst}
+use mathlib.Core.Bool.{true, false, ◌&&◌}
 use mathlib.Core.List.{List}
+use Rattle.std.specs.Prelude.{Result, Err}
+use Rattle.std.specs.Result.{IsErrAnd}
+use Rattle.std.proofs.lemmas.Result.{err_from_is_err_and}
+use Rattle.records.specs.Maps.{cells}
+use Rattle.records.proofs.Maps.{few-cells}
+use Rattle.records.specs.declared.refusals.Refusal.{Refusal}
 use native.Mathlib.Decide.{dec_lt}
 use native.Mathlib.Omega.{arith}
 use borrow.Author.Tests.{lt-ltb, le-ltb, lt-leb, le-leb, leb-true}
@@ -13,6 +19,9 @@ use Rattle.base.proofs.Choice.{chosen, passed, and_true, and_false, and_right_fa
 use Rattle.records.specs.Maps.{map_accepted, set_cells}
 use Rattle.records.specs.Sets.{Set, set_of, set_by, set_accepted, layout_of}
 use Rattle.records.specs.declared.Layout.{Layout}
+use Rattle.records.specs.Refusals.{of_call}
+use Rattle.records.specs.declared.refusals.Refusal.TheVariants.{Records, Bound}
+use Rattle.records.specs.declared.refusals.Refused.{Refused}
 use Rattle.records.proofs.Sets.{well-formed}
 use Rattle.records.proofs.Layouts.{few-threads, set-read}
 use Rattle.encoding.specs.Checkpoints.{checkpoints}
@@ -26,14 +35,12 @@ use Rattle.encoder_slots.specs.Places.{size}
 use Rattle.set_index.specs.Points.{listed}
 use Rattle.set_index.specs.declared.points.Points.{Points}
 use Rattle.encoder_slots.proofs.Starts.{place-replicate}
-use Rattle.encoder.specs.Answers.{bound_fits, checked}
-use Rattle.encoder.specs.Refusals.{early}
+use Rattle.encoder.specs.Answers.{bound_fits, checked, table_output}
+use Rattle.encoder.specs.Accepted.{IsAccepted}
 use Rattle.encoder_slots.specs.Pieces.{Ready}
 use Rattle.encoder_slots.proofs.Idle.{idle-start}
 use Rattle.encoder_size.specs.Sizes.{Limits}
 use Rattle.set_index.specs.Members.{Members}
-use Rattle.encoder.specs.declared.TableAnswer.{TableAnswer}
-use Rattle.encoder.specs.declared.TableAnswer.TheVariants.{Refused}
 
 module _ (set : List ℕ) (layout : Layout) (points : Points) (ok : set_accepted set ≡ true) (l : layout ≡ layout_of set)
     (p : listed points ≡ take 8 (checkpoints (set_by set layout))) where
@@ -74,49 +81,48 @@ ready-start {S} by_class by_name = record {
 
 -- ---- the refusals before the table
 
-module _ (set map : List ℕ) (bound : ℕ) where
-  pub set-refused : set_accepted set ≡ false → early set map bound ≡ 9
-  set-refused e = passed _ _ (and_false (map_accepted set_cells map) e)
+-- a bound past 64, and none
+pub bound-zero : (bound : ℕ) → bound ≡ 0 → bound_fits bound ≡ false
+bound-zero bound e = and_false (leb bound 64) (le-ltb 0 bound (omega arith))
 
-  pub map-refused : map_accepted set_cells map ≡ false → early set map bound ≡ 9
-  map-refused e = passed _ _ (and_right_false (set_accepted set) e)
+pub bound-large : (bound : ℕ) → 64 < bound → bound_fits bound ≡ false
+bound-large bound h = and_right_false (ltb 0 bound) (lt-leb bound 64 h)
 
-  module _ (ok : set_accepted set ≡ true) (mapped : map_accepted set_cells map ≡ true) where
-    pub bound_zero : bound ≡ 0 → early set map bound ≡ 10
-    bound_zero e = chosen _ _ (and_true ok mapped) ∙ passed _ _ (and_false (leb bound 64) (le-ltb 0 bound (omega arith)))
+pub bound-fits : (bound : ℕ) → (bound ≡ 0 → ⊥) → bound ≤ 64 → bound_fits bound ≡ true
+bound-fits bound f h = and_true (lt-ltb 0 bound (omega (arith, f))) (le-leb bound 64 h)
 
-    pub bound_large : 64 < bound → early set map bound ≡ 10
-    bound_large h = chosen _ _ (and_true ok mapped) ∙ passed _ _ (and_right_false (ltb 0 bound) (lt-leb bound 64 h))
+module _ (set map : List ℕ) (bound : ℕ) (rest : Result ℕ Refused) where
+  pub records-refused : (set_accepted set && map_accepted set_cells map) ≡ false → Err (of_call Records) ≡ checked set map bound rest
+  records-refused e = sym (passed _ _ e)
 
-    pub bound_fits_lem : (bound ≡ 0 → ⊥) → bound ≤ 64 → early set map bound ≡ 0
-    bound_fits_lem f h = chosen _ _ (and_true ok mapped) ∙ chosen _ _ (and_true (lt-ltb 0 bound (omega (arith, f))) (le-leb bound 64 h))
-
-  -- the answer by it
-  pub early-refused : (rest : TableAnswer) (number : ℕ) → number ≡ early set map bound → (number ≡ 0 → ⊥) → Refused number 0 ≡ checked set map bound rest
-  early-refused rest number e f = go (set_accepted set && map_accepted set_cells map) (bound_fits bound) e
-    where
-      go : (a b : Bool) → number ≡ cond a (cond b 0 10) 9 → Refused number 0 ≡ cond a (cond b rest (Refused 10 0)) (Refused 9 0)
-      go true true p = absurd (f p)
-      go true false p = ap (λ (n : ℕ). Refused n 0) p
-      go false b p = ap (λ (n : ℕ). Refused n 0) p
+  pub bound-refused : (set_accepted set && map_accepted set_cells map) ≡ true → bound_fits bound ≡ false → Err (of_call Bound) ≡ checked set map bound rest
+  bound-refused e f = sym (chosen _ _ e ∙ passed _ _ f)
 
   -- what is not refused
-  pub record Passed : Type 0 where
-    pub accepted_set : set_accepted set ≡ true
-    pub accepted_map : map_accepted set_cells map ≡ true
-    pub few : bound ≤ 64
-    pub answers : (rest : TableAnswer) → rest ≡ checked set map bound rest
+  pub passes : (layout : Layout) (steps : ℕ) → IsAccepted set map bound layout steps → rest ≡ checked set map bound rest
+  passes layout steps w = sym (chosen _ _ (and_true w.accepted_set w.accepted_map) ∙ chosen _ _ w.accepted_bound)
 
-  pub early-passed : early set map bound ≡ 0 → Passed
-  early-passed = go (set_accepted set) refl (map_accepted set_cells map) refl (bound_fits bound) refl
-    where
-      go : (a : Bool) → set_accepted set ≡ a → (m : Bool) → map_accepted set_cells map ≡ m → (b : Bool) → bound_fits bound ≡ b → ◌≡◌ {A = ℕ} (cond (a && m) (cond b 0 10) 9) 0 → Passed
-      go true p true q true r e = record {
-        accepted_set = p;
-        accepted_map = q;
-        few = leb-true bound 64 (and_right (ltb 0 bound) (leb bound 64) r);
-        answers = λ rest. sym (chosen _ _ (and_true p q) ∙ chosen _ _ r);
-      }
-      go true p true q false r e = absurd (omega (arith, e))
-      go true p false q b r e = absurd (omega (arith, e))
-      go false p m q b r e = absurd (omega (arith, e))
+  -- how the refusal of a call is told
+  pub refused : (r : Result ℕ Refused) (k : Refusal) → IsErrAnd r (λ e. e ≡ of_call k) → Err (of_call k) ≡ checked set map bound rest → r ≡ checked set map bound rest
+  refused r k told e = let w = err_from_is_err_and r told in w.1 ∙ (ap Err w.2 ∙ e)
+
+-- it leaves the output as it was
+pub kept : (r : Result ℕ Refused) (k : Refusal) → IsErrAnd r (λ e. e ≡ of_call k) → (set map : List ℕ) (bound : ℕ) (out : List ℕ) → out ≡ table_output r set map bound out
+kept r k told set map bound out = let w = err_from_is_err_and r told in sym (ap (λ (x : Result ℕ Refused). table_output x set map bound out) w.1)
+
+module _ (set map : List ℕ) (bound : ℕ) (layout : Layout) (steps : ℕ) (w : IsAccepted set map bound layout steps) (points : Points)
+    (p : listed points ≡ take 8 (checkpoints (set_by set layout))) where
+  pub limited : Limits layout
+  limited = limits set layout points w.accepted_set w.layout_is p
+
+  pub few-steps : steps ≤ 64
+  few-steps = let e = w.steps_are in let h = leb-true bound 64 (and_right (ltb 0 bound) (leb bound 64) w.accepted_bound) in omega arith
+
+  pub short-map : cells map ≤ set_cells
+  short-map = few-cells set_cells map w.accepted_map
+
+  pub encoded_is : encoded (set_by set layout) (listed points) map steps ≡ table_of set map bound
+  encoded_is = ap (encoded (set_by set layout) (listed points) map) w.steps_are ∙ table_is set layout points w.accepted_set w.layout_is p map bound
+
+  pub differ : Distinct (listed points)
+  differ = points_differ set layout points w.accepted_set w.layout_is p

@@ -1,4 +1,4 @@
 -- The calls of the encoder: their answers, and the lent output afterwards. A reader of the calls believes Answers; the others serve the code.
 pub mod Answers
-pub mod Refusals
+pub mod Accepted
 pub mod Repeating

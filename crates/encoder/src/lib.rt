@@ -1,9 +1,10 @@
 // The encoder: the size of a table, and its bytes.
 #![tactic(auto)]
 
-ghost use Rattle.std.specs.Prelude.{◌≡◌, cond, List, [], ◌∷◌, ◌++◌, ℕ, ◌+◌, ◌-◌, ◌*◌, ◌≤◌, ◌<◌, ltb, length};
+ghost use Rattle.std.specs.Prelude.{◌≡◌, cond, Result, MatchResult, List, [], ◌∷◌, ◌++◌, ℕ, ◌+◌, ◌-◌, ◌*◌, ◌≤◌, ◌<◌, ltb, length};
 ghost use Rattle.records.specs.Maps.{cells, set_cells};
-ghost use Rattle.records.specs.Sets.{Set, set_by, layout_of, most_threads};
+ghost use Rattle.records.specs.Refusals.{of_call};
+ghost use Rattle.records.specs.Sets.{Set, set_by, most_threads};
 ghost use Rattle.table.specs.Formulas.{written_at, formula_length};
 ghost use Rattle.table.specs.Repeats.{moved_by, last_index};
 ghost use Rattle.table.specs.Programs.{leaf_formula, choice_bit, aims, upto, compiled, next_after};
@@ -13,22 +14,18 @@ ghost use Rattle.encoding.specs.Steps.{only, word0, step as step_of};
 ghost use Rattle.encoder_slots.specs.Places.{place_of};
 ghost use Rattle.set_index.specs.Points.{listed};
 ghost use Rattle.set_index.specs.ListTables.{Distinct};
-ghost use Rattle.encoder.specs.Answers.{size_answer, encode_answer, table_output};
+ghost use Rattle.encoder.specs.Answers.{checked, size_answer, encode_answer, table_output};
 ghost use Rattle.encoder_slots.specs.Pieces.{Writes, Ready};
-ghost use Rattle.encoder.specs.Refusals.{early};
+ghost use Rattle.encoder.specs.Accepted.{IsAccepted};
 ghost use Rattle.encoder.specs.Repeating.{Started, Stepped, Ended, early_room, steps_room};
 ghost use Rattle.encoder_size.specs.Sizes.{Limits};
 ghost use Rattle.machine.specs.Runs.{most_steps};
 
-use encoder_slots::kinds::{CODE, SHARED_MEMORY, WORD_ZERO};
-use encoder_slots::start;
+use encoder_slots::{Kind, start};
 use machine::Machine;
-use records::{Layout, refusals};
+use records::{Layout, Refusal, Refused};
 use set_index::points::Points;
-use table::Formula;
-use table::operations::{
-    BIT, CHOICE, CONSTANT, CONSTRAINT, EQUAL, FIRST, GOAL, MEMORY, NO_SORT, NOT, READ, WORD,
-};
+use table::{Formula, Operation, Sort};
 
 // The greatest bound.
 const STEPS: u64 = Machine::STEPS as u64;
@@ -38,13 +35,6 @@ const BYTES: u64 = Formula::BYTES as u64;
 
 // No statement, in the table of lists.
 const NONE: u8 = set_index::lists::NONE as u8;
-
-// What a call gives: how many records the table has, or the refusal with its number and place.
-#[derive(Clone, Copy)]
-pub enum TableAnswer {
-    Encoded { records: u32 },
-    Refused { number: u8, place: u32 },
-}
 
 // ---- the parts of a table
 
@@ -66,10 +56,8 @@ fn steps(
         × (result ≤ n + steps_room) }
 {
     let mut next = n;
-    let mut k: u8 = 0;
-    while k < bound {
+    for k in 0..bound {
         next = encoder_step::one_step(set, layout, points, members, lists, slots, out, k, next);
-        k += 1;
     }
     next
 }
@@ -78,24 +66,10 @@ fn steps(
 fn firsts(out: &mut [u8])
     ensures { out.new ≡ written_at out.old 0 firsts_of }
 {
-    let bit0 = Formula {
-        operation: CONSTANT,
-        sort: BIT,
-        constant: 0,
-        a: 0,
-        b: 0,
-        c: 0,
-    };
-    let bit1 = Formula {
-        constant: 1,
-        ..bit0
-    };
-    let word0 = Formula { sort: WORD, ..bit0 };
-    let memory = Formula {
-        operation: FIRST,
-        sort: MEMORY,
-        ..bit0
-    };
+    let bit0 = Formula::known(Sort::Bit, 0);
+    let bit1 = Formula::known(Sort::Bit, 1);
+    let word0 = Formula::known(Sort::Word, 0);
+    let memory = Formula::new(Operation::First, Sort::Memory, 0, 0, 0);
     table::put(out, 0, bit0);
     table::put(out, 1, bit1);
     table::put(out, 2, word0);
@@ -109,47 +83,18 @@ fn demand(map: &[u8], slots: &[u32], out: &mut [u8], j: u32, n: u32) -> u32
         out.old slots.now n out.new slots.now result)
         × (result ≡ n + 5) }
 {
-    let at = n as u64;
-    let address = Formula {
-        operation: CONSTANT,
-        sort: WORD,
-        constant: records::map::address_at(map, j),
-        a: 0,
-        b: 0,
-        c: 0,
-    };
-    let read = Formula {
-        operation: READ,
-        sort: WORD,
-        constant: 0,
-        a: encoder_slots::place(slots, SHARED_MEMORY, 0, 0, start::MEMORY),
-        b: at,
-        c: 0,
-    };
-    let value = Formula {
-        operation: CONSTANT,
-        sort: WORD,
-        constant: records::map::value_at(map, j),
-        a: 0,
-        b: 0,
-        c: 0,
-    };
-    let equal = Formula {
-        operation: EQUAL,
-        sort: BIT,
-        constant: 0,
-        a: at + 1,
-        b: at + 2,
-        c: 0,
-    };
-    let constraint = Formula {
-        operation: CONSTRAINT,
-        sort: NO_SORT,
-        constant: 0,
-        a: at + 3,
-        b: 0,
-        c: 0,
-    };
+    let at = u64::from(n);
+    let address = Formula::known(Sort::Word, records::map::address_at(map, j));
+    let read = Formula::new(
+        Operation::Read,
+        Sort::Word,
+        encoder_slots::place(slots, Kind::SharedMemory, 0, 0, start::MEMORY),
+        at,
+        0,
+    );
+    let value = Formula::known(Sort::Word, records::map::value_at(map, j));
+    let equal = Formula::new(Operation::Equal, Sort::Bit, at + 1, at + 2, 0);
+    let constraint = Formula::new(Operation::Constraint, Sort::None, at + 3, 0, 0);
     table::put(out, n, address);
     table::put(out, n + 1, read);
     table::put(out, n + 2, value);
@@ -165,12 +110,9 @@ fn demands(map: &[u8], slots: &[u32], out: &mut [u8], n: u32) -> u32
         out.old slots.now n out.new slots.now result)
         × (result ≤ n + 640) }
 {
-    let count = map.len() / Layout::CELL;
     let mut next = n;
-    let mut j: usize = 0;
-    while j < count {
+    for j in 0..map.len() / Layout::CELL {
         next = demand(map, slots, out, j as u32, next);
-        j += 1;
     }
     next
 }
@@ -201,31 +143,10 @@ fn goal(out: &mut [u8], n: u32, code: u64, zero: u64)
     ensures { (places : Slot → ℕ) → code ≡ places (only code_kind) → zero ≡ places word0
         → out.new ≡ written_at out.old n (compiled same places n (aims goal_tree ∷ [])) }
 {
-    let at = n as u64;
-    let equal = Formula {
-        operation: EQUAL,
-        sort: BIT,
-        constant: 0,
-        a: code,
-        b: zero,
-        c: 0,
-    };
-    let not = Formula {
-        operation: NOT,
-        sort: BIT,
-        constant: 0,
-        a: at,
-        b: 0,
-        c: 0,
-    };
-    let aim = Formula {
-        operation: GOAL,
-        sort: NO_SORT,
-        constant: 0,
-        a: at + 1,
-        b: 0,
-        c: 0,
-    };
+    let at = u64::from(n);
+    let equal = Formula::new(Operation::Equal, Sort::Bit, code, zero, 0);
+    let not = Formula::new(Operation::Not, Sort::Bit, at, 0, 0);
+    let aim = Formula::new(Operation::Goal, Sort::None, at + 1, 0, 0);
     table::put(out, n, equal);
     table::put(out, n + 1, not);
     table::put(out, n + 2, aim);
@@ -237,24 +158,18 @@ fn goal(out: &mut [u8], n: u32, code: u64, zero: u64)
 fn choice_bit(threads: u8, step: u8, j: u8) -> Formula
     ensures { result ≡ leaf_formula (cond (ltb j threads) (choice_bit step 0 j) (choice_bit step 1 (j - threads))) }
 {
-    if j < threads {
-        return Formula {
-            operation: CHOICE,
-            sort: BIT,
-            constant: 0,
-            a: step as u64,
-            b: 0,
-            c: j as u64,
-        };
-    }
-    Formula {
-        operation: CHOICE,
-        sort: BIT,
-        constant: 0,
-        a: step as u64,
-        b: 1,
-        c: (j - threads) as u64,
-    }
+    let (row, t) = if j < threads {
+        (0, j)
+    } else {
+        (1, j - threads)
+    };
+    Formula::new(
+        Operation::Choice,
+        Sort::Bit,
+        u64::from(step),
+        row,
+        u64::from(t),
+    )
 }
 
 // Writes the choice bits of a step.
@@ -263,12 +178,8 @@ fn choice_bits(threads: u8, out: &mut [u8], step: u8, n: u32)
     ensures { out.new ≡ written_at out.old n
         (upto (λ j. leaf_formula (cond (ltb j threads) (choice_bit step 0 j) (choice_bit step 1 (j - threads))) ∷ []) (threads + threads)) }
 {
-    let count = threads + threads;
-    let mut j: u8 = 0;
-    while j < count {
-        let bit = choice_bit(threads, step, j);
-        table::put(out, n + (j as u32), bit);
-        j += 1;
+    for j in 0..threads + threads {
+        table::put(out, n + u32::from(j), choice_bit(threads, step, j));
     }
 }
 
@@ -280,11 +191,13 @@ fn repeated_step(threads: u8, out: &mut [u8], k: u8, first: u32, stride: u32, n:
         → Stepped S cs start first (k + 1) begun out.new (n + stride) }
 {
     choice_bits(threads, out, k, n);
-    let bits = 2 * (threads as u32);
+    let bits = 2 * u32::from(threads);
     table::repeats::repeat(out, n + bits, stride - bits, first, stride);
 }
 
-// Writes the steps after the second.
+// Writes the steps after the second. On its own, so that what the loop over records needs stays in registers: with `few_steps` too, 0.92 in place of
+// 1.03 times the second implementation's time of `encode` for the bound 64.
+#[inline(never)]
 fn repeated_steps(threads: u8, out: &mut [u8], bound: u8, first: u32, stride: u32, n: u32) -> u32
     requires { (n ≤ early_room + steps_room) × (threads ≤ most_threads) × (threads + threads ≤ stride) × (stride ≤ steps_room) × (2 ≤ bound) × (bound ≤ most_steps) }
     ensures { ((S : Set) (cs : List ℕ) (start : Slot → ℕ) (begun : List ℕ) → Started S cs start threads first stride
@@ -293,11 +206,9 @@ fn repeated_steps(threads: u8, out: &mut [u8], bound: u8, first: u32, stride: u3
         × (result ≤ n + steps_room * bound) }
 {
     let mut next = n;
-    let mut k: u8 = 2;
-    while k < bound {
+    for k in 2..bound {
         repeated_step(threads, out, k, first, stride, next);
         next += stride;
-        k += 1;
     }
     next
 }
@@ -307,10 +218,11 @@ fn further(x: u64, first: u32, distance: u64) -> u64
     requires { (x ≤ 4294967296) × (distance ≤ 4294967296) }
     ensures { result ≡ moved_by first distance x }
 {
-    if x < (first as u64) {
-        return x;
+    if x < u64::from(first) {
+        x
+    } else {
+        x + distance
     }
-    x + distance
 }
 
 // The steps written: the next index, and where the code and the word 0 lie.
@@ -321,7 +233,8 @@ struct Last {
     zero: u64,
 }
 
-// Writes steps for themselves.
+// Writes steps for themselves. On its own, so that it takes no registers of the loops beside it.
+#[inline(never)]
 fn few_steps(
     set: &[u8],
     layout: Layout,
@@ -343,8 +256,8 @@ fn few_steps(
     );
     Last {
         next,
-        code: encoder_slots::place(slots, CODE, 0, 0, start::WORD0),
-        zero: encoder_slots::place(slots, WORD_ZERO, 0, 0, start::WORD0),
+        code: encoder_slots::place(slots, Kind::Code, 0, 0, start::WORD0),
+        zero: encoder_slots::place(slots, Kind::WordZero, 0, 0, start::WORD0),
     }
 }
 
@@ -360,7 +273,7 @@ fn later_steps(threads: u8, out: &mut [u8], bound: u8, first: u32, second: Last)
 {
     let next = second.next;
     let stride = (next - first) / 2;
-    let distance = ((bound - 2) as u64) * (stride as u64);
+    let distance = u64::from(bound - 2) * u64::from(stride);
     Last {
         next: repeated_steps(threads, out, bound, first, stride, next),
         code: further(second.code, first, distance),
@@ -386,13 +299,22 @@ fn all_steps(
         out.old out.new result.next result.code result.zero)
         × (result.next ≤ last_index) }
 {
+    let own = few_steps(
+        set,
+        layout,
+        points,
+        members,
+        lists,
+        slots,
+        out,
+        bound.min(2),
+        first,
+    );
     if bound <= 2 {
-        return few_steps(
-            set, layout, points, members, lists, slots, out, bound, first,
-        );
+        own
+    } else {
+        later_steps(layout.threads, out, bound, first, own)
     }
-    let second = few_steps(set, layout, points, members, lists, slots, out, 2, first);
-    later_steps(layout.threads, out, bound, first, second)
 }
 
 // ---- whole tables
@@ -419,62 +341,38 @@ fn write(set: &[u8], layout: Layout, points: Points, map: &[u8], bound: u8, tabl
 
 // ---- the calls
 
-// What refuses both calls: 9, then 10; 0 where neither does.
-fn refusal_of(layout: Layout, map: &[u8], bound: u64) -> u8
-    ensures { (set : List ℕ) → layout ≡ layout_of set → result ≡ early set map.now bound }
+// What both calls ask first: an accepted set and map, and a bound from 1 to 64, which is the number of steps.
+fn accept(set: &[u8], map: &[u8], bound: u64) -> Result<(Layout, u8), Refusal>
+    ensures { MatchResult result (λ accepted. IsAccepted set.now map.now bound accepted.0 accepted.1)
+        (λ refusal. (rest : Result ℕ Refused) → Err (of_call refusal) ≡ checked set.now map.now bound rest) }
 {
-    if layout.threads == 0 {
-        return refusals::RECORDS;
+    let layout = records::accept(set, map, Layout::MAP_CELLS)?;
+    if bound == 0 || STEPS < bound {
+        return Err(Refusal::Bound);
     }
-    if !records::map::map_accepted(map, Layout::MAP_CELLS) {
-        return refusals::RECORDS;
-    }
-    if bound == 0 {
-        return refusals::BOUND;
-    }
-    if STEPS < bound {
-        return refusals::BOUND;
-    }
-    0
+    Ok((layout, bound as u8))
 }
 
 // How many records the table of a set, a map and a bound has.
-pub fn table_size(set: &[u8], map: &[u8], bound: u64) -> TableAnswer
+pub fn table_size(set: &[u8], map: &[u8], bound: u64) -> Result<u32, Refused>
     ensures { result ≡ size_answer set.now map.now bound }
 {
-    let layout = records::set::layout(set);
-    let number = refusal_of(layout, map, bound);
-    if number != 0 {
-        return TableAnswer::Refused { number, place: 0 };
-    }
+    let (layout, steps) = accept(set, map, bound)?;
     let points = set_index::points::of_set(set, layout);
-    let records = encoder_size::table_records(set, layout, points, map, bound as u8);
-    TableAnswer::Encoded {
-        records: records as u32,
-    }
+    Ok(encoder_size::table_records(set, layout, points, map, steps) as u32)
 }
 
 // Writes the table of a set, a map and a bound.
-pub fn encode(set: &[u8], map: &[u8], bound: u64, table: &mut [u8]) -> TableAnswer
+pub fn encode(set: &[u8], map: &[u8], bound: u64, table: &mut [u8]) -> Result<u32, Refused>
     ensures { (result ≡ encode_answer set.now map.now bound (length table.old))
         × (table.new ≡ table_output result set.now map.now bound table.old) }
 {
-    let layout = records::set::layout(set);
-    let number = refusal_of(layout, map, bound);
-    if number != 0 {
-        return TableAnswer::Refused { number, place: 0 };
-    }
+    let (layout, steps) = accept(set, map, bound)?;
     let points = set_index::points::of_set(set, layout);
-    let steps = bound as u8;
     let records = encoder_size::table_records(set, layout, points, map, steps);
     if (table.len() as u64) < BYTES * records {
-        return TableAnswer::Refused {
-            number: refusals::ROOM,
-            place: 0,
-        };
+        return Err(Refused::from(Refusal::Room));
     }
     write(set, layout, points, map, steps, table);
-    TableAnswer::Encoded {
-        records: records as u32,
-    }
+    Ok(records as u32)
 }

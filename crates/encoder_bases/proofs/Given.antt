@@ -1,27 +1,25 @@
 -- What trees of few records are, from the indexes of their operands. Assumes nothing.
-use Prim.Native.Nat.{ℕ, suc, ◌+◌, ◌≤◌}
+use Prim.Native.Nat.{ℕ, suc, ◌+◌, ◌≤◌, ◌<◌}
 use mathlib.Core.Path.{◌≡◌, refl, ap, sym, subst, ◌∙◌}
-use mathlib.Core.Bool.{true, false, ◌||◌}
+use mathlib.Core.Bool.{false}
 use mathlib.Core.List.{List, [], ◌∷◌}
 use native.Mathlib.Omega.{arith}
-use native.Mathlib.Decide.{dec_lt}
 use native.Mathlib.Numerals.{add-one}
 use lib.Dec.{eqb}
-use lib.ListN.{take, get_or-eq_default}
+use lib.ListN.{take}
 use borrow.Author.Tests.{ne_eqb}
-use Rattle.base.specs.Below.{every}
-use Rattle.base.proofs.Below.{every-at}
-use Rattle.base.proofs.Choice.{passed, or_false, clash}
+use Rattle.base.proofs.Choice.{passed}
+use Rattle.records.specs.Numbers.{number}
+use Rattle.records.specs.declared.instructions.Instruction.{Instruction}
+use Rattle.records.specs.declared.instructions.Instruction.TheVariants.{Load, Store, Fence, Add, Addi, Sub, Subi, Mul, Muli, Jmp, Jz, Jnz, Js, Jns, Jnzns, Mem, Cas, Halt, Exit, Check}
 use Rattle.records.specs.Sets.{Set}
 use Rattle.records.specs.declared.Statement.{Statement}
 use Rattle.table.specs.declared.Formula.{Formula}
 use Rattle.table.specs.Formulas.{written_at}
 use Rattle.table.specs.Programs.{Leaf, Unary, Binary, Ternary, ref, leaf, unary, binary, ternary, if3, and2, or2, equal2, read2, not1, top1, binary_number, binary_sort, leaf_formula, unary_formula, ternary_formula, next, root, records}
-use Rattle.encoding.specs.Slots.{Slot, slot, Term, kinds, kind_at, choice, loaded, result, test, kind_number, flag, kind_count}
+use Rattle.encoding.specs.Slots.{Slot, slot, Term, kind_at, loaded, result, test}
 use Rattle.encoding.specs.Steps.{base as base_of, result_tree, test_tree}
-use Rattle.encoder_slots.specs.Places.{of_statement}
 use Rattle.encoder_slots.specs.Pieces.{WritesTree}
-use Rattle.encoder_slots.proofs.Matches.{Apart, among, apart-among}
 use Rattle.encoder_bases.specs.declared.written.WrittenTree.{WrittenTree}
 use Rattle.encoder_bases.specs.SmallTrees.{SmallTree, Gives, formulas, Puts, plain, One, Three, one_record, three_records}
 use Rattle.encoder_bases.proofs.Records.{record_at, written_1, written_3, written_4}
@@ -170,11 +168,6 @@ pub puts_base : {r : WrittenTree} {at : Slot → ℕ} {n : ℕ} {out after : Lis
 puts_base S cs threads k a b kind m same e p =
     puts_kind S cs k a b kind m e (puts_as (λ z. base_of (with_threads S (same z)) cs k (kind_at m) a b) p)
 
--- past the last kind
-pub kind_past : (kind : ℕ) → kind_count ≤ kind → kind_at kind ≡ choice
-unfolding kinds
-kind_past kind h = get_or-eq_default kinds choice h
-
 -- the test of a statement
 pub puts_test : {r : WrittenTree} {at : Slot → ℕ} {n : ℕ} {out after : List ℕ} (S : Set) (cs : List ℕ) (k t i : ℕ) (s : Statement) → S.statement t i ≡ s →
     Puts r at n (test_tree S cs k s.number t) out after → Puts r at n (base_of S cs k test t i) out after
@@ -185,30 +178,35 @@ pub puts_result : {r : WrittenTree} {at : Slot → ℕ} {n : ℕ} {out after : L
     Puts r at n (result_tree S cs k m t i) out after → Puts r at n (base_of S cs k result t i) out after
 puts_result S cs k t i s m e f p = puts_as (ap (λ (x : Statement). result_tree S cs k x.number t i) e ∙ ap (λ (x : ℕ). result_tree S cs k x t i) f) p
 
--- by one that only loads
-pub result_loads : (S : Set) (cs : List ℕ) (k n t i : ℕ) → (n ≡ 3 → ⊥) → (n ≡ 4 → ⊥) → (n ≡ 5 → ⊥) → (n ≡ 6 → ⊥) → (n ≡ 7 → ⊥) → (n ≡ 8 → ⊥) → (n ≡ 16 → ⊥) →
-    result_tree S cs k n t i ≡ ref (slot loaded t i)
-result_loads S cs k n t i p q r s u v w =
-    passed _ _ (ne_eqb n 3 p) ∙ passed _ _ (ne_eqb n 4 q) ∙ passed _ _ (ne_eqb n 5 r) ∙ passed _ _ (ne_eqb n 6 s) ∙ passed _ _ (ne_eqb n 7 u)
-    ∙ passed _ _ (ne_eqb n 8 v) ∙ passed _ _ (ne_eqb n 16 w)
+-- by one that only loads, or by none
+pub result_loads : (S : Set) (cs : List ℕ) (k t i : ℕ) (x : Instruction) → (x ≡ Add → ⊥) → (x ≡ Addi → ⊥) → (x ≡ Sub → ⊥) → (x ≡ Subi → ⊥) → (x ≡ Mul → ⊥) → (x ≡ Muli → ⊥) → (x ≡ Cas → ⊥) →
+    result_tree S cs k (number x) t i ≡ ref (slot loaded t i)
+result_loads S cs k t i Load _ _ _ _ _ _ _ = refl
+result_loads S cs k t i Store _ _ _ _ _ _ _ = refl
+result_loads S cs k t i Fence _ _ _ _ _ _ _ = refl
+result_loads S cs k t i Add p0 p1 p2 p3 p4 p5 p6 = absurd (p0 refl)
+result_loads S cs k t i Addi p0 p1 p2 p3 p4 p5 p6 = absurd (p1 refl)
+result_loads S cs k t i Sub p0 p1 p2 p3 p4 p5 p6 = absurd (p2 refl)
+result_loads S cs k t i Subi p0 p1 p2 p3 p4 p5 p6 = absurd (p3 refl)
+result_loads S cs k t i Mul p0 p1 p2 p3 p4 p5 p6 = absurd (p4 refl)
+result_loads S cs k t i Muli p0 p1 p2 p3 p4 p5 p6 = absurd (p5 refl)
+result_loads S cs k t i Jmp _ _ _ _ _ _ _ = refl
+result_loads S cs k t i Jz _ _ _ _ _ _ _ = refl
+result_loads S cs k t i Jnz _ _ _ _ _ _ _ = refl
+result_loads S cs k t i Js _ _ _ _ _ _ _ = refl
+result_loads S cs k t i Jns _ _ _ _ _ _ _ = refl
+result_loads S cs k t i Jnzns _ _ _ _ _ _ _ = refl
+result_loads S cs k t i Mem _ _ _ _ _ _ _ = refl
+result_loads S cs k t i Cas p0 p1 p2 p3 p4 p5 p6 = absurd (p6 refl)
+result_loads S cs k t i Halt _ _ _ _ _ _ _ = refl
+result_loads S cs k t i Exit _ _ _ _ _ _ _ = refl
+result_loads S cs k t i Check _ _ _ _ _ _ _ = refl
 
--- ---- kinds that a `match` does not name
-
--- the kinds by number of neither statements nor flags
-abbrev pub others : List ℕ
-others = 39 ∷ 38 ∷ 37 ∷ 36 ∷ 35 ∷ 34 ∷ 33 ∷ 32 ∷ 30 ∷ 29 ∷ 28 ∷ 27 ∷ 26 ∷ 25 ∷ 24 ∷ 23 ∷ 22 ∷ 21 ∷ 20 ∷ 19 ∷ 18 ∷ 17 ∷ 10 ∷ 9 ∷ 8 ∷ 7 ∷ 6 ∷ 5 ∷ 4 ∷ 3 ∷ 2 ∷ 0 ∷ []
-
-tabled : every kind_count (λ n. among n others || (of_statement n || eqb n (kind_number flag))) ≡ true
-unfolding every among
-tabled = refl
-
-pub kind_other : (kind : ℕ) → Apart kind others → of_statement kind ≡ false → (kind ≡ kind_number flag → ⊥) → kind_count ≤ kind
-kind_other kind r other flagless = elim (dec_lt kind kind_count) [
-  | yes h ↦
-      clash (every-at (λ n. among n others || (of_statement n || eqb n (kind_number flag))) kind_count kind tabled h)
-      (or_false (apart-among kind others r) (or_false other (ne_eqb kind (kind_number flag) flagless)))
-  | no h ↦ omega arith
-]
+pub result-past : (S : Set) (cs : List ℕ) (k n t i : ℕ) → 20 ≤ n → result_tree S cs k n t i ≡ ref (slot loaded t i)
+result-past S cs k n t i h =
+    let past : (m : ℕ) → m < 20 → eqb n m ≡ false = λ m q. ne_eqb n m (λ e. omega arith) in
+    passed _ _ (past 3 (omega arith)) ∙ passed _ _ (past 4 (omega arith)) ∙ passed _ _ (past 5 (omega arith)) ∙ passed _ _ (past 6 (omega arith))
+    ∙ passed _ _ (past 7 (omega arith)) ∙ passed _ _ (past 8 (omega arith)) ∙ passed _ _ (past 16 (omega arith))
 
 -- a base that was written is a tree written
 pub put_written : (r : WrittenTree) (places : Slot → ℕ) (n : ℕ) (t : Term) (out after : List ℕ) → Puts r places n t out after → WritesTree places t out n after (n + r.count) r.root

@@ -6,12 +6,10 @@ ghost use Rattle.encoder_slots.specs.Places.{place_of};
 ghost use Rattle.encoder_bases.specs.SmallTrees.{Puts};
 ghost use Rattle.encoder_slots.specs.Pieces.{tree_room};
 
-use crate::written::{WrittenTree, put_none, put_one};
-use encoder_slots::kinds::{BIT_ONE, BIT_ZERO, CHOICE, FULL, MAY_EXECUTE, NONE};
-use encoder_slots::{place, start};
+use crate::written::{WrittenTree, put_binary, put_none, put_one};
+use encoder_slots::{Kind, place, start};
 use records::Layout;
-use table::operations;
-use table::operations::{AND, BIT, IF};
+use table::{Operation, Sort};
 
 const THREADS: u16 = Layout::THREADS as u16;
 
@@ -19,18 +17,26 @@ const THREADS: u16 = Layout::THREADS as u16;
 pub fn put_choice(out: &mut [u8], threads: u8, step: u8, j: u16, n: u32) -> WrittenTree
     ensures { ((at : Slot → ℕ) → Puts result at n (leaf (cond (ltb j threads) (choice_bit step 0 j) (choice_bit step 1 (j - threads)))) out.old out.new) × (result.count ≤ tree_room) }
 {
-    let t = threads as u16;
+    let t = u16::from(threads);
     if j < t {
-        return put_one(out, n, operations::CHOICE, BIT, step as u64, 0, j as u64);
+        return put_one(
+            out,
+            n,
+            Operation::Choice,
+            Sort::Bit,
+            u64::from(step),
+            0,
+            u64::from(j),
+        );
     }
     put_one(
         out,
         n,
-        operations::CHOICE,
-        BIT,
-        step as u64,
+        Operation::Choice,
+        Sort::Bit,
+        u64::from(step),
         1,
-        (j - t) as u64,
+        u64::from(j - t),
     )
 }
 
@@ -40,26 +46,26 @@ pub fn put_none_before(slots: &[u32], out: &mut [u8], j: u16, n: u32) -> Written
         (cond (eqb j 0) (ref (slot bit_one 0 0)) (ternary (if3 1) (ref (slot choice 0 (j - 1))) (ref (slot bit_zero 0 0)) (ref (slot none 0 (j - 1))))) out.old out.new) × (result.count ≤ tree_room) }
 {
     if j == 0 {
-        return put_none(slots, BIT_ONE, 0, 0, start::BIT1);
+        return put_none(slots, Kind::BitOne, 0, 0, start::BIT1);
     }
     let i = j - 1;
-    let taken = place(slots, CHOICE, 0, i, start::BIT0);
-    let zero = place(slots, BIT_ZERO, 0, 0, start::BIT0);
-    let none = place(slots, NONE, 0, i, start::BIT0);
-    put_one(out, n, IF, BIT, taken, zero, none)
+    let taken = place(slots, Kind::Choice, 0, i, start::BIT0);
+    let zero = place(slots, Kind::BitZero, 0, 0, start::BIT0);
+    let none = place(slots, Kind::None, 0, i, start::BIT0);
+    put_one(out, n, Operation::If, Sort::Bit, taken, zero, none)
 }
 
 // Where the bit lies that permits choice j.
 fn permit(slots: &[u32], threads: u8, j: u16) -> u64
     ensures { result ≡ place_of slots.now (cond (ltb j threads) (slot may_execute j 0) (slot full (j - threads) 0)) }
 {
-    let t = threads as u16;
+    let t = u16::from(threads);
     if j < t {
-        return place(slots, MAY_EXECUTE, j as u8, 0, start::BIT0);
+        return place(slots, Kind::MayExecute, j as u8, 0, start::BIT0);
     }
     let i = j - t;
     if i < THREADS {
-        return place(slots, FULL, i as u8, 0, start::BIT0);
+        return place(slots, Kind::Full, i as u8, 0, start::BIT0);
     }
     0
 }
@@ -76,6 +82,6 @@ pub fn put_permitted_first(
         (binary and2 (ref (cond (ltb j threads) (slot may_execute j 0) (slot full (j - threads) 0))) (ref (slot none 0 j))) out.old out.new) × (result.count ≤ tree_room) }
 {
     let permitted = permit(slots, threads, j);
-    let none = place(slots, NONE, 0, j, start::BIT0);
-    put_one(out, n, AND, BIT, permitted, none, 0)
+    let none = place(slots, Kind::None, 0, j, start::BIT0);
+    put_binary(out, n, Operation::And, Sort::Bit, permitted, none)
 }

@@ -1,16 +1,16 @@
 // Trees of few records from the indexes of their operands, written as they are made.
 ghost use Rattle.std.specs.Prelude.{◌≡◌, List, cond, ℕ, ◌+◌, ◌-◌, ◌≤◌, eqb};
 ghost use Rattle.table.specs.Programs.{Binary, binary_number, binary_sort, ref, leaf, binary, ternary, constant_word, and2, equal2, read2, if3};
-ghost use Rattle.encoding.specs.Slots.{Kind, Slot, slot, Term, kind_number, start_place, full, adr, val, shared_memory};
+ghost use Rattle.encoding.specs.Slots.{Kind as SlotKind, Slot, slot, Term, kind_number, start_place, full, adr, val, shared_memory};
 ghost use Rattle.encoder_slots.specs.Places.{place_of};
+ghost use Rattle.encoder_slots.specs.Kinds.{number_of};
+ghost use Rattle.table.specs.Operations.{operation_number, sort_number};
 ghost use Rattle.encoder_bases.specs.SmallTrees.{Gives, Puts, load_of, plain, one_record, three_records};
 ghost use Rattle.table.specs.Repeats.{last_index};
 ghost use Rattle.encoder_slots.specs.Pieces.{tree_room};
 
-use encoder_slots::kinds::{ADR, FULL, SHARED_MEMORY, VAL};
-use encoder_slots::{place, start};
-use table::Formula;
-use table::operations::{AND, BIT, CONSTANT, EQUAL, IF, READ, WORD};
+use encoder_slots::{Kind, place, start};
+use table::{Formula, Operation, Sort};
 
 // How many records were written, and the index of the tree that they are of.
 #[derive(Clone, Copy)]
@@ -26,31 +26,15 @@ const TREE: u32 = 4;
 fn after(n: u32, k: u32) -> u32
     ensures { n ≤ last_index → k ≤ tree_room → result ≡ n + k }
 {
-    if k <= TREE {
-        if n <= Formula::LAST {
-            return n + k;
-        }
+    if k <= TREE && n <= Formula::LAST {
+        return n + k;
     }
     n
 }
 
-// A record without a constant.
-pub fn formula(operation: u8, sort: u8, a: u64, b: u64, c: u64) -> Formula
-    ensures { result ≡ plain operation sort a b c }
-{
-    Formula {
-        operation,
-        sort,
-        constant: 0,
-        a,
-        b,
-        c,
-    }
-}
-
 // No record: the tree is another value, which lies at `start` unless it was set.
-pub fn put_none(slots: &[u32], kind: u8, a: u8, b: u16, start: u64) -> WrittenTree
-    ensures { ((n : ℕ) (k : Kind) (out : List ℕ) → kind ≡ kind_number k → start ≡ start_place (slot k a b) → Puts result (place_of slots.now) n (ref (slot k a b)) out out) × (result.count ≤ tree_room) }
+pub fn put_none(slots: &[u32], kind: Kind, a: u8, b: u16, start: u64) -> WrittenTree
+    ensures { ((n : ℕ) (k : SlotKind) (out : List ℕ) → number_of kind ≡ kind_number k → start ≡ start_place (slot k a b) → Puts result (place_of slots.now) n (ref (slot k a b)) out out) × (result.count ≤ tree_room) }
 {
     let root = place(slots, kind, a, b, start);
     WrittenTree { count: 0, root }
@@ -67,19 +51,19 @@ pub fn put_at(root: u64) -> WrittenTree
 pub fn put_one(
     out: &mut [u8],
     n: u32,
-    operation: u8,
-    sort: u8,
+    operation: Operation,
+    sort: Sort,
     a: u64,
     b: u64,
     c: u64,
 ) -> WrittenTree
-    ensures { ((at : Slot → ℕ) (t : Term) → Gives (one_record n (plain operation sort a b c)) at n t → Puts result at n t out.old out.new) × (result.count ≤ tree_room) }
+    ensures { ((at : Slot → ℕ) (t : Term) → Gives (one_record n (plain (operation_number operation) (sort_number sort) a b c)) at n t → Puts result at n t out.old out.new) × (result.count ≤ tree_room) }
 {
-    let first = formula(operation, sort, a, b, c);
+    let first = Formula::new(operation, sort, a, b, c);
     table::put(out, n, first);
     WrittenTree {
         count: 1,
-        root: n as u64,
+        root: u64::from(n),
     }
 }
 
@@ -87,18 +71,10 @@ pub fn put_one(
 pub fn put_constant(out: &mut [u8], n: u32, word: u16) -> WrittenTree
     ensures { ((at : Slot → ℕ) → Puts result at n (leaf (constant_word word)) out.old out.new) × (result.count ≤ tree_room) }
 {
-    let first = Formula {
-        operation: CONSTANT,
-        sort: WORD,
-        constant: word,
-        a: 0,
-        b: 0,
-        c: 0,
-    };
-    table::put(out, n, first);
+    table::put(out, n, Formula::known(Sort::Word, word));
     WrittenTree {
         count: 1,
-        root: n as u64,
+        root: u64::from(n),
     }
 }
 
@@ -117,7 +93,7 @@ pub fn put_three(
     table::put(out, after(n, 2), third);
     WrittenTree {
         count: 3,
-        root: (n as u64) + 2,
+        root: u64::from(n) + 2,
     }
 }
 
@@ -134,10 +110,10 @@ pub struct Load {
 pub fn load_of(slots: &[u32], t: u8) -> Load
     ensures { result ≡ load_of (place_of slots.now) t }
 {
-    let full = place(slots, FULL, t, 0, start::BIT0);
-    let adr = place(slots, ADR, t, 0, start::WORD0);
-    let val = place(slots, VAL, t, 0, start::WORD0);
-    let memory = place(slots, SHARED_MEMORY, 0, 0, start::MEMORY);
+    let full = place(slots, Kind::Full, t, 0, start::BIT0);
+    let adr = place(slots, Kind::Adr, t, 0, start::WORD0);
+    let val = place(slots, Kind::Val, t, 0, start::WORD0);
+    let memory = place(slots, Kind::SharedMemory, 0, 0, start::MEMORY);
     Load {
         full,
         adr,
@@ -151,12 +127,12 @@ pub fn put_load(out: &mut [u8], load: Load, x: u64, n: u32) -> WrittenTree
     ensures { ((at : Slot → ℕ) (t : ℕ) (s : Slot) → load ≡ load_of at t → x ≡ at s → n ≤ last_index → Puts result at n
         (ternary (if3 2) (binary and2 (ref (slot full t 0)) (binary equal2 (ref (slot adr t 0)) (ref s))) (ref (slot val t 0)) (binary read2 (ref (slot shared_memory 0 0)) (ref s))) out.old out.new) × (result.count ≤ tree_room) }
 {
-    let k = n as u64;
+    let k = u64::from(n);
     let root = k + 3;
-    let first = formula(EQUAL, BIT, load.adr, x, 0);
-    let second = formula(AND, BIT, load.full, k, 0);
-    let third = formula(READ, WORD, load.memory, x, 0);
-    let fourth = formula(IF, WORD, k + 1, load.val, k + 2);
+    let first = Formula::new(Operation::Equal, Sort::Bit, load.adr, x, 0);
+    let second = Formula::new(Operation::And, Sort::Bit, load.full, k, 0);
+    let third = Formula::new(Operation::Read, Sort::Word, load.memory, x, 0);
+    let fourth = Formula::new(Operation::If, Sort::Word, k + 1, load.val, k + 2);
     table::put(out, n, first);
     table::put(out, after(n, 1), second);
     table::put(out, after(n, 2), third);
@@ -165,8 +141,8 @@ pub fn put_load(out: &mut [u8], load: Load, x: u64, n: u32) -> WrittenTree
 }
 
 // No record: the tree is the value of one kind for the thread before t, or before the first thread the value of another kind.
-pub fn put_previous(slots: &[u32], kind: u8, first: u8, t: u16, start: u64) -> WrittenTree
-    ensures { ((n : ℕ) (k l : Kind) (out : List ℕ) → kind ≡ kind_number k → first ≡ kind_number l → start ≡ start_place (slot k 0 (t - 1)) → start ≡ start_place (slot l 0 0)
+pub fn put_previous(slots: &[u32], kind: Kind, first: Kind, t: u16, start: u64) -> WrittenTree
+    ensures { ((n : ℕ) (k l : SlotKind) (out : List ℕ) → number_of kind ≡ kind_number k → number_of first ≡ kind_number l → start ≡ start_place (slot k 0 (t - 1)) → start ≡ start_place (slot l 0 0)
         → Puts result (place_of slots.now) n (ref (cond (eqb t 0) (slot l 0 0) (slot k 0 (t - 1)))) out out) × (result.count ≤ tree_room) }
 {
     if t == 0 {
@@ -175,23 +151,17 @@ pub fn put_previous(slots: &[u32], kind: u8, first: u8, t: u16, start: u64) -> W
     put_none(slots, kind, 0, t - 1, start)
 }
 
-// Two bits that lie at 0 at the start, joined.
-pub fn put_joined(
-    slots: &[u32],
+// One record of an operation with two operands, which lie at a and b.
+pub fn put_binary(
     out: &mut [u8],
-    operation: u8,
-    kind: u8,
-    a: u8,
-    b: u16,
-    other: u8,
-    c: u8,
-    d: u16,
     n: u32,
+    operation: Operation,
+    sort: Sort,
+    a: u64,
+    b: u64,
 ) -> WrittenTree
-    ensures { ((o : Binary) (k l : Kind) → operation ≡ binary_number o → 1 ≡ binary_sort o → kind ≡ kind_number k → other ≡ kind_number l
-        → 0 ≡ start_place (slot k a b) → 0 ≡ start_place (slot l c d) → Puts result (place_of slots.now) n (binary o (ref (slot k a b)) (ref (slot l c d))) out.old out.new) × (result.count ≤ tree_room) }
+    ensures { ((at : Slot → ℕ) (o : Binary) (s t : Slot) → operation_number operation ≡ binary_number o → sort_number sort ≡ binary_sort o → a ≡ at s → b ≡ at t
+        → Puts result at n (binary o (ref s) (ref t)) out.old out.new) × (result.count ≤ tree_room) }
 {
-    let first = place(slots, kind, a, b, start::BIT0);
-    let second = place(slots, other, c, d, start::BIT0);
-    put_one(out, n, operation, BIT, first, second, 0)
+    put_one(out, n, operation, sort, a, b, 0)
 }

@@ -2,7 +2,7 @@
 use Prim.Native.Nat.{ℕ}
 use mathlib.Core.Path.{◌≡◌, refl, sym, subst}
 use mathlib.Core.Bool.{true, ◌||◌}
-use mathlib.Core.List.{List, [], ◌∷◌}
+use mathlib.Core.List.{List}
 use lib.Dec.{eqb}
 use borrow.Author.Tests.{eqb-true}
 use Rattle.records.specs.Sets.{Set}
@@ -10,7 +10,6 @@ use Rattle.encoding.specs.Slots.{kinds, kind_at, kind_number, flush_to, flush_va
 use Rattle.encoding.specs.Steps.{links}
 use Rattle.encoder_chains.specs.Chained.{chained}
 use Rattle.base.proofs.Choice.{either}
-use Rattle.encoder_slots.proofs.Matches.{Apart}
 
 -- what holds of each of the four
 each : (P : ℕ → Type 0) → P (kind_number one_permitted) → P (kind_number flush_to) → P (kind_number flush_value) → P (kind_number halts) → (n : ℕ) → chained n ≡ true → P n
@@ -21,11 +20,11 @@ each P one two three four n e =
     (λ h. subst P (sym (eqb-true n (kind_number flush_value) h)) three))
     (λ h. subst P (sym (eqb-true n (kind_number halts) h)) four)
 
--- the last one, as a `match` leaves it
-pub chained-last : (n : ℕ) → chained n ≡ true → Apart n (kind_number flush_value ∷ kind_number flush_to ∷ kind_number one_permitted ∷ []) → n ≡ kind_number halts
+-- the last one
+pub chained-last : (n : ℕ) → chained n ≡ true → (n ≡ kind_number one_permitted → ⊥) → (n ≡ kind_number flush_to → ⊥) → (n ≡ kind_number flush_value → ⊥) → n ≡ kind_number halts
 chained-last =
-    each (λ (n : ℕ). Apart n (kind_number flush_value ∷ kind_number flush_to ∷ kind_number one_permitted ∷ []) → n ≡ kind_number halts)
-    (λ r. absurd (r.0.0.1 refl)) (λ r. absurd (r.0.1 refl)) (λ r. absurd (r.1 refl)) (λ r. refl)
+    each (λ (n : ℕ). (n ≡ kind_number one_permitted → ⊥) → (n ≡ kind_number flush_to → ⊥) → (n ≡ kind_number flush_value → ⊥) → n ≡ kind_number halts)
+    (λ p q r. absurd (p refl)) (λ p q r. absurd (q refl)) (λ p q r. absurd (r refl)) (λ p q r. refl)
 
 -- all but the first have a link for each thread
 pub chained-links : (S : Set) (cs : List ℕ) (n : ℕ) → chained n ≡ true → (n ≡ kind_number one_permitted → ⊥) → links S cs 0 (kind_at n) 0 0 ≡ S.threads

@@ -2,6 +2,7 @@
 use Prim.Native.Nat.{ℕ, zero, suc, ◌+◌, ◌-◌, ◌*◌, ◌≤◌, ◌<◌}
 use mathlib.Core.Path.{◌≡◌, refl, ap, sym, ◌∙◌, subst}
 use mathlib.Core.List.{List, [], ◌∷◌}
+use Rattle.std.proofs.Common.{None}
 use native.Mathlib.Numerals.{add-one}
 use native.Mathlib.Omega.{arith}
 use lib.ListN.{length}
@@ -13,8 +14,9 @@ use Rattle.table.proofs.Sequences.{records-rest, records-length}
 use Rattle.table.proofs.Written.{written-++}
 use Rattle.encoding.specs.Slots.{Slot, Term}
 use Rattle.encoding.specs.Steps.{Link as ChainLink, skip, if_then, and_with, or_with, linked, chain}
-use Rattle.encoder_chains.specs.Placed.{placed_link}
+use Rattle.encoder_chains.specs.Placed.{LinkNumbers, placed_link, link_numbers, numbers_of, formula_over}
 use Rattle.encoder_chains.specs.declared.Link.{Link}
+use Rattle.encoder_chains.specs.declared.Link.TheVariants.{If, And, Or}
 use Rattle.encoder_slots.specs.Pieces.{WritesTree}
 
 -- ---- links
@@ -42,7 +44,7 @@ module _ (places : Slot → ℕ) where
     none (and_with s) e = absurd (omega arith)
     none (or_with s) e = absurd (omega arith)
 
-    abbrev if_of : Link → Formula
+    abbrev if_of : LinkNumbers → Formula
     if_of link = record { operation = link.operation; sort = link.sort; constant = 0; a = link.a; b = link.b; c = at }
 
     test : (l : ChainLink) → (placed_link places l).operation ≡ IF →
@@ -58,7 +60,7 @@ module _ (places : Slot → ℕ) where
     test (and_with s) e = absurd (omega arith)
     test (or_with s) e = absurd (omega arith)
 
-    abbrev joined_of : Link → Formula
+    abbrev joined_of : LinkNumbers → Formula
     joined_of link = record { operation = link.operation; sort = link.sort; constant = 0; a = link.a; b = at; c = 0 }
 
     joined : (l : ChainLink) → ((placed_link places l).operation ≡ 0 → ⊥) → ((placed_link places l).operation ≡ IF → ⊥) →
@@ -80,27 +82,37 @@ module _ (places : Slot → ℕ) where
     }
 
     -- the same for a link as the code has it
-    module _ (link : Link) (l : ChainLink) (e : link ≡ placed_link places l) where
+    module _ (link : LinkNumbers) (l : ChainLink) (e : link ≡ placed_link places l) where
       operations : link.operation ≡ (placed_link places l).operation
-      operations = ap (λ (x : Link). x.operation) e
+      operations = ap (λ (x : LinkNumbers). x.operation) e
 
-      pub link-none : link.operation ≡ 0 → WritesTree places (linked l t) out n now m at
+      link-none : link.operation ≡ 0 → WritesTree places (linked l t) out n now m at
       link-none z = none l (sym operations ∙ z)
 
-      pub link_if : (after : List ℕ) → after ≡ placed now (16 * m) (formula_bytes (if_of link)) → link.operation ≡ IF → WritesTree places (linked l t) out n after (m + 1) m
+      link_if : (after : List ℕ) → after ≡ placed now (16 * m) (formula_bytes (if_of link)) → link.operation ≡ IF → WritesTree places (linked l t) out n after (m + 1) m
       link_if after put f = let r = test l (sym operations ∙ f) in record {
-        tree_written = put ∙ (ap (λ (x : Link). placed now (16 * m) (formula_bytes (if_of x))) e ∙ r.tree_written);
+        tree_written = put ∙ (ap (λ (x : LinkNumbers). placed now (16 * m) (formula_bytes (if_of x))) e ∙ r.tree_written);
         tree_next = add-one m ∙ r.tree_next;
         tree_root = r.tree_root;
       }
 
-      pub link-joined : (after : List ℕ) → after ≡ placed now (16 * m) (formula_bytes (joined_of link)) → (link.operation ≡ 0 → ⊥) → (link.operation ≡ IF → ⊥) →
+      link-joined : (after : List ℕ) → after ≡ placed now (16 * m) (formula_bytes (joined_of link)) → (link.operation ≡ 0 → ⊥) → (link.operation ≡ IF → ⊥) →
           WritesTree places (linked l t) out n after (m + 1) m
       link-joined after put z f = let r = joined l (λ p. z (operations ∙ p)) (λ p. f (operations ∙ p)) in record {
-        tree_written = put ∙ (ap (λ (x : Link). placed now (16 * m) (formula_bytes (joined_of x))) e ∙ r.tree_written);
+        tree_written = put ∙ (ap (λ (x : LinkNumbers). placed now (16 * m) (formula_bytes (joined_of x))) e ∙ r.tree_written);
         tree_next = add-one m ∙ r.tree_next;
         tree_root = r.tree_root;
       }
+
+    -- no link, and a link
+    pub without : (l : ChainLink) → numbers_of None ≡ placed_link places l → WritesTree places (linked l t) out n now m at
+    without l e = link-none (numbers_of None) l e refl
+
+    pub with_link : (link : Link) (l : ChainLink) → link_numbers link ≡ placed_link places l → (after : List ℕ) →
+        after ≡ placed now (16 * m) (formula_bytes (formula_over link at)) → WritesTree places (linked l t) out n after (m + 1) m
+    with_link (If sort p q) l e after put = link_if (link_numbers (If sort p q)) l e after put refl
+    with_link (And bit) l e after put = link-joined (link_numbers (And bit)) l e after put (λ z. absurd (omega arith)) (λ z. absurd (omega arith))
+    with_link (Or bit) l e after put = link-joined (link_numbers (Or bit)) l e after put (λ z. absurd (omega arith)) (λ z. absurd (omega arith))
 
 -- ---- chains
 

@@ -1,15 +1,18 @@
 -- The chains over the statements of a thread: the link that a statement gives, by the kind's number and the statement's instruction. This serves the
 -- code; no call's promise needs it. Assumes nothing.
-use Rattle.std.specs.Prelude.{ℕ, ◌<◌, ◌≡◌, Bool, true, cond, List, eqb}
+use Rattle.std.specs.Prelude.{ℕ, ◌≡◌, Bool, cond, List, eqb}
 use Rattle.records.specs.Instructions.{STORE, MEM, CAS, HALT, EXIT}
 use Rattle.records.specs.Sets.{Set}
 use Rattle.machine.specs.Machine.{needs_empty}
 use Rattle.table.specs.Formulas.{bit_sort, word_sort}
-use Rattle.encoding.specs.Slots.{Kind, Slot, slot, active, swaps, address, loaded, result, accu, bit_one, argument, kind_number, kind_count, barred, write_to, write_value, exits, codes, val, adr, mem, full, halted}
+use Rattle.encoding.specs.Slots.{Kind, Slot, slot, active, swaps, address, loaded, result, accu, bit_one, argument, kind_number, barred, write_to, write_value, exits, codes, val, adr, mem, full, halted}
 use Rattle.encoding.specs.Steps.{Link, skip, if_then, only, sets_accu}
 use Rattle.encoder_slots.specs.Places.{place_from, place_of}
-use Rattle.set_index.specs.Members.{in_class, class_count}
+use Rattle.encoder_slots.specs.Kinds.{number_of}
+use Rattle.set_index.specs.Members.{in_class, class_number}
 use Rattle.encoder_chains.specs.Placed.{placed_link, if_link}
+use Rattle.encoder_chains.specs.declared.given.Effect.{Effect}
+use Rattle.encoder_chains.specs.declared.given.Effect.TheVariants.{One, Accu, Own}
 use Rattle.encoder_chains.specs.declared.given.Giver.{Giver}
 
 -- where the test holds: if the statement executes, or is a CAS that matches, then the effect
@@ -37,14 +40,20 @@ given_by S kind t i = given_link kind t i (S.statement t i).number
 
 -- ---- the same by class
 
--- where the effect lies: the statement's own word of a kind, bit 1, or the thread's accu
-abbrev pub effect_place : Giver → List ℕ → (t i : ℕ) → ℕ
-effect_place g slots t i = cond g.own (place_from slots g.effect t i 2) (cond (eqb g.sort bit_sort) (place_from slots (kind_number bit_one) 0 0 1) (place_from slots (kind_number accu) t 0 2))
+-- the sort of a chain, by its effect, and where the effect lies
+abbrev pub effect_sort : Effect → ℕ
+effect_sort One = bit_sort
+effect_sort Accu = word_sort
+effect_sort (Own kind) = word_sort
 
--- the statements of a class give the links of a chain; past the last class none does
+abbrev pub effect_place : Effect → List ℕ → (t i : ℕ) → ℕ
+effect_place One slots t i = place_from slots (kind_number bit_one) 0 0 1
+effect_place Accu slots t i = place_from slots (kind_number accu) t 0 2
+effect_place (Own kind) slots t i = place_from slots (number_of kind) t i 2
+
+-- the statements of a class give the links of a chain
 pub record Gives (kind : ℕ) (g : Giver) : Type 0 where
   pub link : (t i : ℕ) → Link
-  pub inside : (t i n : ℕ) → given_link kind t i n ≡ cond (in_class g.class n) (link t i) skip
-  pub places : (slots : List ℕ) (t i : ℕ) → g.class < class_count →
-      if_link g.sort (place_from slots g.test t i 0) (effect_place g slots t i) ≡ placed_link (place_of slots) (link t i)
-  pub small : (g.test < kind_count) × (g.effect < kind_count) × (g.own ≡ true → g.sort ≡ word_sort)
+  pub inside : (t i n : ℕ) → given_link kind t i n ≡ cond (in_class (class_number g.class) n) (link t i) skip
+  pub places : (slots : List ℕ) (t i : ℕ) →
+      if_link (effect_sort g.effect) (place_from slots (number_of g.test) t i 0) (effect_place g.effect slots t i) ≡ placed_link (place_of slots) (link t i)

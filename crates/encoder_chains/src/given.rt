@@ -1,201 +1,147 @@
 // The chains whose links the statements of a class give, by the kind of the chain.
-ghost use Rattle.std.specs.Prelude.{◌≡◌, true, false, List, ℕ, ◌+◌, ◌≤◌, ◌<◌};
-ghost use Rattle.records.specs.Sets.{Set};
-ghost use Rattle.encoding.specs.Slots.{Term, kind_number, kind_count, active, accu, bit_one};
-ghost use Rattle.encoding.specs.Steps.{Link as ChainLink, chain as chain_of};
+ghost use Rattle.std.specs.Prelude.{◌≡◌, List, ℕ, ◌+◌, ◌≤◌, ◌<◌, MatchOption, length, get_or};
+ghost use Rattle.records.specs.Sets.{Set, most_threads};
+ghost use Rattle.encoding.specs.Slots.{Term};
+ghost use Rattle.encoding.specs.Steps.{Link as ChainLink, skip, chain as chain_of};
+ghost use Rattle.encoder_slots.specs.Kinds.{number_of};
 ghost use Rattle.encoder_slots.specs.Pieces.{WritesTree, Ready, chain_room};
 ghost use Rattle.encoder_slots.specs.Places.{place_of, place_from};
-ghost use Rattle.encoder_chains.specs.Given.{Gives, given_by};
-ghost use Rattle.set_index.specs.Members.{of_class, class_count};
-ghost use Rattle.encoder_chains.specs.Placed.{placed_link, if_link};
-ghost use Rattle.table.specs.Formulas.{bit_sort, word_sort};
+ghost use Rattle.encoder_chains.specs.Given.{Gives, given_by, given_link, effect_sort, effect_place};
+ghost use Rattle.set_index.specs.Members.{Members, of_class, members_of, class_number};
+ghost use Rattle.encoder_chains.specs.Placed.{placed_link, if_link, link_numbers};
+ghost use Rattle.table.specs.Operations.{sort_number};
 ghost use Rattle.table.specs.Repeats.{last_index};
 
-use crate::Link;
-use crate::written::{Root, put_link};
+use crate::written::Root;
+use crate::{Link, put_links};
 use encoder_slots::start::{BIT0, BIT1, WORD0};
-use encoder_slots::{SIZE, THREADS, kinds, place};
-use table::operations::{BIT, IF, WORD};
+use encoder_slots::{Kind, SIZE, THREADS, place};
+use set_index::members::{self, Class};
+use table::Sort;
 
-// The last class.
-const LAST: u8 = set_index::members::CLASSES - 1;
+// What a link gives where its test holds: bit 1, its thread's accu, or the statement's own word of a kind.
+#[derive(Clone, Copy, Debug, PartialEq, Eq)]
+pub enum Effect {
+    One,
+    Accu,
+    Own(Kind),
+}
 
-// A class whose statements give the links of a chain: if the bit of kind `test` holds, then the statement's own word of kind `effect`;
-// where that is not its own, bit 1 or its thread's accu, by the sort.
-#[derive(Clone, Copy)]
+impl Effect {
+    // The sort of the chain.
+    fn sort(self) -> Sort
+        ensures { sort_number result ≡ effect_sort self }
+    {
+        match self {
+            Effect::One => Sort::Bit,
+            Effect::Accu | Effect::Own(_) => Sort::Word,
+        }
+    }
+
+    // Where it lies for statement i of thread t.
+    fn place(self, slots: &[u32], t: u8, i: u16) -> u64
+        ensures { result ≡ effect_place self slots.now t i }
+    {
+        match self {
+            Effect::One => place(slots, Kind::BitOne, 0, 0, BIT1),
+            Effect::Accu => place(slots, Kind::Accu, t, 0, WORD0),
+            Effect::Own(kind) => place(slots, kind, t, i, WORD0),
+        }
+    }
+}
+
+// A class whose statements give the links of a chain: if the bit of kind `test` holds, then the effect.
+#[derive(Clone, Copy, Debug, PartialEq, Eq)]
 pub struct Giver {
-    pub class: u8,
-    pub test: u8,
-    pub sort: u8,
-    pub own: bool,
-    pub effect: u8,
+    pub class: Class,
+    pub test: Kind,
+    pub effect: Effect,
 }
 
-// Statements of a class that, where they execute, set a bit.
-fn sets_bit(class: u8) -> Giver
-    ensures { result ≡ record { class = class; test = kind_number active; sort = bit_sort; own = false; effect = kind_number bit_one } }
+// Statements of a class that, where they execute, give an effect.
+fn executed(class: Class, effect: Effect) -> Giver
+    ensures { result ≡ record { class = class; test = Kind.Active; effect = effect } }
 {
     Giver {
         class,
-        test: kinds::ACTIVE,
-        sort: BIT,
-        own: false,
-        effect: kinds::BIT_ONE,
-    }
-}
-
-// Statements of a class that, where a bit holds, give their thread's accu.
-fn gives_accu(class: u8, test: u8) -> Giver
-    ensures { result ≡ record { class = class; test = test; sort = word_sort; own = false; effect = kind_number accu } }
-{
-    Giver {
-        class,
-        test,
-        sort: WORD,
-        own: false,
-        effect: kinds::ACCU,
-    }
-}
-
-// Statements of a class that, where a bit holds, give a word of their own.
-fn gives_own(class: u8, test: u8, effect: u8) -> Giver
-    ensures { result ≡ record { class = class; test = test; sort = word_sort; own = true; effect = effect } }
-{
-    Giver {
-        class,
-        test,
-        sort: WORD,
-        own: true,
+        test: Kind::Active,
         effect,
     }
 }
 
-// The statements that give the links of the chain of a kind.
-fn giver_of(kind: u8) -> Giver
-    ensures { Gives kind result }
+// CASs that, where they execute and match, give an effect.
+fn swapped(effect: Effect) -> Giver
+    ensures { result ≡ record { class = Class.Cas; test = Kind.Swaps; effect = effect } }
 {
-    match kind {
-        kinds::BARRED => sets_bit(set_index::members::NEEDS_EMPTY),
-        kinds::WRITE_TO => gives_own(set_index::members::IS_CAS, kinds::SWAPS, kinds::ADDRESS),
-        kinds::WRITE_VALUE => gives_accu(set_index::members::IS_CAS, kinds::SWAPS),
-        kinds::EXITS => sets_bit(set_index::members::IS_EXIT),
-        kinds::CODES => gives_own(set_index::members::IS_EXIT, kinds::ACTIVE, kinds::ARGUMENT),
-        kinds::VAL => gives_accu(set_index::members::IS_STORE, kinds::ACTIVE),
-        kinds::ADR => gives_own(set_index::members::IS_STORE, kinds::ACTIVE, kinds::ADDRESS),
-        kinds::MEM => gives_own(set_index::members::IS_MEM, kinds::ACTIVE, kinds::LOADED),
-        kinds::ACCU => gives_own(set_index::members::SETS_ACCU, kinds::ACTIVE, kinds::RESULT),
-        kinds::FULL => sets_bit(set_index::members::IS_STORE),
-        kinds::HALTED => sets_bit(set_index::members::IS_HALT),
-        _ => sets_bit(set_index::members::CLASSES),
+    Giver {
+        class: Class::Cas,
+        test: Kind::Swaps,
+        effect,
     }
 }
 
-// Writes the links of the statements of a class over a tree: if the bit of kind `test` holds, then what lies at `effect`.
-fn fixed_links(
+// The statements that give the links of the chain of a kind; of other kinds no statement gives one.
+fn giver_of(kind: Kind) -> Option<Giver>
+    ensures { MatchOption result ((t i n : ℕ) → given_link (number_of kind) t i n ≡ skip) (Gives (number_of kind)) }
+{
+    let giver = match kind {
+        Kind::Barred => executed(Class::NeedsEmpty, Effect::One),
+        Kind::WriteTo => swapped(Effect::Own(Kind::Address)),
+        Kind::WriteValue => swapped(Effect::Accu),
+        Kind::Exits => executed(Class::Exit, Effect::One),
+        Kind::Codes => executed(Class::Exit, Effect::Own(Kind::Argument)),
+        Kind::Val => executed(Class::Store, Effect::Accu),
+        Kind::Adr => executed(Class::Store, Effect::Own(Kind::Address)),
+        Kind::Mem => executed(Class::Mem, Effect::Own(Kind::Loaded)),
+        Kind::Accu => executed(Class::SetsAccu, Effect::Own(Kind::Result)),
+        Kind::Full => executed(Class::Store, Effect::One),
+        Kind::Halted => executed(Class::Halt, Effect::One),
+        _ => return None,
+    };
+    Some(giver)
+}
+
+// The link that statement number j of a giver's class gives.
+fn giver_link(members: &[u8], slots: &[u32], giver: Giver, t: u8, j: u8) -> Link
+    ensures { (S : Set) → Members S members.now → t < most_threads
+        → j < length (members_of S (class_number giver.class) t)
+        → (let i = get_or (members_of S (class_number giver.class) t) j 0 in
+        link_numbers result ≡ if_link (effect_sort giver.effect) (place_from slots.now (number_of giver.test) t i 0) (effect_place giver.effect slots.now t i)) }
+{
+    let i = members::member(members, giver.class, t, u16::from(j));
+    Link::If {
+        sort: giver.effect.sort(),
+        test: place(slots, giver.test, t, i, BIT0),
+        effect: giver.effect.place(slots, t, i),
+    }
+}
+
+// Writes the links of a giver's statements of thread t over a tree.
+fn giver_links(
     members: &[u8],
     slots: &[u32],
     out: &mut [u8],
-    class: u8,
-    test: u8,
-    sort: u8,
-    effect: u64,
+    giver: Giver,
     t: u8,
     n: u32,
     base: u64,
 ) -> Root
-    ensures { ((S : Set) (cs lists : List ℕ) (links : ℕ → ChainLink) (tree : Term) (start : List ℕ) (m : ℕ) → test < kind_count → t < S.threads → n + chain_room ≤ last_index
+    ensures { ((S : Set) (cs lists : List ℕ) (links : ℕ → ChainLink) (tree : Term) (start : List ℕ) (m : ℕ) → t < S.threads → n + chain_room ≤ last_index
         → Ready S cs members.now lists slots.now m
-        → (class < class_count → (i : ℕ) → if_link sort (place_from slots.now test t i 0) effect ≡ placed_link (place_of slots.now) (links i))
-        → WritesTree (place_of slots.now) tree start m out.old n base
-        → WritesTree (place_of slots.now) (chain_of (of_class S class t links) (S.count t) tree) start m out.new result.next result.at)
-        × (result.next ≤ n + chain_room) }
-{
-    let mut tree = Root { next: n, at: base };
-    // With these known, the compiler drops the tests of places in the loop.
-    if LAST < class {
-        return tree;
-    }
-    if kinds::LAST < test {
-        return tree;
-    }
-    if THREADS <= t {
-        return tree;
-    }
-    if slots.len() != SIZE {
-        return tree;
-    }
-    if members.len() != set_index::members::LENGTH {
-        return tree;
-    }
-    let many = set_index::members::count_of(members, class, t);
-    let mut j: u16 = 0;
-    while j < many {
-        let i = set_index::members::member(members, class, t, j);
-        let link = Link {
-            operation: IF,
-            sort,
-            a: place(slots, test, t, i, BIT0),
-            b: effect,
-        };
-        tree = put_link(out, tree.next, tree.at, link);
-        j += 1;
-    }
-    tree
-}
-
-// The same where the effect is the statement's own word of a kind.
-fn own_links(
-    members: &[u8],
-    slots: &[u32],
-    out: &mut [u8],
-    class: u8,
-    test: u8,
-    effect: u8,
-    t: u8,
-    n: u32,
-    base: u64,
-) -> Root
-    ensures { ((S : Set) (cs lists : List ℕ) (links : ℕ → ChainLink) (tree : Term) (start : List ℕ) (m : ℕ) → test < kind_count → effect < kind_count → t < S.threads → n + chain_room ≤ last_index
-        → Ready S cs members.now lists slots.now m
-        → (class < class_count → (i : ℕ) → if_link word_sort (place_from slots.now test t i 0) (place_from slots.now effect t i 2)
+        → ((i : ℕ) → if_link (effect_sort giver.effect) (place_from slots.now (number_of giver.test) t i 0) (effect_place giver.effect slots.now t i)
         ≡ placed_link (place_of slots.now) (links i))
         → WritesTree (place_of slots.now) tree start m out.old n base
-        → WritesTree (place_of slots.now) (chain_of (of_class S class t links) (S.count t) tree) start m out.new result.next result.at)
+        → WritesTree (place_of slots.now) (chain_of (of_class S (class_number giver.class) t links) (S.count t) tree) start m out.new result.next result.at)
         × (result.next ≤ n + chain_room) }
 {
-    let mut tree = Root { next: n, at: base };
-    if LAST < class {
-        return tree;
+    // With these known, the compiler drops the tests of places in the loop.
+    if THREADS <= t || slots.len() != SIZE || members.len() != members::LENGTH {
+        return Root { next: n, at: base };
     }
-    if kinds::LAST < test {
-        return tree;
-    }
-    if kinds::LAST < effect {
-        return tree;
-    }
-    if THREADS <= t {
-        return tree;
-    }
-    if slots.len() != SIZE {
-        return tree;
-    }
-    if members.len() != set_index::members::LENGTH {
-        return tree;
-    }
-    let many = set_index::members::count_of(members, class, t);
-    let mut j: u16 = 0;
-    while j < many {
-        let i = set_index::members::member(members, class, t, j);
-        let link = Link {
-            operation: IF,
-            sort: WORD,
-            a: place(slots, test, t, i, BIT0),
-            b: place(slots, effect, t, i, WORD0),
-        };
-        tree = put_link(out, tree.next, tree.at, link);
-        j += 1;
-    }
-    tree
+    let many = members::count_of(members, giver.class, t);
+    put_links(out, many as u8, n, base, |j| {
+        Some(giver_link(members, slots, giver, t, j))
+    })
 }
 
 // Writes the links that the statements of thread t give to the chain of a kind over a tree.
@@ -203,7 +149,7 @@ pub fn given_chain(
     members: &[u8],
     slots: &[u32],
     out: &mut [u8],
-    kind: u8,
+    kind: Kind,
     t: u8,
     n: u32,
     base: u64,
@@ -211,21 +157,11 @@ pub fn given_chain(
     ensures { ((S : Set) (cs lists : List ℕ) (tree : Term) (start : List ℕ) (m : ℕ) → t < S.threads → n + chain_room ≤ last_index
         → Ready S cs members.now lists slots.now m
         → WritesTree (place_of slots.now) tree start m out.old n base
-        → WritesTree (place_of slots.now) (chain_of (given_by S kind t) (S.count t) tree) start m out.new result.next result.at)
+        → WritesTree (place_of slots.now) (chain_of (given_by S (number_of kind) t) (S.count t) tree) start m out.new result.next result.at)
         × (result.next ≤ n + chain_room) }
 {
-    let giver = giver_of(kind);
-    let class = giver.class;
-    let test = giver.test;
-    if giver.own {
-        return own_links(members, slots, out, class, test, giver.effect, t, n, base);
+    match giver_of(kind) {
+        Some(giver) => giver_links(members, slots, out, giver, t, n, base),
+        None => Root { next: n, at: base },
     }
-    if giver.sort == BIT {
-        let one = place(slots, kinds::BIT_ONE, 0, 0, BIT1);
-        return fixed_links(members, slots, out, class, test, BIT, one, t, n, base);
-    }
-    let accu = place(slots, kinds::ACCU, t, 0, WORD0);
-    fixed_links(
-        members, slots, out, class, test, giver.sort, accu, t, n, base,
-    )
 }

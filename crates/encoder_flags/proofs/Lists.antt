@@ -1,6 +1,6 @@
 -- The lists of the jumps that name each statement: what they say of the statements passed over. Assumes nothing.
 use Prim.Native.Nat.{ℕ, suc, ◌+◌, ◌≤◌, ◌<◌}
-use mathlib.Core.Path.{◌≡◌, sym, ◌∙◌, subst}
+use mathlib.Core.Path.{◌≡◌, ap, sym, ◌∙◌, subst}
 use mathlib.Core.Bool.{true, false}
 use mathlib.Core.List.{List, []}
 use native.Mathlib.Omega.{arith}
@@ -8,7 +8,8 @@ use native.Mathlib.Decide.{dec_lt}
 use lib.ListN.{get_or}
 use borrow.Author.Tests.{ne_eqb}
 use Rattle.base.proofs.Choice.{refuted}
-use Rattle.records.specs.Sets.{Set, most_statements}
+use Rattle.records.specs.declared.Statement.{Statement}
+use Rattle.records.specs.Sets.{Set, statement_at, most_statements}
 use Rattle.encoding.specs.Steps.{skip, leads}
 use Rattle.set_index.specs.Members.{names_target}
 use Rattle.set_index.specs.ListTables.{JumpsOf, onward, first_jumps, next_jumps, no_statement}
@@ -16,6 +17,10 @@ use Rattle.set_index.proofs.Growing.{widened}
 use Rattle.set_index.proofs.Making.{onward-after, onward-is}
 use Rattle.encoder_chains.proofs.Leads.{leads-elsewhere}
 use Rattle.encoder_flags.specs.Named.{NamedFirst}
+
+-- a statement read, by the number that its place counts from the thread's first
+pub read_on : (set : List ℕ) (first : ℕ) {i x : ℕ} {s : Statement} → s ≡ statement_at set (first + x) → x ≡ i → s ≡ statement_at set (first + i)
+read_on set first e f = e ∙ ap (λ (y : ℕ). statement_at set (first + y)) f
 
 module _ (S : Set) (t count j : ℕ) (small : j < most_statements) where
   -- no jump names j

@@ -14,8 +14,7 @@ ghost use Rattle.encoder_flags.specs.Named.{NamedFirst};
 ghost use Rattle.table.specs.Repeats.{last_index};
 
 use encoder_chains::{Root, edges, put_link};
-use encoder_slots::kinds::{BIT_ZERO, CHOICE, FLAG};
-use encoder_slots::{LINE, SIZE, start};
+use encoder_slots::{Kind, LINE, SIZE, start};
 use records::Layout;
 use set_index::jumps::{first as first_jump, following};
 use set_index::lists;
@@ -65,8 +64,9 @@ fn named_links(
 {
     let mut tree = Root { next: n, at: base };
     let mut i = hit;
+    // Each jump leads to the next one by the lists: no range and no iterator says which statements come.
     while i < end {
-        let statement = records::statement_at(set, first + (i as u32));
+        let statement = records::statement_at(set, first + u32::from(i));
         let link = edges::named(statement.number, slots, t, i);
         tree = put_link(out, tree.next, tree.at, link);
         i = following(lists, t, i);
@@ -101,7 +101,7 @@ fn jump_links(
     }
     let before = j - 1;
     let earlier = named_links(set, first, lists, slots, out, t, hit, before, n, base);
-    let statement = records::statement_at(set, first + (before as u32));
+    let statement = records::statement_at(set, first + u32::from(before));
     let link = edges::leads(statement, slots, t, j, before);
     let tree = put_link(out, earlier.tree.next, earlier.tree.at, link);
     let next = past(lists, t, earlier.hit, before);
@@ -136,7 +136,7 @@ fn flag_links(
     }
     if 0 < j {
         let before = j - 1;
-        let statement = records::statement_at(set, first + (before as u32));
+        let statement = records::statement_at(set, first + u32::from(before));
         let link = edges::follows(statement.number, slots, t, before);
         return put_link(out, n, base, link);
     }
@@ -163,11 +163,11 @@ fn flag(
         → Writes (entry_of S cs k flag_kind t j) out.old slots.old n out.new slots.new result)
         × (result ≤ n + entry_room) }
 {
-    let statement = records::statement_at(set, first + (j as u32));
+    let statement = records::statement_at(set, first + u32::from(j));
     let base = encoder_bases::put_flag(statement, slots, out, executes, zero, t, j, n);
     let next = n + base.count;
     let tree = flag_links(set, first, lists, slots, out, t, j, count, next, base.root);
-    encoder_slots::set_place(slots, FLAG, t, j, tree.at);
+    encoder_slots::set_place(slots, Kind::Flag, t, j, tree.at);
     tree.next
 }
 
@@ -187,15 +187,13 @@ fn each_flag(
         → Writes (line_of S cs k flag_kind t) out.old slots.old n out.new slots.new result)
         × (result ≤ n + line_room) }
 {
-    let executes = encoder_slots::place(slots, CHOICE, 0, t as u16, start::BIT0);
-    let zero = encoder_slots::place(slots, BIT_ZERO, 0, 0, start::BIT0);
+    let executes = encoder_slots::place(slots, Kind::Choice, 0, u16::from(t), start::BIT0);
+    let zero = encoder_slots::place(slots, Kind::BitZero, 0, 0, start::BIT0);
     let mut next = n;
-    let mut j: u16 = 0;
-    while j < count {
+    for j in 0..count {
         next = flag(
             set, first, lists, slots, out, t, j, count, executes, zero, next,
         );
-        j += 1;
     }
     next
 }
@@ -216,21 +214,16 @@ pub fn flags(
         out.old slots.old n out.new slots.new result)
         × (result ≤ n + line_room) }
 {
-    let thread = t as usize;
+    let thread = usize::from(t);
     if Layout::THREADS <= thread {
         return n;
     }
     let count = layout.counts[thread];
-    if Layout::STATEMENTS < count {
-        return n;
-    }
-    if slots.len() != SIZE {
-        return n;
-    }
-    if lists.len() != lists::LENGTH {
-        return n;
-    }
-    if LIMIT < n {
+    if Layout::STATEMENTS < count
+        || slots.len() != SIZE
+        || lists.len() != lists::LENGTH
+        || LIMIT < n
+    {
         return n;
     }
     let first = records::first(layout, t);

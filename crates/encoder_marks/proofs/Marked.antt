@@ -2,7 +2,7 @@
 use Prim.Native.Nat.{ℕ, ◌<◌}
 use mathlib.Core.Path.{◌≡◌, refl, sym, subst}
 use mathlib.Core.Bool.{true, ◌||◌}
-use mathlib.Core.List.{List, [], ◌∷◌}
+use mathlib.Core.List.{List}
 use native.Mathlib.Omega.{arith}
 use lib.Dec.{eqb}
 use lib.ListN.{length, get_or}
@@ -16,7 +16,6 @@ use Rattle.encoder_slots.proofs.Entries.{tree_of}
 use Rattle.encoder_bases.specs.declared.written.WrittenTree.{WrittenTree}
 use Rattle.encoder_bases.specs.SmallTrees.{Puts}
 use Rattle.base.proofs.Choice.{either}
-use Rattle.encoder_slots.proofs.Matches.{Apart}
 use Rattle.encoder_marks.specs.Marked.{marked}
 
 -- what holds of each of the three
@@ -29,9 +28,11 @@ each P one two three n e =
 pub marked-known : (n : ℕ) → marked n ≡ true → n < kind_count
 marked-known = each (λ (n : ℕ). n < kind_count) (omega arith) (omega arith) (omega arith)
 
--- the last one, as a `match` leaves it
-pub marked-last : (n : ℕ) → marked n ≡ true → Apart n (kind_number raised ∷ kind_number held ∷ []) → n ≡ kind_number mark
-marked-last = each (λ (n : ℕ). Apart n (kind_number raised ∷ kind_number held ∷ []) → n ≡ kind_number mark) (λ r. absurd (r.0.1 refl)) (λ r. absurd (r.1 refl)) (λ r. refl)
+-- the last one
+pub marked-last : (n : ℕ) → marked n ≡ true → (n ≡ kind_number held → ⊥) → (n ≡ kind_number raised → ⊥) → n ≡ kind_number mark
+marked-last =
+    each (λ (n : ℕ). (n ≡ kind_number held → ⊥) → (n ≡ kind_number raised → ⊥) → n ≡ kind_number mark)
+    (λ p q. absurd (p refl)) (λ p q. absurd (q refl)) (λ p q. refl)
 
 module _ (S : Set) (cs : List ℕ) (k : ℕ) where
   pub marked-rows : (n : ℕ) → marked n ≡ true → rows S cs k (shape (kind_at n)) ≡ S.threads

@@ -1,5 +1,5 @@
 -- Laws of the checkpoints noted as seen. Assumes nothing.
-use Prim.Native.Nat.{ℕ, ◌+◌, ◌≤◌, ◌<◌}
+use Prim.Native.Nat.{ℕ, zero, suc, ◌+◌, ◌≤◌, ◌<◌}
 use mathlib.Core.Path.{◌≡◌, refl, ap, sym, ◌∙◌}
 use mathlib.Core.Bool.{Bool, true, false, not, ◌||◌}
 use mathlib.Core.List.{List}
@@ -7,10 +7,13 @@ use native.Mathlib.Decide.{ℕ_discrete, dec_lt}
 use native.Mathlib.Numerals.{add-one}
 use native.Mathlib.Omega.{arith}
 use lib.Dec.{eqb}
-use lib.ListN.{length, get_or, set, replicate, length-replicate, get_or-replicate, get_or-eq_default}
+use lib.ListN.{length, get_or, take, set, replicate, length-replicate, get_or-replicate, get_or-eq_default}
 use lib.Seq.{get_or-set_same, get_or-set_other}
 use Rattle.base.specs.Below.{some, number}
-use Rattle.base.proofs.Below.{number-stays, number_ext}
+use Rattle.std.proofs.Math.Seq.{take-length}
+use Rattle.std.specs.List.{count_by}
+use Rattle.std.proofs.lemmas.List.Sums.{count_by_more_yes, count_by_more_no}
+use Rattle.base.proofs.Below.{number-stays, number_ext, number-none, number-yes, number-no}
 use Rattle.base.proofs.Choice.{or_no, or_three, or_right_true}
 use Rattle.encoder_size.specs.Seen.{is_seen, Notes}
 
@@ -103,3 +106,14 @@ pub seen-number : (n m : ℕ) (test : ℕ → Bool) (after : List ℕ) → n ≤
 seen-number n m test after few w =
     number-stays (is_seen after) n m few (λ p h l. w.past p h ∙ seen_none m p)
     ∙ number_ext (is_seen after) test n (λ p h. w.below p h ∙ ap (λ (b : Bool). b || test p) (seen_none m p))
+
+-- as many as the places of a list that pass
+pub number-list : (f : ℕ → Bool) (xs : List ℕ) → number (length xs) (λ p. f (get_or xs p 0)) ≡ count_by f xs
+number-list f xs = go (length xs) (omega arith) ∙ ap (count_by f) (take-length xs)
+  where
+    go : (i : ℕ) → i ≤ length xs → number i (λ p. f (get_or xs p 0)) ≡ count_by f (take i xs)
+    go zero h = number-none _ 0 (λ i l. absurd (omega arith))
+    go (suc i) h = elim (f (get_or xs i 0)) as (λ b. f (get_or xs i 0) ≡ b → number (suc i) (λ p. f (get_or xs p 0)) ≡ count_by f (take (suc i) xs)) [
+      | true ↦ λ e. number-yes _ i e ∙ (ap suc (go i (omega arith)) ∙ (sym (add-one (count_by f (take i xs))) ∙ sym (rw add-one at (count_by_more_yes f xs i 0 (omega arith) e))))
+      | false ↦ λ e. number-no _ i e ∙ (go i (omega arith) ∙ sym (rw add-one at (count_by_more_no f xs i 0 (omega arith) e)))
+    ] refl

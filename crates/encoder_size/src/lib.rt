@@ -15,8 +15,7 @@ ghost use Rattle.encoder_size.specs.Seen.{is_seen, checks_at, Notes};
 ghost use Rattle.encoder_size.specs.Sizes.{Limits, total, own_records, within as within_of, lead_records, check_records, statement_records, thread_records, table_room};
 ghost use Rattle.machine.specs.Runs.{most_steps};
 
-use records::instructions::{CHECK, EXIT, HALT, JMP};
-use records::{Layout, Statement};
+use records::{Instruction, Layout, Statement};
 use set_index::points::Points;
 
 // The most checkpoints.
@@ -45,42 +44,36 @@ const GOAL: u64 = 3;
 // ---- statements
 
 // The records of a direct statement of instruction n, without those of the links that lead from it and that raise its mark.
+#[tactic(auto, unfolding(crate::specs::Sizes::own_list))]
 fn own(n: u8) -> u64
     ensures { (result ≡ own_records n) × (result ≤ 10) }
 {
-    if n < Statement::INSTRUCTIONS {
-        // The bytes of a literal lie in the program: an array would be made anew for each statement. By instruction:
-        // LOAD STORE FENCE, ADD ADDI SUB SUBI MUL MULI, JMP JZ JNZ JS JNS JNZNS, MEM CAS, HALT EXIT CHECK.
-        return base::byte_at(
-            b"\x07\x06\x03\x08\x04\x08\x04\x08\x04\x02\x04\x04\x04\x04\x06\x08\x0a\x03\x03\x02",
-            n as usize,
-        ) as u64;
-    }
-    2
+    // The bytes of a literal lie in the program: an array would be made anew for each statement. By instruction:
+    // LOAD STORE FENCE, ADD ADDI SUB SUBI MUL MULI, JMP JZ JNZ JS JNS JNZNS, MEM CAS, HALT EXIT CHECK.
+    let records =
+        b"\x07\x06\x03\x08\x04\x08\x04\x08\x04\x02\x04\x04\x04\x04\x06\x08\x0a\x03\x03\x02";
+    u64::from(records.get(usize::from(n)).copied().unwrap_or(2))
 }
 
 // 1 for a statement j that a thread of `count` statements has.
 fn within(j: u32, count: u16) -> u64
     ensures { (result ≡ within_of j count) × (result ≤ 1) }
 {
-    if j < (count as u32) {
-        return 1;
-    }
-    0
+    u64::from(j < u32::from(count))
 }
 
 // To how many statements of its thread statement i leads.
 fn leads(n: u8, target: u16, i: u16, count: u16) -> u64
     ensures { (result ≡ lead_records n target i count) × (result ≤ 2) }
 {
-    if (n == HALT) | (n == EXIT) {
+    if set_index::rests(n) {
         return 0;
     }
-    let next = (i as u32) + 1;
-    let there = target as u32;
+    let next = u32::from(i) + 1;
+    let there = u32::from(target);
     let conditional = set_index::is_conditional(n);
     // A jump to the next statement goes there either way.
-    if (n == JMP) | (conditional & (there == next)) {
+    if (n == Instruction::Jmp as u8) | (conditional & (there == next)) {
         return within(there, count);
     }
     if conditional {
@@ -100,15 +93,12 @@ fn checks(points: Points, c: u16, seen: &mut [u8]) -> u64
     if seen.len() != POINTS {
         return 0;
     }
-    let n = set_index::points::points_count(points);
-    let mut found: u64 = 0;
-    let mut p: u16 = 0;
-    while p < n {
+    let mut found = 0;
+    for p in 0..set_index::points::points_count(points) {
         if c == set_index::points::checkpoint(points, p) {
             found += 1;
-            seen[p as usize] = 1;
+            seen[usize::from(p)] = 1;
         }
-        p += 1;
     }
     found
 }
@@ -120,7 +110,7 @@ fn raises(points: Points, n: u8, argument: u16, seen: &mut [u8]) -> u64
         × (length seen.new ≡ length seen.old)
         × Notes (length (listed points)) (checks_at (listed points) n argument) seen.old seen.new }
 {
-    if n == CHECK {
+    if n == Instruction::Check as u8 {
         return checks(points, argument, seen);
     }
     0
@@ -159,29 +149,19 @@ fn statements(set: &[u8], layout: Layout, points: Points, t: u8, count: u16, see
         × Notes (length (listed points)) (λ p. contains (set_by set.now layout) t (get_or (listed points) p 0)) seen.old seen.new }
 {
     let first = records::first(layout, t);
-    let mut n: u64 = 0;
-    let mut i: u16 = 0;
-    while i < count {
-        let s = records::statement_at(set, first + (i as u32));
+    let mut n = 0;
+    for i in 0..count {
+        let s = records::statement_at(set, first + u32::from(i));
         n += statement(points, s, i, count, seen);
-        i += 1;
     }
     n
 }
 
 // How many checkpoints are noted as seen.
-fn marks(seen: &[u8]) -> u64
+fn marks(seen: &[u8; POINTS]) -> u64
     ensures { (result ≡ number_below most_checkpoints (is_seen seen.now)) × (result ≤ most_checkpoints) }
 {
-    let mut found: u64 = 0;
-    let mut p: usize = 0;
-    while p < POINTS {
-        if base::byte_at(seen, p) != 0 {
-            found += 1;
-        }
-        p += 1;
-    }
-    found
+    seen.iter().filter(|&&mark| mark != 0).count() as u64
 }
 
 // The records of thread t.
@@ -202,14 +182,11 @@ fn step_records(set: &[u8], layout: Layout, points: Points) -> u64
         × (Limits layout → result ≤ 3273)
         × (result ≤ 401086198) }
 {
-    let threads = layout.threads;
-    let mut n: u64 = 0;
-    let mut t: u8 = 0;
-    while t < threads {
+    let mut n = 0;
+    for t in 0..layout.threads {
         n += thread(set, layout, points, t);
-        t += 1;
     }
-    n + (set_index::points::points_count(points) as u64) + STEP
+    n + u64::from(set_index::points::points_count(points)) + STEP
 }
 
 // How many statements there are.
@@ -218,12 +195,9 @@ fn all_statements(layout: Layout) -> u64
         × (Limits layout → result ≤ most_records)
         × (result ≤ 16711425) }
 {
-    let threads = layout.threads;
-    let mut n: u64 = 0;
-    let mut t: u8 = 0;
-    while t < threads {
-        n += records::count(layout, t) as u64;
-        t += 1;
+    let mut n = 0;
+    for t in 0..layout.threads {
+        n += u64::from(records::count(layout, t));
     }
     n
 }
@@ -235,5 +209,5 @@ pub fn table_records(set: &[u8], layout: Layout, points: Points, map: &[u8], bou
 {
     let step = step_records(set, layout, points);
     let before = FIRST + all_statements(layout) + CELL * ((map.len() / Layout::CELL) as u64);
-    before + (bound as u64) * step + GOAL
+    before + u64::from(bound) * step + GOAL
 }

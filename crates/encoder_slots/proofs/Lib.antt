@@ -7,3 +7,4 @@ pub mod Entries
 pub mod Idle
 pub mod Ready
 pub mod Matches
+pub mod Numbers

@@ -2,3 +2,4 @@
 pub mod Places
 pub mod Pieces
 pub mod Idle
+pub mod Kinds

@@ -1,16 +1,18 @@
 // The places of a table's values in an array, and the kinds by number.
 #![tactic(auto)]
 
-ghost use Rattle.std.specs.Prelude.{◌≡◌, ◌<◌, length};
+ghost use Rattle.std.specs.Prelude.{◌≡◌, ◌<◌, length, true};
 ghost use Rattle.base.specs.Below.{number};
 ghost use Rattle.table.specs.Programs.{put};
 ghost use Rattle.encoding.specs.Slots.{slot, same, kind_at, kind_count};
-ghost use Rattle.encoder_slots.specs.Places.{wide, width, begin, kept_at, place_from, place_of, size};
+ghost use Rattle.encoder_slots.specs.Kinds.{number_of};
+ghost use Rattle.encoder_slots.specs.Places.{wide, width, begin, index_of, fits, kept_at, place_from, place_of, size};
 ghost use Rattle.records.specs.Sets.{most_threads};
 
-pub mod kinds;
+mod kinds;
 pub mod start;
 
+pub use kinds::Kind;
 use records::Layout;
 
 // The most records of one value: a tree of four and a link for each statement of a thread.
@@ -36,26 +38,29 @@ const WIDE_MORE: usize = Layout::THREADS * ((Layout::STATEMENTS - NARROW) as usi
 const WIDE_KINDS: usize = 9;
 
 // How many places there are.
-pub const SIZE: usize = (kinds::COUNT as usize) * NARROW_ROWS + WIDE_KINDS * WIDE_MORE;
+pub const SIZE: usize = Kind::COUNT * NARROW_ROWS + WIDE_KINDS * WIDE_MORE;
 
 // Whether a kind has a value for each statement.
-fn wide(kind: u8) -> bool
-    ensures { result ≡ wide kind }
+fn wide(kind: Kind) -> bool
+    ensures { result ≡ wide (number_of kind) }
 {
-    (kind == kinds::ACTIVE)
-        | (kind == kinds::ADDRESS)
-        | (kind == kinds::LOADED)
-        | (kind == kinds::SWAPS)
-        | (kind == kinds::RESULT)
-        | (kind == kinds::TEST)
-        | (kind == kinds::NOT_TEST)
-        | (kind == kinds::ARGUMENT)
-        | (kind == kinds::FLAG)
+    matches!(
+        kind,
+        Kind::Active
+            | Kind::Address
+            | Kind::Loaded
+            | Kind::Swaps
+            | Kind::Result
+            | Kind::Test
+            | Kind::NotTest
+            | Kind::Argument
+            | Kind::Flag
+    )
 }
 
 // The length of a kind's rows.
-fn width(kind: u8) -> u16
-    ensures { result ≡ width kind }
+fn width(kind: Kind) -> u16
+    ensures { result ≡ width (number_of kind) }
 {
     if wide(kind) {
         return Layout::STATEMENTS;
@@ -64,83 +69,80 @@ fn width(kind: u8) -> u16
 }
 
 // How many kinds before this one have a value for each statement.
-fn wide_before(kind: u8) -> u8
-    ensures { result ≡ number kind wide }
+fn wide_before(kind: Kind) -> u8
+    ensures { result ≡ number (number_of kind) wide }
 {
-    if kind <= kinds::ACTIVE {
+    let at = kind as u8;
+    if at <= Kind::Active as u8 {
         return 0;
     }
-    if kind <= kinds::ADDRESS {
+    if at <= Kind::Address as u8 {
         return 1;
     }
-    if kind <= kinds::FLUSH_TO {
-        return kind - kinds::ONE_PERMITTED;
+    if at <= Kind::FlushTo as u8 {
+        return at - Kind::OnePermitted as u8;
     }
-    if kind <= kinds::FLAG {
+    if at <= Kind::Flag as u8 {
         return 7;
     }
-    if kind <= kinds::ARGUMENT {
-        return 8;
-    }
-    9
+    8
 }
 
 // Where the rows of a kind begin, without a loop: a caller who names the kind has a constant once compiled.
-fn begin(kind: u8) -> usize
-    ensures { result ≡ begin kind }
+fn begin(kind: Kind) -> usize
+    ensures { result ≡ begin (number_of kind) }
 {
-    NARROW_ROWS * (kind as usize) + WIDE_MORE * (wide_before(kind) as usize)
+    NARROW_ROWS * (kind as usize) + WIDE_MORE * usize::from(wide_before(kind))
+}
+
+// Whether a kind has a value for a and b.
+fn fits(kind: Kind, a: u8, b: u16) -> bool
+    ensures { result ≡ fits (number_of kind) a b }
+{
+    (a < THREADS) & (b < width(kind))
+}
+
+// The index of a kind's value for a and b, which it has.
+fn index_of(kind: Kind, a: u8, b: u16) -> usize
+    requires { fits (number_of kind) a b ≡ true }
+    ensures { (result ≡ index_of (number_of kind) a b) × (result < size) }
+{
+    begin(kind) + (usize::from(width(kind)) * usize::from(a) + usize::from(b))
 }
 
 // The number kept for a kind's value for a and b.
-fn kept(slots: &[u32], kind: u8, a: u8, b: u16) -> u32
-    ensures { result ≡ kept_at slots.now kind a b }
+fn kept(slots: &[u32], kind: Kind, a: u8, b: u16) -> u32
+    ensures { result ≡ kept_at slots.now (number_of kind) a b }
 {
-    if a < THREADS {
-        let length = width(kind);
-        if b < length {
-            let i = begin(kind) + ((length as usize) * (a as usize) + (b as usize));
-            // A caller whose array has this length and who names the kind needs no test here once compiled.
-            if slots.len() == SIZE {
-                if kind < kinds::COUNT {
-                    return slots[i];
-                }
-                return 0;
-            }
-            if i < slots.len() {
-                return slots[i];
-            }
-        }
+    if !fits(kind, a, b) {
+        return 0;
     }
-    0
+    let i = index_of(kind, a, b);
+    // A caller whose array has this length needs no test here once compiled.
+    if slots.len() == SIZE {
+        return slots[i];
+    }
+    slots.get(i).copied().unwrap_or(0)
 }
 
 // The record of a kind's value for a and b, which lies at `start` unless it was set.
-pub fn place(slots: &[u32], kind: u8, a: u8, b: u16, start: u64) -> u64
-    ensures { result ≡ place_from slots.now kind a b start }
+pub fn place(slots: &[u32], kind: Kind, a: u8, b: u16, start: u64) -> u64
+    ensures { result ≡ place_from slots.now (number_of kind) a b start }
 {
     let number = kept(slots, kind, a, b);
     if number == 0 {
         return start;
     }
-    (number as u64) - 1
+    u64::from(number) - 1
 }
 
 // Sets the record of a kind's value for a and b, if there is a place for it.
-pub fn set_place(slots: &mut [u32], kind: u8, a: u8, b: u16, index: u64)
+pub fn set_place(slots: &mut [u32], kind: Kind, a: u8, b: u16, index: u64)
     ensures { (length slots.new ≡ length slots.old)
-        × (length slots.old ≡ size → kind < kind_count → a < most_threads → b < width kind → index < 4294967295
-        → place_of slots.new ≡ put same (place_of slots.old) (slot (kind_at kind) a b) index) }
+        × (length slots.old ≡ size → number_of kind < kind_count → a < most_threads → b < width (number_of kind) → index < 4294967295
+        → place_of slots.new ≡ put same (place_of slots.old) (slot (kind_at (number_of kind)) a b) index) }
 {
-    if a < THREADS {
-        let length = width(kind);
-        if b < length {
-            let i = begin(kind) + ((length as usize) * (a as usize) + (b as usize));
-            if slots.len() == SIZE {
-                if kind < kinds::COUNT {
-                    slots[i] = ((index % 4294967296 + 1) % 4294967296) as u32;
-                }
-            }
-        }
+    if fits(kind, a, b) & (slots.len() == SIZE) {
+        slots[index_of(kind, a, b)] = ((index % 4294967296 + 1) % 4294967296) as u32;
     }
 }

@@ -1,6 +1,6 @@
 -- Kinds that have one value for each statement: their trees, their number, and rows of them written. Assumes nothing.
 use Prim.Native.Nat.{ℕ, ◌+◌, ◌<◌}
-use mathlib.Core.Path.{◌≡◌, refl, ap, sym, ◌∙◌, subst}
+use mathlib.Core.Path.{◌≡◌, refl, ap, ap₂, sym, ◌∙◌, subst}
 use mathlib.Core.Bool.{Bool, true, false, not, ◌&&◌, ◌||◌, true≢false}
 use mathlib.Core.List.{List, [], ◌∷◌}
 use lib.Dec.{eqb}
@@ -10,7 +10,8 @@ use Rattle.base.specs.Below.{every}
 use Rattle.base.proofs.Below.{every-at}
 use Rattle.base.proofs.Choice.{and_left, and_right, or_false, chosen}
 use Rattle.records.specs.declared.Layout.{Layout}
-use Rattle.records.specs.Sets.{Set, set_by}
+use Rattle.records.specs.declared.Statement.{Statement}
+use Rattle.records.specs.Sets.{Set, set_by, statement_at}
 use Rattle.table.specs.Programs.{upto}
 use Rattle.encoding.specs.Slots.{Kind, kind_number, Slot, slot, Term, kinds, kind_at, active, address, argument, loaded, not_test, result, swaps, test, kind_count}
 use Rattle.encoding.specs.Steps.{Shape, per_choice, per_thread, per_statement, per_checkpoint, per_mark, before_thread, before_choice, single, shape, chain, link, links, base, columns, kept, entry, line}
@@ -23,6 +24,10 @@ use Rattle.encoder_slots.proofs.Matches.{Apart}
 use Rattle.records.specs.StatementRecords.{Stands}
 use Rattle.records.proofs.StatementRecords.{stands_by}
 use Rattle.encoder_statements.specs.StatementValues.{Line}
+
+-- a statement read, by the numbers that its place is the sum of
+pub read_as : (set : List ℕ) {first i x y : ℕ} {s : Statement} → s ≡ statement_at set (x + y) → x ≡ first → y ≡ i → s ≡ statement_at set (first + i)
+read_as set e f g = e ∙ ap₂ (λ (x y : ℕ). statement_at set (x + y)) f g
 
 -- ---- kinds of statements
 

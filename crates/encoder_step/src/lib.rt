@@ -8,23 +8,17 @@ ghost use Rattle.encoding.specs.Encodings.{starting};
 ghost use Rattle.encoding.specs.Slots.{kind_at, kind_number, kind_count, may_execute, flag};
 ghost use Rattle.encoding.specs.Steps.{single, shape, rows as rows_of, columns as columns_of, entry as entry_of, block as block_of, blocks as blocks_of, ruled, step as step_of};
 ghost use Rattle.set_index.specs.Points.{listed};
+ghost use Rattle.encoder_slots.specs.Kinds.{number_of};
 ghost use Rattle.encoder_slots.specs.Pieces.{Writes, Ready, tree_room, entry_room, block_room};
 ghost use Rattle.encoder_slots.specs.Places.{of_statement, most_columns};
 ghost use Rattle.encoder_chains.specs.Chained.{chained};
 ghost use Rattle.encoder_step.specs.Entries.{step_room, BareEntry, GivenEntry, ByThread, AfterThread};
 ghost use Rattle.table.specs.Repeats.{last_index};
 
-use encoder_slots::kinds::{
-    ACCU, ACTIVE, ADDRESS, ADR, ARGUMENT, BARRED, CHOICE, CODE, CODES, ENDED, EXITS, FLUSH_TO,
-    FLUSH_VALUE, FULL, HALTED, HALTS, HELD, LOADED, MARK, MAY_EXECUTE, MEM, NONE, NOT_TEST,
-    ONE_PERMITTED, PERMITTED_FIRST, RAISED, RESULT, SHARED_MEMORY, SHUT, SWAPS, TEST, VAL,
-    WORD_ONE, WRITE_TO, WRITE_VALUE,
-};
-use encoder_slots::{BLOCK, SIZE, THREADS, start};
+use encoder_slots::{BLOCK, Kind, SIZE, THREADS, start};
 use records::Layout;
 use set_index::points::Points;
-use table::Formula;
-use table::operations::{BIT, CONSTRAINT, IF, NO_SORT};
+use table::{Formula, Operation, Sort};
 
 // The most records of a step: of the values of its kinds, and its constraint.
 const STEP: u32 = 36 * BLOCK + 2;
@@ -34,20 +28,22 @@ const LIMIT: u32 = Formula::LAST - STEP;
 
 // ---- the values of a kind
 
+// Each block below is one loop of three lines: a function that they share would take those lines as a closure, the thread as a number to be cast.
+
 // Writes the value of a kind for a and b, which is there and has no links.
 fn bare_entry(
     slots: &mut [u32],
     out: &mut [u8],
     threads: u8,
     step: u8,
-    kind: u8,
+    kind: Kind,
     a: u8,
     b: u16,
     n: u32,
 ) -> u32
     requires { (n + tree_room ≤ last_index) × (a < most_threads) × (b < most_columns) }
-    ensures { ((S : Set) (cs members lists : List ℕ) → S.threads ≡ threads → BareEntry S cs kind a b → Ready S cs members lists slots.old n
-        → Writes (entry_of S cs step (kind_at kind) a b) out.old slots.old n out.new slots.new result)
+    ensures { ((S : Set) (cs members lists : List ℕ) → S.threads ≡ threads → BareEntry S cs (number_of kind) a b → Ready S cs members lists slots.old n
+        → Writes (entry_of S cs step (kind_at (number_of kind)) a b) out.old slots.old n out.new slots.new result)
         × (result ≤ n + tree_room) }
 {
     let base = encoder_bases::put_base(slots, out, threads, step, kind, a, b, n);
@@ -61,21 +57,19 @@ fn bare_line(
     out: &mut [u8],
     threads: u8,
     step: u8,
-    kind: u8,
+    kind: Kind,
     columns: u16,
     n: u32,
 ) -> u32
     requires { (n + most_columns * tree_room ≤ last_index) × (columns ≤ most_columns) }
-    ensures { ((S : Set) (cs members lists : List ℕ) → S.threads ≡ threads → ((b : ℕ) → BareEntry S cs kind 0 b) → rows_of S cs step (shape (kind_at kind)) ≡ 1
-        → columns ≡ columns_of S cs step (shape (kind_at kind)) 0 → Ready S cs members lists slots.old n
-        → Writes (block_of S cs step (kind_at kind)) out.old slots.old n out.new slots.new result)
+    ensures { ((S : Set) (cs members lists : List ℕ) → S.threads ≡ threads → ((b : ℕ) → BareEntry S cs (number_of kind) 0 b) → rows_of S cs step (shape (kind_at (number_of kind))) ≡ 1
+        → columns ≡ columns_of S cs step (shape (kind_at (number_of kind))) 0 → Ready S cs members lists slots.old n
+        → Writes (block_of S cs step (kind_at (number_of kind))) out.old slots.old n out.new slots.new result)
         × (result ≤ n + most_columns * tree_room) }
 {
     let mut next = n;
-    let mut b: u16 = 0;
-    while b < columns {
+    for b in 0..columns {
         next = bare_entry(slots, out, threads, step, kind, 0, b, next);
-        b += 1;
     }
     next
 }
@@ -88,19 +82,17 @@ fn may_execute_block(slots: &mut [u32], out: &mut [u8], threads: u8, step: u8, n
         × (result ≤ n + most_threads * tree_room) }
 {
     let mut next = n;
-    let mut t: u8 = 0;
-    while t < threads {
-        next = bare_entry(slots, out, threads, step, MAY_EXECUTE, t, 0, next);
-        t += 1;
+    for t in 0..threads {
+        next = bare_entry(slots, out, threads, step, Kind::MayExecute, t, 0, next);
     }
     next
 }
 
 // Writes a value that there is one of, whose links the choices or the threads give.
-fn single_block(slots: &mut [u32], out: &mut [u8], threads: u8, step: u8, kind: u8, n: u32) -> u32
-    requires { (n + entry_room ≤ last_index) × (kind < kind_count) × (of_statement kind ≡ false) × (kind ≡ kind_number flag → ⊥) }
-    ensures { ((S : Set) (cs members lists : List ℕ) → S.threads ≡ threads → chained kind ≡ true → shape (kind_at kind) ≡ single → Ready S cs members lists slots.old n
-        → Writes (block_of S cs step (kind_at kind)) out.old slots.old n out.new slots.new result)
+fn single_block(slots: &mut [u32], out: &mut [u8], threads: u8, step: u8, kind: Kind, n: u32) -> u32
+    requires { (n + entry_room ≤ last_index) × (number_of kind < kind_count) × (of_statement (number_of kind) ≡ false) × (number_of kind ≡ kind_number flag → ⊥) }
+    ensures { ((S : Set) (cs members lists : List ℕ) → S.threads ≡ threads → chained (number_of kind) ≡ true → shape (kind_at (number_of kind)) ≡ single → Ready S cs members lists slots.old n
+        → Writes (block_of S cs step (kind_at (number_of kind))) out.old slots.old n out.new slots.new result)
         × (result ≤ n + entry_room) }
 {
     let base = encoder_bases::put_base(slots, out, threads, step, kind, 0, 0, n);
@@ -117,15 +109,15 @@ fn given_entry(
     out: &mut [u8],
     threads: u8,
     step: u8,
-    kind: u8,
+    kind: Kind,
     a: u8,
     b: u16,
     t: u8,
     n: u32,
 ) -> u32
     requires { (n + entry_room ≤ last_index) × (a < most_threads) × (b < most_columns) }
-    ensures { ((S : Set) (cs lists : List ℕ) → S.threads ≡ threads → t < S.threads → GivenEntry S cs kind a b t → Ready S cs members.now lists slots.old n
-        → Writes (entry_of S cs step (kind_at kind) a b) out.old slots.old n out.new slots.new result)
+    ensures { ((S : Set) (cs lists : List ℕ) → S.threads ≡ threads → t < S.threads → GivenEntry S cs (number_of kind) a b t → Ready S cs members.now lists slots.old n
+        → Writes (entry_of S cs step (kind_at (number_of kind)) a b) out.old slots.old n out.new slots.new result)
         × (result ≤ n + entry_room) }
 {
     let base = encoder_bases::put_base(slots, out, threads, step, kind, a, b, n);
@@ -142,19 +134,17 @@ fn register_block(
     out: &mut [u8],
     threads: u8,
     step: u8,
-    kind: u8,
+    kind: Kind,
     n: u32,
 ) -> u32
     requires { (n + most_threads * entry_room ≤ last_index) × (threads ≤ most_threads) }
-    ensures { ((S : Set) (cs lists : List ℕ) → S.threads ≡ threads → ByThread S cs kind → Ready S cs members.now lists slots.old n
-        → Writes (block_of S cs step (kind_at kind)) out.old slots.old n out.new slots.new result)
+    ensures { ((S : Set) (cs lists : List ℕ) → S.threads ≡ threads → ByThread S cs (number_of kind) → Ready S cs members.now lists slots.old n
+        → Writes (block_of S cs step (kind_at (number_of kind))) out.old slots.old n out.new slots.new result)
         × (result ≤ n + most_threads * entry_room) }
 {
     let mut next = n;
-    let mut t: u8 = 0;
-    while t < threads {
+    for t in 0..threads {
         next = given_entry(members, slots, out, threads, step, kind, t, 0, t, next);
-        t += 1;
     }
     next
 }
@@ -166,20 +156,18 @@ fn running_block(
     out: &mut [u8],
     threads: u8,
     step: u8,
-    kind: u8,
+    kind: Kind,
     n: u32,
 ) -> u32
     requires { (n + tree_room + most_threads * entry_room ≤ last_index) × (threads ≤ most_threads) }
-    ensures { ((S : Set) (cs lists : List ℕ) → S.threads ≡ threads → AfterThread S cs kind → Ready S cs members.now lists slots.old n
-        → Writes (block_of S cs step (kind_at kind)) out.old slots.old n out.new slots.new result)
+    ensures { ((S : Set) (cs lists : List ℕ) → S.threads ≡ threads → AfterThread S cs (number_of kind) → Ready S cs members.now lists slots.old n
+        → Writes (block_of S cs step (kind_at (number_of kind))) out.old slots.old n out.new slots.new result)
         × (result ≤ n + tree_room + most_threads * entry_room) }
 {
     let mut next = bare_entry(slots, out, threads, step, kind, 0, 0, n);
-    let mut t: u8 = 0;
-    while t < threads {
-        let b = (t as u16) + 1;
+    for t in 0..threads {
+        let b = u16::from(t) + 1;
         next = given_entry(members, slots, out, threads, step, kind, 0, b, t, next);
-        t += 1;
     }
     next
 }
@@ -191,20 +179,18 @@ fn statement_block(
     members: &[u8],
     slots: &mut [u32],
     out: &mut [u8],
-    kind: u8,
+    kind: Kind,
     n: u32,
 ) -> u32
-    requires { (n + block_room ≤ last_index) × (layout.threads ≤ most_threads) × (kind < kind_count) × (of_statement kind ≡ true) }
+    requires { (n + block_room ≤ last_index) × (layout.threads ≤ most_threads) × (number_of kind < kind_count) × (of_statement (number_of kind) ≡ true) }
     ensures { ((cs lists : List ℕ) (step : ℕ) → Ready (set_by set.now layout) cs members.now lists slots.old n
-        → Writes (block_of (set_by set.now layout) cs step (kind_at kind)) out.old slots.old n out.new slots.new result)
+        → Writes (block_of (set_by set.now layout) cs step (kind_at (number_of kind))) out.old slots.old n out.new slots.new result)
         × (result ≤ n + block_room) }
 {
     let threads = layout.threads;
     let mut next = n;
-    let mut t: u8 = 0;
-    while t < threads {
+    for t in 0..threads {
         next = encoder_statements::statement_line(set, layout, members, slots, out, kind, t, next);
-        t += 1;
     }
     next
 }
@@ -225,10 +211,8 @@ fn flag_block(
 {
     let threads = layout.threads;
     let mut next = n;
-    let mut t: u8 = 0;
-    while t < threads {
+    for t in 0..threads {
         next = encoder_flags::flags(set, layout, lists, slots, out, t, next);
-        t += 1;
     }
     next
 }
@@ -253,13 +237,13 @@ fn choice_kinds(
         × (result ≤ n + 5 * block_room) }
 {
     let threads = layout.threads;
-    let choices = 2 * (threads as u16);
+    let choices = 2 * u16::from(threads);
     let checkpoints = set_index::points::points_count(points);
-    let taken = bare_line(slots, out, threads, step, CHOICE, choices, n);
-    let active = statement_block(set, layout, members, slots, out, ACTIVE, taken);
+    let taken = bare_line(slots, out, threads, step, Kind::Choice, choices, n);
+    let active = statement_block(set, layout, members, slots, out, Kind::Active, taken);
     let open = encoder_marks::openings(lists, slots, out, threads, checkpoints, step, active);
-    let shut = bare_line(slots, out, threads, step, SHUT, checkpoints, open);
-    register_block(members, slots, out, threads, step, BARRED, shut)
+    let shut = bare_line(slots, out, threads, step, Kind::Shut, checkpoints, open);
+    register_block(members, slots, out, threads, step, Kind::Barred, shut)
 }
 
 // Which marks hold a thread up, which threads wait, which may execute; what comes before each choice, and which choices are permitted.
@@ -278,13 +262,21 @@ fn permit_kinds(
         × (result ≤ n + 5 * block_room) }
 {
     let threads = layout.threads;
-    let choices = 2 * (threads as u16);
+    let choices = 2 * u16::from(threads);
     let checkpoints = set_index::points::points_count(points);
-    let held = encoder_marks::marks(lists, slots, out, threads, checkpoints, step, HELD, n);
+    let held = encoder_marks::marks(lists, slots, out, threads, checkpoints, step, Kind::Held, n);
     let waiting = encoder_marks::waits(lists, slots, out, threads, checkpoints, step, held);
     let may = may_execute_block(slots, out, threads, step, waiting);
-    let none = bare_line(slots, out, threads, step, NONE, choices + 1, may);
-    bare_line(slots, out, threads, step, PERMITTED_FIRST, choices, none)
+    let none = bare_line(slots, out, threads, step, Kind::None, choices + 1, may);
+    bare_line(
+        slots,
+        out,
+        threads,
+        step,
+        Kind::PermittedFirst,
+        choices,
+        none,
+    )
 }
 
 // What a step is decided by.
@@ -306,7 +298,14 @@ fn deciding_kinds(
 {
     let chosen = choice_kinds(set, layout, points, members, lists, slots, out, step, n);
     let permitted = permit_kinds(layout, points, lists, slots, out, step, chosen);
-    single_block(slots, out, layout.threads, step, ONE_PERMITTED, permitted)
+    single_block(
+        slots,
+        out,
+        layout.threads,
+        step,
+        Kind::OnePermitted,
+        permitted,
+    )
 }
 
 // Of the statements: addresses, words loaded, swaps, results and tests.
@@ -323,11 +322,11 @@ fn statement_kinds(
         → Writes (blocks_of (set_by set.now layout) cs step 11 5) out.old slots.old n out.new slots.new result)
         × (result ≤ n + 5 * block_room) }
 {
-    let addresses = statement_block(set, layout, members, slots, out, ADDRESS, n);
-    let loaded = statement_block(set, layout, members, slots, out, LOADED, addresses);
-    let swaps = statement_block(set, layout, members, slots, out, SWAPS, loaded);
-    let results = statement_block(set, layout, members, slots, out, RESULT, swaps);
-    statement_block(set, layout, members, slots, out, TEST, results)
+    let addresses = statement_block(set, layout, members, slots, out, Kind::Address, n);
+    let loaded = statement_block(set, layout, members, slots, out, Kind::Loaded, addresses);
+    let swaps = statement_block(set, layout, members, slots, out, Kind::Swaps, loaded);
+    let results = statement_block(set, layout, members, slots, out, Kind::Result, swaps);
+    statement_block(set, layout, members, slots, out, Kind::Test, results)
 }
 
 // Which tests do not hold, and the cell that is written: its address and its value.
@@ -346,11 +345,19 @@ fn write_kinds(
         × (result ≤ n + 5 * block_room) }
 {
     let threads = layout.threads;
-    let not_tests = statement_block(set, layout, members, slots, out, NOT_TEST, n);
-    let flush_to = single_block(slots, out, threads, step, FLUSH_TO, not_tests);
-    let write_to = running_block(members, slots, out, threads, step, WRITE_TO, flush_to);
-    let flush_value = single_block(slots, out, threads, step, FLUSH_VALUE, write_to);
-    running_block(members, slots, out, threads, step, WRITE_VALUE, flush_value)
+    let not_tests = statement_block(set, layout, members, slots, out, Kind::NotTest, n);
+    let flush_to = single_block(slots, out, threads, step, Kind::FlushTo, not_tests);
+    let write_to = running_block(members, slots, out, threads, step, Kind::WriteTo, flush_to);
+    let flush_value = single_block(slots, out, threads, step, Kind::FlushValue, write_to);
+    running_block(
+        members,
+        slots,
+        out,
+        threads,
+        step,
+        Kind::WriteValue,
+        flush_value,
+    )
 }
 
 // The marks before open checkpoints are cleared, the EXITs with their codes, the memory, and the words in the buffers.
@@ -371,11 +378,20 @@ fn exit_kinds(
 {
     let threads = layout.threads;
     let checkpoints = set_index::points::points_count(points);
-    let raised = encoder_marks::marks(lists, slots, out, threads, checkpoints, step, RAISED, n);
-    let exits = running_block(members, slots, out, threads, step, EXITS, raised);
-    let codes = running_block(members, slots, out, threads, step, CODES, exits);
-    let memory = bare_entry(slots, out, threads, step, SHARED_MEMORY, 0, 0, codes);
-    register_block(members, slots, out, threads, step, VAL, memory)
+    let raised = encoder_marks::marks(
+        lists,
+        slots,
+        out,
+        threads,
+        checkpoints,
+        step,
+        Kind::Raised,
+        n,
+    );
+    let exits = running_block(members, slots, out, threads, step, Kind::Exits, raised);
+    let codes = running_block(members, slots, out, threads, step, Kind::Codes, exits);
+    let memory = bare_entry(slots, out, threads, step, Kind::SharedMemory, 0, 0, codes);
+    register_block(members, slots, out, threads, step, Kind::Val, memory)
 }
 
 // The other registers.
@@ -392,11 +408,11 @@ fn register_kinds(
         → Writes (blocks_of S cs step 26 5) out.old slots.old n out.new slots.new result)
         × (result ≤ n + 5 * block_room) }
 {
-    let adr = register_block(members, slots, out, threads, step, ADR, n);
-    let mem = register_block(members, slots, out, threads, step, MEM, adr);
-    let accu = register_block(members, slots, out, threads, step, ACCU, mem);
-    let full = register_block(members, slots, out, threads, step, FULL, accu);
-    register_block(members, slots, out, threads, step, HALTED, full)
+    let adr = register_block(members, slots, out, threads, step, Kind::Adr, n);
+    let mem = register_block(members, slots, out, threads, step, Kind::Mem, adr);
+    let accu = register_block(members, slots, out, threads, step, Kind::Accu, mem);
+    let full = register_block(members, slots, out, threads, step, Kind::Full, accu);
+    register_block(members, slots, out, threads, step, Kind::Halted, full)
 }
 
 // The flags, the marks, and whether and how the machine has ended.
@@ -418,10 +434,19 @@ fn end_kinds(
     let threads = layout.threads;
     let checkpoints = set_index::points::points_count(points);
     let flags = flag_block(set, layout, lists, slots, out, n);
-    let marked = encoder_marks::marks(lists, slots, out, threads, checkpoints, step, MARK, flags);
-    let halts = single_block(slots, out, threads, step, HALTS, marked);
-    let ended = bare_entry(slots, out, threads, step, ENDED, 0, 0, halts);
-    bare_entry(slots, out, threads, step, CODE, 0, 0, ended)
+    let marked = encoder_marks::marks(
+        lists,
+        slots,
+        out,
+        threads,
+        checkpoints,
+        step,
+        Kind::Mark,
+        flags,
+    );
+    let halts = single_block(slots, out, threads, step, Kind::Halts, marked);
+    let ended = bare_entry(slots, out, threads, step, Kind::Ended, 0, 0, halts);
+    bare_entry(slots, out, threads, step, Kind::Code, 0, 0, ended)
 }
 
 // What a step does.
@@ -457,24 +482,13 @@ fn rule(layout: Layout, slots: &[u32], out: &mut [u8], n: u32) -> u32
         out.old slots.now n out.new slots.now result)
         × (result ≡ n + 2) }
 {
-    let choices = 2 * (layout.threads as u16);
-    let test = Formula {
-        operation: IF,
-        sort: BIT,
-        constant: 0,
-        a: encoder_slots::place(slots, ENDED, 0, 0, start::BIT0),
-        b: encoder_slots::place(slots, NONE, 0, choices, start::BIT0),
-        c: encoder_slots::place(slots, ONE_PERMITTED, 0, 0, start::BIT0),
-    };
+    let choices = 2 * u16::from(layout.threads);
+    let ended = encoder_slots::place(slots, Kind::Ended, 0, 0, start::BIT0);
+    let none = encoder_slots::place(slots, Kind::None, 0, choices, start::BIT0);
+    let one = encoder_slots::place(slots, Kind::OnePermitted, 0, 0, start::BIT0);
+    let test = Formula::new(Operation::If, Sort::Bit, ended, none, one);
     table::put(out, n, test);
-    let constraint = Formula {
-        operation: CONSTRAINT,
-        sort: NO_SORT,
-        constant: 0,
-        a: n as u64,
-        b: 0,
-        c: 0,
-    };
+    let constraint = Formula::new(Operation::Constraint, Sort::None, u64::from(n), 0, 0);
     table::put(out, n + 1, constraint);
     n + 2
 }
@@ -495,13 +509,7 @@ pub fn one_step(
         → Writes (step_of (set_by set.now layout) (listed points) step) out.old slots.old n out.new slots.new result)
         × (result ≤ n + step_room) }
 {
-    if slots.len() != SIZE {
-        return n;
-    }
-    if LIMIT < n {
-        return n;
-    }
-    if THREADS < layout.threads {
+    if slots.len() != SIZE || LIMIT < n || THREADS < layout.threads {
         return n;
     }
     let decided = deciding_kinds(set, layout, points, members, lists, slots, out, step, n);
@@ -522,12 +530,9 @@ pub fn shared(
         → Writes (starting (set_by set.now layout) cs) out.old slots.old n out.new slots.new result)
         × (result ≤ n + tree_room + block_room) }
 {
-    if LIMIT < n {
+    if LIMIT < n || THREADS < layout.threads {
         return n;
     }
-    if THREADS < layout.threads {
-        return n;
-    }
-    let one = bare_entry(slots, out, layout.threads, 0, WORD_ONE, 0, 0, n);
-    statement_block(set, layout, members, slots, out, ARGUMENT, one)
+    let one = bare_entry(slots, out, layout.threads, 0, Kind::WordOne, 0, 0, n);
+    statement_block(set, layout, members, slots, out, Kind::Argument, one)
 }

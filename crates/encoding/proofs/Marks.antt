@@ -1,4 +1,5 @@
 -- Marks stand at checkpoints that their threads contain, so that the listed checkpoints say which threads wait. Assumes nothing.
+use Rattle.std.specs.Prelude.{Option, Some, is_some}
 use Prim.Native.Nat.{ℕ, ◌≤◌, ◌<◌}
 use mathlib.Core.Path.{◌≡◌, refl, ap, sym, subst, ◌∙◌}
 use mathlib.Core.Bool.{Bool, true, false, cond, not, ◌&&◌}
@@ -14,10 +15,9 @@ use Rattle.base.proofs.Choice.{and_true, and_left, and_right, clash}
 use Rattle.records.specs.Instructions.{CHECK}
 use Rattle.records.specs.Sets.{Set, nothing}
 use Rattle.records.specs.declared.Statement.{Statement}
-use Rattle.machine.specs.Machine.{State, start, unmarked, is_check, contains, marked_at, opened, waiting, current, actor, leaves_mark, cleared, step}
+use Rattle.machine.specs.Machine.{State, start, unmarked, is_check, contains, marked_at, opened, waiting, current, actor, leaves_mark, cleared, step, checkpoint_of}
 use Rattle.machine.specs.declared.Choice.{Choice}
 use Rattle.machine.specs.declared.Choice.TheVariants.{Execute, Flush}
-use Rattle.machine.specs.declared.Mark.{Mark}
 use Rattle.encoding.proofs.Shown.{Complete, Sound}
 use Rattle.encoding.proofs.Tests.{same_tests, some-passes}
 
@@ -48,23 +48,23 @@ module _ (S : Set) (beyond : Beyond S) (s : State) where
   unfolding step cleared
   sound-step sound c u = go (leaves_mark S s c && eqb u (actor c)) refl
     where
-      kept : (b : Bool) → (cond b unmarked (s.marks u)).on ≡ true → contains S u (cond b unmarked (s.marks u)).checkpoint ≡ true
+      kept : (b : Bool) → (is_some (cond b unmarked (s.marks u))) ≡ true → contains S u (checkpoint_of (cond b unmarked (s.marks u))) ≡ true
       kept true e = clash e refl
       kept false e = sound u e
 
-      left : Mark
-      left = record { on = true; checkpoint = (current S s (actor c)).argument }
+      left : Option ℕ
+      left = Some ((current S s (actor c)).argument)
 
       go : (b : Bool) → (leaves_mark S s c && eqb u (actor c)) ≡ b →
-          (cond b left (cleared S s.marks u)).on ≡ true → contains S u (cond b left (cleared S s.marks u)).checkpoint ≡ true
+          is_some (cond b left (cleared S s.marks u)) ≡ true → contains S u (checkpoint_of (cond b left (cleared S s.marks u))) ≡ true
       go true q e = ap (λ (t : ℕ). contains S t (current S s (actor c)).argument) (eqb-true u (actor c) (and_right (leaves_mark S s c) _ q))
           ∙ left_mark c (and_left (leaves_mark S s c) _ q)
-      go false q e = kept ((s.marks u).on && opened S s.marks (s.marks u).checkpoint) e
+      go false q e = kept ((is_some (s.marks u)) && opened S s.marks (checkpoint_of (s.marks u))) e
 
 -- ---- waiting
 
 -- a thread is held by checkpoint p: it contains it, is marked there, and it is not open
-abbrev pub held_at : Set → List ℕ → (ℕ → Mark) → ℕ → ℕ → Bool
+abbrev pub held_at : Set → List ℕ → (ℕ → Option ℕ) → ℕ → ℕ → Bool
 held_at S cs marks t p = contains S t (get_or cs p 0) && (marked_at (marks t) (get_or cs p 0) && not (opened S marks (get_or cs p 0)))
 
 pub waiting-is : (S : Set) (cs : List ℕ) (s : State) → Complete S cs → Sound S s → (t : ℕ) → t < S.threads →
@@ -73,10 +73,10 @@ unfolding waiting
 waiting-is S cs s complete sound t h = same_tests _ _ out back
   where
     on : Bool
-    on = (s.marks t).on
+    on = (is_some (s.marks t))
 
     at : ℕ
-    at = (s.marks t).checkpoint
+    at = (checkpoint_of (s.marks t))
 
     out : (on && not (opened S s.marks at)) ≡ true → some (length cs) (held_at S cs s.marks t) ≡ true
     out e =

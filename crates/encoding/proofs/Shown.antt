@@ -1,4 +1,5 @@
 -- What slots' values show: constants, a state of the machine, a step's choice bits. Assumes nothing.
+use Rattle.std.specs.Prelude.{is_some}
 use Prim.Native.Nat.{ℕ, ◌+◌, ◌<◌}
 use mathlib.Core.Path.{◌≡◌}
 use mathlib.Core.Bool.{true, false, not, ◌&&◌}
@@ -6,7 +7,7 @@ use mathlib.Core.List.{List}
 use lib.Dec.{eqb}
 use lib.ListN.{get_or, length}
 use Rattle.records.specs.Sets.{Set}
-use Rattle.machine.specs.Machine.{State, contains, marked_at, opened}
+use Rattle.machine.specs.Machine.{State, contains, marked_at, opened, checkpoint_of}
 use Rattle.machine.specs.declared.Choice.{Choice}
 use Rattle.table.specs.Values.{Assignment, Value, bit, word, memory}
 use Rattle.encoding.specs.Assignments.{named}
@@ -19,7 +20,7 @@ Complete S cs = (t c : ℕ) → t < S.threads → contains S t c ≡ true → (p
 
 -- a mark stands at a checkpoint that its thread contains
 abbrev pub Sound : Set → State → Type 0
-Sound S s = (t : ℕ) → (s.marks t).on ≡ true → contains S t (s.marks t).checkpoint ≡ true
+Sound S s = (t : ℕ) → (is_some (s.marks t)) ≡ true → contains S t (checkpoint_of (s.marks t)) ≡ true
 
 -- the bits of step k are those of a choice; none is 1
 abbrev pub Bits : Set → Assignment → ℕ → Choice → Type 0

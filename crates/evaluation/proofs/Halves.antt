@@ -1,50 +1,55 @@
--- Search by halves among cells whose addresses ascend: what a look at one cell says of the others. Assumes nothing.
-use Prim.Native.Nat.{ℕ, ◌+◌, ◌≤◌, ◌<◌}
-use mathlib.Core.Path.{◌≡◌, ap, ◌∙◌}
-use mathlib.Core.Bool.{Bool, true, cond}
-use mathlib.Core.List.{List}
-use native.Mathlib.Decide.{ℕ_discrete}
-use native.Mathlib.Omega.{arith}
-use borrow.Author.Tests.{eq-eqb, ne_eqb, lt-ltb, le-ltb}
-use lib.Dec.{eqb, ltb}
-use Rattle.base.proofs.Below.{least-hit, least-none}
+-- Search by halves among cells whose addresses ascend: what it has found. Assumes nothing.
+use Rattle.std.proofs.Common.{◌≡◌, ℕ, ◌<◌, ◌≤◌, true, false, Some, None, Ok, Err, Result, List, [], get_or, length, ap, sym, ◌∙◌, arith, ne_eqb, le-ltb, eqb}
+use Rattle.std.specs.Ordering.{nat_cmp, ordering_index}
+use Rattle.std.specs.List.Sorted.{IsBinarySearchResult}
+use Rattle.std.specs.Result.{MatchResult}
+use Rattle.std.specs.declared.cmp.Ordering.{Ordering}
+use Rattle.std.specs.declared.cmp.Ordering.TheVariants.{Less, Equal, Greater}
+use Rattle.std.proofs.lemmas.Cmp.{ranked}
+use borrow.Author.Tests.{tests}
+use native.Mathlib.Decide.{ℕ_discrete, dec_lt}
+use Rattle.base.specs.Below.{least}
+use Rattle.base.specs.Bytes.{word_at}
+use Rattle.base.proofs.Below.{least-none}
 use Rattle.base.proofs.Choice.{chosen, passed}
-use Rattle.records.specs.Maps.{cells, address_at, value_at, map_value, map_accepted, run_cells}
+use Rattle.records.specs.Maps.{cells, address_at, mapped, map_accepted, run_cells}
 use Rattle.records.proofs.Maps.{ascending}
+use Rattle.decoding.specs.Lookups.{cell_of}
+use Rattle.decoding.proofs.Chunks.{chunks, length-chunks, address-there, value-there}
+use Rattle.decoding.proofs.Maps.{own-mapped, own_value}
 
-module _ (bytes : List ℕ) (x : ℕ) where
-  abbrev at : ℕ → Bool
-  at j = eqb (address_at bytes j) x
+-- how a cell's address compares with x
+abbrev pub order : (x : ℕ) → List ℕ → Ordering
+order x c = nat_cmp (word_at c 0) x
 
-  abbrev value_of_least : ℕ → ℕ
-  value_of_least i = cond (ltb i (cells bytes)) (value_at bytes i) 0
+module _ (bytes : List ℕ) (x : ℕ) (ok : map_accepted run_cells bytes ≡ true) where
+  rises : (a b : ℕ) → a ≤ b → ordering_index (nat_cmp a x) ≤ ordering_index (nat_cmp b x)
+  rises a b l = grind (arith, tests)
 
-  -- no cell is at x
-  pub missing : ((j : ℕ) → j < cells bytes → address_at bytes j ≡ x → ⊥) → map_value bytes x ≡ 0
-  missing f =
-      ap value_of_least (least-none at (cells bytes) (λ j h. ne_eqb (address_at bytes j) x (f j h)))
-      ∙ passed (value_at bytes (cells bytes)) 0 (le-ltb (cells bytes) (cells bytes) (omega arith))
+  ordered : (i j : ℕ) (d : List ℕ) → i ≤ j → j < length (chunks bytes) → ordering_index (order x (get_or (chunks bytes) i d)) ≤ ordering_index (order x (get_or (chunks bytes) j d))
+  ordered i j d l h =
+      let n : j < cells bytes = omega (arith, length-chunks bytes) in
+      let up : address_at bytes i ≤ address_at bytes j = elim (ℕ_discrete i j) [
+        | yes e ↦ rw e (omega arith)
+        | no f ↦ omega (arith, ascending 256 bytes ok i j (omega arith) n)
+      ] in
+      rises _ _ (omega (arith, address-there bytes i (omega arith) d, address-there bytes j n d))
 
-  module _ (ok : map_accepted run_cells bytes ≡ true) (i : ℕ) (h : i < cells bytes) where
-    -- cell i is at x, so that none before it is
-    pub found : address_at bytes i ≡ x → map_value bytes x ≡ value_at bytes i
-    found e =
-        ap value_of_least (least-hit at (cells bytes) i (least-none at i (λ j l. ne_eqb (address_at bytes j) x (before j l))) (eq-eqb (address_at bytes i) x e) h)
-        ∙ chosen (value_at bytes i) 0 (lt-ltb i (cells bytes) h)
-      where
-        before : (j : ℕ) → j < i → address_at bytes j ≡ x → ⊥
-        before j l p = omega (arith, ascending 256 bytes ok j i l h, e, p)
-
-    -- cell i is below x, and so are those before it
-    pub lower : address_at bytes i < x → (j : ℕ) → j < i + 1 → address_at bytes j < x
-    lower l j k = elim (ℕ_discrete j i) [
-      | yes e ↦ rw e l
-      | no f ↦ omega (arith, ascending 256 bytes ok j i (omega arith) h)
-    ]
-
-    -- cell i is above x, and so are those after it
-    pub higher : x < address_at bytes i → (j : ℕ) → i ≤ j → j < cells bytes → x < address_at bytes j
-    higher l j k b = elim (ℕ_discrete j i) [
-      | yes e ↦ rw e l
-      | no f ↦ omega (arith, ascending 256 bytes ok i j (omega arith) b)
-    ]
+  pub searched : (r : Result ℕ ℕ) → IsBinarySearchResult (order x) (chunks bytes) r →
+      MatchResult r (λ k. k < cells bytes → Some (word_at (get_or (chunks bytes) k []) 2) ≡ cell_of bytes x) (λ _. None ≡ cell_of bytes x)
+  searched (Ok k) h = λ l.
+      let e : address_at bytes k ≡ x = sym (address-there bytes k l []) ∙ ranked _ x Equal (sym (h [])) in
+      ap Some (value-there bytes k l [] ∙ sym (own_value bytes 256 ok k l)) ∙ sym (chosen _ _ (own-mapped bytes 256 ok k l)) ∙ ap (cell_of bytes) e
+  searched (Err i) h =
+      let parted = h ordered in
+      let other : (j : ℕ) → j < cells bytes → eqb (address_at bytes j) x ≡ false = λ j l. ne_eqb _ _ (λ (e : address_at bytes j ≡ x). elim (dec_lt j i) [
+        | yes b ↦
+            let low : word_at (get_or (chunks bytes) j []) 0 < x = ranked _ x Less (sym (parted.0 j [] (omega arith) b)) in
+            omega (arith, address-there bytes j l [])
+        | no b ↦
+            let high : x < word_at (get_or (chunks bytes) j []) 0 = ranked _ x Greater (sym (parted.1 j [] (omega arith) (omega (arith, length-chunks bytes)))) in
+            omega (arith, address-there bytes j l [])
+      ]) in
+      let none : least (cells bytes) (λ (j : ℕ). eqb (address_at bytes j) x) ≡ cells bytes = least-none (λ (j : ℕ). eqb (address_at bytes j) x) (cells bytes) other in
+      let gone : mapped bytes x ≡ false = le-ltb _ _ (omega arith) in
+      sym (passed _ _ gone)

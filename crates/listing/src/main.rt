@@ -12,7 +12,7 @@ use machine::Machine;
 use records::{Layout, Statement};
 use std::io;
 use std::io::{Read, Write};
-use text::{ReadAnswer, Reading};
+use text::Reading;
 
 // One byte more than a text may have shows that it is too long.
 const INPUT: usize = Reading::TEXT + 1;
@@ -26,18 +26,18 @@ fn list_text(text: &[u8], out: &mut [u8]) -> usize
 {
     let mut set = [0u8; Layout::SET];
     let mut map = [0u8; Layout::MAP];
-    let answer = text::read(text, &mut set, &mut map);
-    match answer {
-        ReadAnswer::Read { statements, cells } => {
-            let size = Statement::SIZE * (statements as usize);
-            let length = Layout::CELL * (cells as usize);
+    match text::read(text, &mut set, &mut map) {
+        Ok(counts) => {
+            let size = Statement::SIZE * usize::from(counts.statements);
+            let length = Layout::CELL * usize::from(counts.cells);
             listing_output::list(&set[..size], &map[..length], out)
         }
-        ReadAnswer::Refused { number, place } => listing_output::refused(number, out),
+        Err(refused) => listing_output::refused(refused.refusal.number(), out),
     }
 }
 
 // Reads until the buffer is full or the input ends, and gives how many bytes it put at the buffer's start.
+// A loop of its own: `read_to_end` fills a `Vec`, and there is no heap.
 fn read_full<R: Read>(input: &mut R, buf: &mut [u8]) -> io::Result<usize>
     ensures bound { ReadsAtMost result buf.new }
     ensures bytes { IfOk result (λ n. Consumes (R.remaining input.old) (R.remaining input.new) (take n buf.new)) }

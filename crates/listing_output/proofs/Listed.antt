@@ -4,6 +4,7 @@ use mathlib.Core.Bool.{Bool, true, false, cond, not}
 use mathlib.Core.List.{List, [], ◌∷◌, ◌++◌, append_assoc}
 use mathlib.Core.Path.{◌≡◌, refl, ap, ap₂, sym, subst, ◌∙◌}
 use native.Mathlib.Omega.{arith}
+use Rattle.std.specs.Prelude.{Result, Err, Option}
 use lib.Dec.{eqb}
 use lib.ListN.{length, take, drop, length-append}
 use lib.Seq.{take_at, drop_at}
@@ -13,18 +14,20 @@ use Rattle.base.specs.Bytes.{over}
 use Rattle.records.proofs.Sets.{four-threads}
 use Rattle.records.specs.Maps.{map_accepted, run_cells}
 use Rattle.records.specs.Sets.{Set, set_of, set_accepted}
-use Rattle.machine.proofs.Runs.{AllTaken, follow-taken, length-choices, length-trace, length-trace_step, ran-taken, ran_where, refused-ran, taken-takes, lacking_takes, not-permitted-takes, choices-more}
+use Rattle.machine.proofs.Runs.{AllTaken, follow-taken, length-choices, length-trace, length-trace_step, ran-taken, ran_where, refused-ran, same_refused, taken-takes, lacking_takes, not-permitted-takes, choices-more}
 use Rattle.machine.specs.Machine.{State, step, written, no_write, reads}
-use Rattle.machine.specs.Maps.{Held, begin, knows_all, outcome, advanced, on_outcome, follow}
+use Rattle.machine.specs.Maps.{Held, begin, knows_all, outcome, advanced, ran, refused_at, on_outcome, follow}
 use Rattle.machine.specs.Runs.{choice_of, choices, takes, end_of}
 use Rattle.machine.specs.Traces.{trace_step, trace, longest_trace, step_length}
-use Rattle.machine.specs.declared.RunAnswer.{RunAnswer}
-use Rattle.machine.specs.declared.RunAnswer.TheVariants.{Ran, Refused}
+use Rattle.machine.specs.declared.Run.{Run}
+use Rattle.records.specs.Refusals.{number, of_call}
+use Rattle.records.specs.declared.refusals.Refusal.TheVariants.{NotPermitted as Unpermitted, LacksCell, Records}
+use Rattle.records.specs.declared.refusals.Refused.{Refused}
 use Rattle.machine.specs.declared.Choice.{Choice}
 use Rattle.machine.specs.declared.End.{End}
 use Rattle.machine.specs.declared.Outcome.{Outcome}
 use Rattle.machine.specs.declared.Outcome.TheVariants.{Taken, NotPermitted, Lacking}
-use Rattle.machine.specs.declared.Written.{Written}
+use Rattle.records.specs.declared.Cell.{Cell}
 use Rattle.simulation.specs.Simulation.{limited, simulated, schedule_trace}
 use Rattle.listing_output.specs.Listings.{line, last_line, refused_line, lowest, on_lowest, listing_from, listing}
 use Rattle.listing_output.specs.Outputs.{line_at, last_of}
@@ -41,11 +44,11 @@ module _ (S : Set) (h : Held) (c : Choice) where
   takes-not e = passed _ _ e
 
   -- an answer that the choice is not permitted
-  denied_takes : (i n : ℕ) (e : End) → not (denies (on_outcome (outcome S h c) i (Ran n e))) ≡ takes S h.state c
+  denied_takes : (i n : ℕ) (e : End) → not (denies (on_outcome (outcome S h c) i (ran n e))) ≡ takes S h.state c
   unfolding outcome
   denied_takes i n e = go (takes S h.state c) (knows_all h.known (reads S h.state c))
     where
-      go : (a b : Bool) → not (denies (on_outcome (cond a (cond b Taken Lacking) NotPermitted) i (Ran n e))) ≡ a
+      go : (a b : Bool) → not (denies (on_outcome (cond a (cond b Taken Lacking) NotPermitted) i (ran n e))) ≡ a
       go true true = refl
       go true false = refl
       go false b = refl
@@ -53,7 +56,7 @@ module _ (S : Set) (h : Held) (c : Choice) where
 -- ---- a run of lowest choices
 
 -- what is printed by how the lowest choice comes out
-pub by-lowest : (S : Set) (h : Held) (w : Written) (n : ℕ) (c : Choice) (o : Outcome) → lowest S h.state ≡ c → outcome S h c ≡ o →
+pub by-lowest : (S : Set) (h : Held) (w : Option Cell) (n : ℕ) (c : Choice) (o : Outcome) → lowest S h.state ≡ c → outcome S h c ≡ o →
     listing_from S h w (suc n) ≡ on_lowest o (line S h.state w c ++ listing_from S (advanced S h c) (written S h.state c) n) (last_line (end_of S h.state))
 unfolding listing_from
 by-lowest S h w n c o e f =
@@ -83,7 +86,7 @@ module _ (S : Set) (h : Held) where
             f.rest ∙ ap (λ (more : List ℕ). lines_of S h no_write run ++ more) next
             ∙ sym (append_assoc (lines_of S h no_write run) (line S H.state W c) (listing_from S (advanced S H c) (written S H.state c) n))
             ∙ ap (λ (lines : List ℕ). lines ++ listing_from S (advanced S H c) (written S H.state c) n) (sym (lines_more S c h no_write run))
-            ∙ ap₂ (λ (k : Held) (w : Written). lines_of S h no_write (run ++ (c ∷ [])) ++ listing_from S k w n) (sym (held_more S c h run)) (sym (wrote-more S c h no_write run));
+            ∙ ap₂ (λ (k : Held) (w : Option Cell). lines_of S h no_write (run ++ (c ∷ [])) ++ listing_from S k w n) (sym (held_more S c h run)) (sym (wrote-more S c h no_write run));
       }
 
 -- ---- what simulation answers
@@ -93,7 +96,7 @@ module _ (set map : List ℕ) (a : accepts set map ≡ true) where
   abbrev pub held_by : List ℕ → Held
   held_by bytes = held_after (set_of set) (begin map) (choices bytes)
 
-  abbrev pub wrote_by : List ℕ → Written
+  abbrev pub wrote_by : List ℕ → Option Cell
   wrote_by bytes = wrote_after (set_of set) (begin map) no_write (choices bytes)
 
   four : (set_of set).threads ≤ 4
@@ -102,7 +105,7 @@ module _ (set map : List ℕ) (a : accepts set map ≡ true) where
   -- the last choice decides
   decided : (bytes : List ℕ) (b : ℕ) → length bytes < 64 → AllTaken (set_of set) (begin map) (choices bytes) →
       simulated set map (bytes ++ (b ∷ [])) longest_trace
-      ≡ on_outcome (outcome (set_of set) (held_by bytes) (choice_of b)) (0 + length (choices bytes)) (Ran (0 + length (choices bytes) + 1) (end_of (set_of set) (step (set_of set) (held_by bytes).state (choice_of b))))
+      ≡ on_outcome (outcome (set_of set) (held_by bytes) (choice_of b)) (0 + length (choices bytes)) (ran (0 + length (choices bytes) + 1) (end_of (set_of set) (step (set_of set) (held_by bytes).state (choice_of b))))
   decided bytes b l taken =
       simulated-runs set map (bytes ++ (b ∷ [])) a (omega (arith, length-append bytes (b ∷ [])))
       ∙ ap (follow (set_of set) (begin map) 0) (choices-more bytes b)
@@ -115,7 +118,7 @@ module _ (set map : List ℕ) (a : accepts set map ≡ true) where
   byte-found bytes l taken =
       ap (λ (j : ℕ). choice_of (candidate j))
       (least_ext (allows set map bytes) (can (set_of set) four (held_by bytes).state) 7
-      (λ j h. ap (λ (r : RunAnswer). not (denies r)) (decided bytes (candidate j) l taken) ∙ denied_takes (set_of set) (held_by bytes) (choice_of (candidate j)) _ _ _))
+      (λ j h. ap (λ (r : Result Run Refused). not (denies r)) (decided bytes (candidate j) l taken) ∙ denied_takes (set_of set) (held_by bytes) (choice_of (candidate j)) _ _ _))
 
   -- the last line after a schedule
   finished : (bytes : List ℕ) → length bytes ≤ 64 → AllTaken (set_of set) (begin map) (choices bytes) →
@@ -127,7 +130,7 @@ module _ (set map : List ℕ) (a : accepts set map ≡ true) where
 
   -- the choice is taken
   pub goes_on_lem : (listing bytes : List ℕ) (n m : ℕ) (e : End) → length bytes < 64 → Follows (set_of set) (begin map) listing (choices bytes) (suc n) →
-      simulated set map (bytes ++ (next_byte set map bytes ∷ [])) longest_trace ≡ Ran m e →
+      simulated set map (bytes ++ (next_byte set map bytes ∷ [])) longest_trace ≡ ran m e →
       Follows (set_of set) (begin map) listing (choices (bytes ++ (next_byte set map bytes ∷ []))) n
   goes_on_lem listing bytes n m e l f p =
       let S = set_of set in
@@ -139,10 +142,10 @@ module _ (set map : List ℕ) (a : accepts set map ≡ true) where
       (follows-more S (begin map) listing (choices bytes) n (choice_of b) f o (found-lowest S four (held_by bytes).state t ∙ sym q))
 
   -- the choice is refused: 14 where a first cell read is lacking, else nothing is permitted
-  refused-next : (bytes : List ℕ) (n number place : ℕ) → length bytes < 64 → AllTaken (set_of set) (begin map) (choices bytes) →
-      simulated set map (bytes ++ (next_byte set map bytes ∷ [])) longest_trace ≡ Refused number place →
-      listing_from (set_of set) (held_by bytes) (wrote_by bytes) (suc n) ≡ cond (eqb number 14) (refused_line 14) (last_of (simulated set map bytes longest_trace))
-  refused-next bytes n number place l taken p = go (outcome S H (choice_of b)) refl _ _ _ (sym (decided bytes b l taken) ∙ p)
+  refused-next : (bytes : List ℕ) (n : ℕ) (refused : Refused) → length bytes < 64 → AllTaken (set_of set) (begin map) (choices bytes) →
+      simulated set map (bytes ++ (next_byte set map bytes ∷ [])) longest_trace ≡ Err refused →
+      listing_from (set_of set) (held_by bytes) (wrote_by bytes) (suc n) ≡ cond (eqb (number refused.refusal) 14) (refused_line 14) (last_of (simulated set map bytes longest_trace))
+  refused-next bytes n refused l taken p = go (outcome S H (choice_of b)) refl _ _ _ (sym (decided bytes b l taken) ∙ p)
     where
       S : Set
       S = set_of set
@@ -162,25 +165,25 @@ module _ (set map : List ℕ) (a : accepts set map ≡ true) where
       printed : ℕ → List ℕ
       printed k = cond (eqb k 14) (refused_line 14) (last_of (simulated set map bytes longest_trace))
 
-      go : (o : Outcome) → outcome S H (choice_of b) ≡ o → (i m : ℕ) (d : End) → on_outcome (outcome S H (choice_of b)) i (Ran m d) ≡ Refused number place →
-          listing_from S H (wrote_by bytes) (suc n) ≡ printed number
-      go Taken e i m d r = refused-ran (sym (ap (λ (o : Outcome). on_outcome o i (Ran m d)) (sym e) ∙ r))
+      go : (o : Outcome) → outcome S H (choice_of b) ≡ o → (i m : ℕ) (d : End) → on_outcome (outcome S H (choice_of b)) i (ran m d) ≡ Err refused →
+          listing_from S H (wrote_by bytes) (suc n) ≡ printed (number refused.refusal)
+      go Taken e i m d r = refused-ran (sym (ap (λ (o : Outcome). on_outcome o i (ran m d)) (sym e) ∙ r))
       go NotPermitted e i m d r =
-          let q : Refused 12 i ≡ Refused number place = ap (λ (o : Outcome). on_outcome o i (Ran m d)) (sym e) ∙ r in
-          let k : 12 ≡ number = cc in
+          let q : refused_at Unpermitted i ≡ Err refused = ap (λ (o : Outcome). on_outcome o i (ran m d)) (sym e) ∙ r in
+          let k : 12 ≡ number refused.refusal = ap (λ (x : Refused). number x.refusal) (same_refused q) in
           let t = subst (λ (c : Choice). takes S H.state c ≡ false) same (not-permitted-takes S H (choice_of b) e) in
           by-lowest S H (wrote_by bytes) n c NotPermitted refl (takes-not S H c (found_none S four H.state t)) ∙ sym (finished bytes (omega arith) taken) ∙ ap printed k
       go Lacking e i m d r =
-          let q : Refused 14 i ≡ Refused number place = ap (λ (o : Outcome). on_outcome o i (Ran m d)) (sym e) ∙ r in
-          let k : 14 ≡ number = cc in
+          let q : refused_at LacksCell i ≡ Err refused = ap (λ (o : Outcome). on_outcome o i (ran m d)) (sym e) ∙ r in
+          let k : 14 ≡ number refused.refusal = ap (λ (x : Refused). number x.refusal) (same_refused q) in
           let t = subst (λ (c : Choice). takes S H.state c ≡ true) same (lacking_takes S H (choice_of b) e) in
           by-lowest S H (wrote_by bytes) n (choice_of b) Lacking (found-lowest S four H.state t ∙ sym same) e ∙ ap printed k
 
-  pub stops : (listing bytes : List ℕ) (n number place : ℕ) → length bytes < 64 → Follows (set_of set) (begin map) listing (choices bytes) (suc n) →
-      simulated set map (bytes ++ (next_byte set map bytes ∷ [])) longest_trace ≡ Refused number place →
-      lines_of (set_of set) (begin map) no_write (choices bytes) ++ cond (eqb number 14) (refused_line 14) (last_of (simulated set map bytes longest_trace)) ≡ listing
-  stops listing bytes n number place l f p =
-      ap (λ (more : List ℕ). lines_of (set_of set) (begin map) no_write (choices bytes) ++ more) (sym (refused-next bytes n number place l f.taken p)) ∙ sym f.rest
+  pub stops : (listing bytes : List ℕ) (n : ℕ) (refused : Refused) → length bytes < 64 → Follows (set_of set) (begin map) listing (choices bytes) (suc n) →
+      simulated set map (bytes ++ (next_byte set map bytes ∷ [])) longest_trace ≡ Err refused →
+      lines_of (set_of set) (begin map) no_write (choices bytes) ++ cond (eqb (number refused.refusal) 14) (refused_line 14) (last_of (simulated set map bytes longest_trace)) ≡ listing
+  stops listing bytes n refused l f p =
+      ap (λ (more : List ℕ). lines_of (set_of set) (begin map) no_write (choices bytes) ++ more) (sym (refused-next bytes n refused l f.taken p)) ∙ sym f.rest
 
   -- no step is left
   pub ends : (listing bytes : List ℕ) (n : ℕ) → length bytes ≤ 64 → Follows (set_of set) (begin map) listing (choices bytes) n → n ≡ 0 →
@@ -221,20 +224,20 @@ module _ (set map : List ℕ) (a : accepts set map ≡ true) where
 -- ---- the first call, with an empty schedule
 
 -- it runs where set and map are accepted
-pub ran-accepts : (set map : List ℕ) {m : ℕ} {e : End} → simulated set map [] 1 ≡ Ran m e → accepts set map ≡ true
+pub ran-accepts : (set map : List ℕ) {m : ℕ} {e : End} → simulated set map [] 1 ≡ ran m e → accepts set map ≡ true
 unfolding simulated
-ran-accepts set map p = (ran_where (accepts set map) 9 0 p).0
+ran-accepts set map p = (ran_where (accepts set map) _ p).0
 
 -- and is refused where they are not
-pub refused-listing : (set map : List ℕ) (number place : ℕ) → simulated set map [] 1 ≡ Refused number place → refused_line number ≡ listing set map
+pub refused-listing : (set map : List ℕ) (refused : Refused) → simulated set map [] 1 ≡ Err refused → refused_line (number refused.refusal) ≡ listing set map
 unfolding simulated limited follow choices listing
-refused-listing set map number place p = go (accepts set map) refl
+refused-listing set map refused p = go (accepts set map) refl
   where
-    go : (b : Bool) → accepts set map ≡ b → refused_line number ≡ listing set map
+    go : (b : Bool) → accepts set map ≡ b → refused_line (number refused.refusal) ≡ listing set map
     go true e = refused-ran (sym (sym (chosen _ _ e) ∙ p))
     go false e =
-        let q : Refused 9 0 ≡ Refused number place = sym (passed _ _ e) ∙ p in
-        let k : number ≡ 9 = cc in
+        let q : Err (of_call Records) ≡ Err refused = sym (passed _ _ e) ∙ p in
+        let k : number refused.refusal ≡ 9 = ap (λ (x : Refused). number x.refusal) (sym (same_refused q)) in
         ap refused_line k ∙ sym (passed _ _ e)
 
 pub accepted-listing : (set map : List ℕ) → accepts set map ≡ true → listing_from (set_of set) (begin map) no_write 64 ≡ listing set map

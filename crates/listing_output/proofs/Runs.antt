@@ -1,4 +1,5 @@
 -- Laws of a run and one choice more: what is held, written, followed, traced and printed. Assumes nothing.
+use Rattle.std.specs.Prelude.{Option}
 use Prim.Native.Nat.{ℕ, suc, ◌+◌, ◌*◌, ◌≤◌, ◌<◌}
 use mathlib.Core.Bool.{true}
 use mathlib.Core.List.{List, [], ◌∷◌, ◌++◌, append_assoc, append-nil}
@@ -12,14 +13,13 @@ use Rattle.base.proofs.Choice.{chosen, passed}
 use Rattle.records.specs.Sets.{Set, set_of}
 use Rattle.machine.proofs.Runs.{AllTaken}
 use Rattle.machine.specs.Machine.{step, written}
-use Rattle.machine.specs.Maps.{Held, begin, outcome, advanced, on_outcome, follow}
+use Rattle.machine.specs.Maps.{Held, begin, outcome, advanced, ran, on_outcome, follow}
 use Rattle.machine.specs.Runs.{choices, after, end_of}
 use Rattle.machine.specs.Traces.{trace_step, trace, longest_trace, step_length}
-use Rattle.machine.specs.declared.RunAnswer.TheVariants.{Ran}
 use Rattle.machine.specs.declared.Choice.{Choice}
 use Rattle.machine.specs.declared.Outcome.{Outcome}
 use Rattle.machine.specs.declared.Outcome.TheVariants.{Taken}
-use Rattle.machine.specs.declared.Written.{Written}
+use Rattle.records.specs.declared.Cell.{Cell}
 use Rattle.simulation.specs.Simulation.{limited, simulated}
 use Rattle.listing_output.specs.Listings.{line}
 use Rattle.listing_output.specs.Schedules.{accepts}
@@ -30,12 +30,12 @@ held_after S h [] = h
 held_after S h (c ∷ run) = held_after S (advanced S h c) run
 
 -- what its last step wrote; w where it has no step
-unfoldable pub wrote_after : Set → Held → Written → List Choice → Written
+unfoldable pub wrote_after : Set → Held → Option Cell → List Choice → Option Cell
 wrote_after S h w [] = w
 wrote_after S h w (c ∷ run) = wrote_after S (advanced S h c) (written S h.state c) run
 
 -- the lines of its steps
-unfoldable pub lines_of : Set → Held → Written → List Choice → List ℕ
+unfoldable pub lines_of : Set → Held → Option Cell → List Choice → List ℕ
 lines_of S h w [] = []
 lines_of S h w (c ∷ run) = line S h.state w c ++ lines_of S (advanced S h c) (written S h.state c) run
 
@@ -47,12 +47,12 @@ module _ (S : Set) (c : Choice) where
   held_more h [] = refl
   held_more h (d ∷ run) = held_more (advanced S h d) run
 
-  pub wrote-more : (h : Held) (w : Written) (run : List Choice) → wrote_after S h w (run ++ (c ∷ [])) ≡ written S (held_after S h run).state c
+  pub wrote-more : (h : Held) (w : Option Cell) (run : List Choice) → wrote_after S h w (run ++ (c ∷ [])) ≡ written S (held_after S h run).state c
   unfolding held_after wrote_after
   wrote-more h w [] = refl
   wrote-more h w (d ∷ run) = wrote-more (advanced S h d) (written S h.state d) run
 
-  pub lines_more : (h : Held) (w : Written) (run : List Choice) →
+  pub lines_more : (h : Held) (w : Option Cell) (run : List Choice) →
       lines_of S h w (run ++ (c ∷ [])) ≡ lines_of S h w run ++ line S (held_after S h run).state (wrote_after S h w run) c
   unfolding held_after wrote_after lines_of
   lines_more h w [] = append-nil (line S h.state w c)
@@ -60,7 +60,7 @@ module _ (S : Set) (c : Choice) where
       ap (λ (rest : List ℕ). line S h.state w d ++ rest) (lines_more (advanced S h d) (written S h.state d) run)
       ∙ sym (append_assoc (line S h.state w d) _ _)
 
-  pub trace-more : (h : Held) (w : Written) (run : List Choice) →
+  pub trace-more : (h : Held) (w : Option Cell) (run : List Choice) →
       trace S h.state w (run ++ (c ∷ [])) ≡ trace S h.state w run ++ trace_step S (held_after S h run).state (wrote_after S h w run) c
   unfolding held_after wrote_after trace advanced
   trace-more h w [] = append-nil (trace_step S h.state w c)
@@ -75,13 +75,13 @@ module _ (S : Set) (c : Choice) where
 
   -- the last choice decides
   pub follow-more : (h : Held) (i : ℕ) (run : List Choice) → AllTaken S h run →
-      follow S h i (run ++ (c ∷ [])) ≡ on_outcome (outcome S (held_after S h run) c) (i + length run) (Ran (i + length run + 1) (end_of S (step S (held_after S h run).state c)))
+      follow S h i (run ++ (c ∷ [])) ≡ on_outcome (outcome S (held_after S h run) c) (i + length run) (ran (i + length run + 1) (end_of S (step S (held_after S h run).state c)))
   unfolding follow held_after advanced
-  follow-more h i [] taken = ap₂ (λ (k n : ℕ). on_outcome (outcome S h c) k (Ran n (end_of S (step S h.state c)))) (omega arith) (omega arith)
+  follow-more h i [] taken = ap₂ (λ (k n : ℕ). on_outcome (outcome S h c) k (ran n (end_of S (step S h.state c)))) (omega arith) (omega arith)
   follow-more h i (d ∷ run) taken =
       ap (λ (o : Outcome). on_outcome o i (follow S (advanced S h d) (suc i) (run ++ (c ∷ [])))) taken.0
       ∙ follow-more (advanced S h d) (suc i) run taken.1
-      ∙ ap₂ (λ (k n : ℕ). on_outcome (outcome S (held_after S (advanced S h d) run) c) k (Ran n (end_of S (step S (held_after S (advanced S h d) run).state c)))) (omega arith) (omega arith)
+      ∙ ap₂ (λ (k n : ℕ). on_outcome (outcome S (held_after S (advanced S h d) run) c) k (ran n (end_of S (step S (held_after S (advanced S h d) run).state c)))) (omega arith) (omega arith)
 
 pub state-after : (S : Set) (h : Held) (run : List Choice) → (held_after S h run).state ≡ after S h.state run
 unfolding held_after after advanced

@@ -1,4 +1,5 @@
 -- No listing is longer than 64 lines of 64 bytes and a last line of 16. Assumes nothing.
+use Rattle.std.specs.Prelude.{Option, Some, None}
 use Prim.Native.Nat.{ℕ, zero, suc, ◌+◌, ◌*◌, ◌/◌, ◌%◌, ◌≤◌, ◌<◌}
 use mathlib.Core.Bool.{Bool, true, false, cond, ◌&&◌}
 use mathlib.Core.List.{List, [], ◌∷◌, ◌++◌}
@@ -29,8 +30,8 @@ use Rattle.machine.specs.declared.End.TheVariants.{Code, Stuck, Open}
 use Rattle.machine.specs.declared.Outcome.{Outcome}
 use Rattle.machine.specs.declared.Outcome.TheVariants.{Taken, NotPermitted, Lacking}
 use Rattle.machine.specs.declared.Thread.{Thread}
-use Rattle.machine.specs.declared.Written.{Written}
-use Rattle.listing_output.specs.Listings.{text, digits, places, decimal, name, has_none, argument, pair, cell, line_of, line, last_line, refused_line, lowest, on_lowest, listing_from, listing, longest_listing}
+use Rattle.records.specs.declared.Cell.{Cell}
+use Rattle.listing_output.specs.Listings.{text, digits, places, decimal, name, has_none, argument, cell, line_of, line, last_line, refused_line, lowest, on_lowest, listing_from, listing, longest_listing}
 use Rattle.listing_output.specs.Printed.{printed, count}
 use Rattle.listing_output.proofs.Texts.{few-places, printed-fits}
 
@@ -75,17 +76,17 @@ length-argument i =
     let indirect : length (text "[" ++ decimal i.argument ++ text "]") ≤ 7 = simp length-append (omega arith) in
     cond_both (λ (xs : List ℕ). length xs ≤ 7) (has_none i.number) (omega arith) (cond_both (λ (xs : List ℕ). length xs ≤ 7) (eqb i.mode 1) indirect direct)
 
-length-cell : (w : Written) → length (cell w) ≤ 15
+length-cell : (w : Option Cell) → length (cell w) ≤ 15
 unfolding cell
-length-cell w =
+length-cell None = omega arith
+length-cell (Some w) =
     let a = length-decimal w.address in
     let v = length-decimal w.value in
-    let p : length (pair w.address w.value) ≤ 15 = simp length-append (omega arith) in
-    cond_both (λ (xs : List ℕ). length xs ≤ 15) w.done p (omega arith)
+    simp length-append (omega arith)
 
 -- ---- lines
 
-length-line : (t : ℕ) (i : Statement) (x : Thread) (w : Written) → t < 10 → length (line_of t i x w) ≤ 64
+length-line : (t : ℕ) (i : Statement) (x : Thread) (w : Option Cell) → t < 10 → length (line_of t i x w) ≤ 64
 unfolding line_of
 length-line t i x w h =
     simp length-append
@@ -103,7 +104,7 @@ length-refused number = let d = length-decimal number in simp length-append (ome
 
 -- ---- listings
 
-length_from : (S : Set) → S.threads ≤ 4 → (h : Held) (w : Written) (n : ℕ) → length (listing_from S h w n) ≤ 64 * n + 16
+length_from : (S : Set) → S.threads ≤ 4 → (h : Held) (w : Option Cell) (n : ℕ) → length (listing_from S h w n) ≤ 64 * n + 16
 unfolding listing_from line
 length_from S four h w zero = omega (arith, length_last (end_of S h.state))
 length_from S four h w (suc n) = go (outcome S h c) refl (length_from S four (advanced S h c) (written S h.state c) n)

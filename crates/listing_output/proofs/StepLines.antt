@@ -1,7 +1,8 @@
 -- Laws of a step's line: the words, and the line that a trace step's bytes give. Assumes nothing.
+use Rattle.std.specs.Prelude.{Option, Some, None, is_some, cond, eqb}
 use Prim.Native.Nat.{ℕ, ◌+◌, ◌*◌, ◌/◌, ◌%◌, ◌≤◌}
 use mathlib.Core.List.{[], ◌++◌}
-use mathlib.Core.Path.{◌≡◌, ◌∙◌}
+use mathlib.Core.Path.{◌≡◌, refl, ap₂, ◌∙◌}
 use native.Mathlib.Nat.{div-add-mod'}
 use native.Mathlib.Omega.{arith}
 use lib.ListN.{get_or-eq_default}
@@ -10,13 +11,12 @@ use Rattle.base.proofs.Choice.{passed}
 use Rattle.records.specs.Instructions.{words, word_of}
 use Rattle.records.specs.Sets.{Set}
 use Rattle.records.specs.declared.Statement.{Statement}
-use Rattle.machine.specs.Machine.{State, actor}
+use Rattle.machine.specs.Machine.{State, actor, cell_of}
 use Rattle.machine.specs.Traces.{bit, shown, step_bytes, trace_step}
 use Rattle.machine.specs.declared.Choice.{Choice}
 use Rattle.machine.specs.declared.Thread.{Thread}
-use Rattle.machine.specs.declared.Written.{Written}
-use Rattle.machine.proofs.Runs.{bit_is}
-use Rattle.listing_output.specs.Listings.{text, decimal, item, name, argument, cell, line_of, line}
+use Rattle.records.specs.declared.Cell.{Cell}
+use Rattle.listing_output.specs.Listings.{text, decimal, item, name, argument, pair, cell, line_of, line}
 use Rattle.listing_output.specs.Outputs.{line_at}
 
 -- no word past FLUSH
@@ -28,8 +28,15 @@ name-none n h = let k : 20 ≤ n = omega arith in passed _ _ (ne_eqb n 20 (omega
 two_bytes : (n : ℕ) → n % 256 + 256 * (n / 256) ≡ n
 two_bytes n = omega (arith, div-add-mod' n 256)
 
+-- a written cell by its bytes
+cell_by_bytes : (w : Option Cell) → let v = cell_of w in
+    cond (eqb (bit (is_some w)) 1) (pair (v.address % 256 + 256 * (v.address / 256)) (v.value % 256 + 256 * (v.value / 256))) (text "{}") ≡ cell w
+unfolding cell
+cell_by_bytes None = refl
+cell_by_bytes (Some w) = ap₂ pair (two_bytes w.address) (two_bytes w.value)
+
 -- the bytes of a trace step give its line
-line_of_bytes : (t : ℕ) (i : Statement) (x : Thread) (w : Written) → line_at (step_bytes t i x w) ≡ line_of t i x w
+line_of_bytes : (t : ℕ) (i : Statement) (x : Thread) (w : Option Cell) → line_at (step_bytes t i x w) ≡ line_of t i x w
 unfolding line_at line_of step_bytes
 line_of_bytes t i x w =
     λ k.
@@ -37,9 +44,9 @@ line_of_bytes t i x w =
     ++ item (argument (record { number = i.number; mode = i.mode; argument = two_bytes i.argument k })))
     ++ (item (decimal (two_bytes x.accu k)) ++ item (decimal (two_bytes x.mem k)) ++ item (decimal (two_bytes x.adr k))
     ++ item (decimal (two_bytes x.val k)) ++ item (decimal (bit x.full)))
-    ++ cell (record { done = bit_is w.done k; address = two_bytes w.address k; value = two_bytes w.value k })
+    ++ cell_by_bytes w k
     ++ text "\n"
 
-pub line_of_step : (S : Set) (s : State) (w : Written) (c : Choice) → line_at (trace_step S s w c) ≡ line S s w c
+pub line_of_step : (S : Set) (s : State) (w : Option Cell) (c : Choice) → line_at (trace_step S s w c) ≡ line S s w c
 unfolding trace_step line
 line_of_step S s w c = line_of_bytes (actor c) (shown S s c) (s.threads (actor c)) w

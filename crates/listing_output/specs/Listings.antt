@@ -1,7 +1,7 @@
 -- What the listing program prints (document 01, "Sample runs"): a line for each step, then the last line. A reader of the calls believes this.
 -- Assumes nothing.
 use Prim.Native.Char.{code}
-use Rattle.std.specs.Prelude.{ℕ, zero, suc, ◌+◌, ◌*◌, ◌/◌, ◌%◌, Bool, cond, ◌&&◌, ◌||◌, List, [], ◌∷◌, ◌++◌, eqb, ltb}
+use Rattle.std.specs.Prelude.{ℕ, zero, suc, ◌+◌, ◌*◌, ◌/◌, ◌%◌, Bool, cond, ◌&&◌, ◌||◌, List, [], ◌∷◌, ◌++◌, eqb, ltb, Option, Some, None}
 use Prim.Native.String.{String, [] as end, ◌∷◌ as ◌then◌}
 use Rattle.base.specs.Below.{least}
 use Rattle.records.specs.Instructions.{instructions, is_bare, word_of}
@@ -19,7 +19,7 @@ use Rattle.machine.specs.declared.End.TheVariants.{Code, Stuck, Open}
 use Rattle.machine.specs.declared.Outcome.{Outcome}
 use Rattle.machine.specs.declared.Outcome.TheVariants.{Taken, NotPermitted, Lacking}
 use Rattle.machine.specs.declared.Thread.{Thread}
-use Rattle.machine.specs.declared.Written.{Written}
+use Rattle.records.specs.declared.Cell.{Cell}
 
 -- ---- texts and numbers
 
@@ -66,18 +66,19 @@ abbrev pub pair : (a v : ℕ) → List ℕ
 pair a v = text "{(" ++ decimal a ++ text "," ++ decimal v ++ text ")}"
 
 -- what a step wrote, {} if nothing
-unfoldable pub cell : Written → List ℕ
-cell w = cond w.done (pair w.address w.value) (text "{}")
+unfoldable pub cell : Option Cell → List ℕ
+cell None = text "{}"
+cell (Some w) = pair w.address w.value
 
 -- A line: thread, pc, word, argument, accu, mem, adr, val, full, and the cell that the previous step wrote.
-unfoldable pub line_of : ℕ → Statement → Thread → Written → List ℕ
+unfoldable pub line_of : ℕ → Statement → Thread → Option Cell → List ℕ
 line_of t i x w =
     (item (decimal t) ++ item (decimal x.pc) ++ item (name i.number) ++ item (argument i))
     ++ (item (decimal x.accu) ++ item (decimal x.mem) ++ item (decimal x.adr) ++ item (decimal x.val) ++ item (decimal (bit x.full)))
     ++ cell w ++ text "\n"
 
 -- the line of a choice; w is what the previous step wrote
-unfoldable pub line : Set → State → Written → Choice → List ℕ
+unfoldable pub line : Set → State → Option Cell → Choice → List ℕ
 line S s w c = line_of (actor c) (shown S s c) (s.threads (actor c)) w
 
 -- ---- the last line
@@ -105,7 +106,7 @@ on_lowest NotPermitted more last = last
 on_lowest Lacking more last = refused_line 14
 
 -- what is printed from a state on, with n steps left; w is what the previous step wrote
-unfoldable pub listing_from : Set → Held → Written → ℕ → List ℕ
+unfoldable pub listing_from : Set → Held → Option Cell → ℕ → List ℕ
 listing_from S h w zero = last_line (end_of S h.state)
 listing_from S h w (suc n) =
     let c = lowest S h.state in

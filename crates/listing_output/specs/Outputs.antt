@@ -1,12 +1,13 @@
 -- How the code prints: texts one after the other into a lent output, and a step's line from the bytes of its trace step. This serves the code; no
 -- call's promise needs it. Assumes nothing.
-use Rattle.std.specs.Prelude.{ℕ, List, ◌++◌, ◌≡◌, eqb, get_or}
+use Rattle.std.specs.Prelude.{ℕ, List, ◌++◌, ◌≡◌, cond, Result, Ok, Err, eqb, get_or}
 use Rattle.base.specs.Bytes.{word_at}
 use Rattle.machine.specs.Offsets.{THREAD, NUMBER, PC, ARGUMENT, MODE, FULL, ACCU, MEM, ADR, VAL, WROTE, ADDRESS, VALUE}
-use Rattle.machine.specs.declared.RunAnswer.{RunAnswer}
-use Rattle.machine.specs.declared.RunAnswer.TheVariants.{Ran, Refused}
+use Rattle.records.specs.Refusals.{number}
+use Rattle.records.specs.declared.refusals.Refused.{Refused}
+use Rattle.machine.specs.declared.Run.{Run}
 use Rattle.listing_output.specs.Printed.{printed, count}
-use Rattle.listing_output.specs.Listings.{text, decimal, item, name, argument, cell, last_line, refused_line}
+use Rattle.listing_output.specs.Listings.{text, decimal, item, name, argument, pair, last_line, refused_line}
 
 -- ---- an output
 
@@ -35,13 +36,13 @@ registers_at step =
 
 -- the cell that the previous step wrote
 abbrev pub cell_shown : List ℕ → List ℕ
-cell_shown step = cell (record { done = eqb (get_or step WROTE 0) 1; address = word_at step ADDRESS; value = word_at step VALUE })
+cell_shown step = cond (eqb (get_or step WROTE 0) 1) (pair (word_at step ADDRESS) (word_at step VALUE)) (text "{}")
 
 unfoldable pub line_at : List ℕ → List ℕ
 line_at step = act_at step ++ registers_at step ++ cell_shown step ++ text "\n"
 
 -- ---- the last line by simulation's answer
 
-unfoldable pub last_of : RunAnswer → List ℕ
-last_of (Ran steps end) = last_line end
-last_of (Refused number place) = refused_line number
+unfoldable pub last_of : Result Run Refused → List ℕ
+last_of (Ok run) = last_line run.end
+last_of (Err refused) = refused_line (number refused.refusal)

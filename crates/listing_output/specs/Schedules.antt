@@ -1,11 +1,12 @@
 -- How the code finds the lowest choice: it tries the eight bytes that may be permitted. This serves the code; no call's promise needs it. Assumes
 -- nothing.
-use Rattle.std.specs.Prelude.{ℕ, ◌+◌, ◌-◌, Bool, false, cond, not, ◌&&◌, List, [], ◌∷◌, ◌++◌, eqb, ltb}
+use Rattle.std.specs.Prelude.{ℕ, ◌+◌, ◌-◌, Bool, false, cond, not, ◌&&◌, List, [], ◌∷◌, ◌++◌, Result, Ok, Err, eqb, ltb}
 use Rattle.base.specs.Below.{least}
 use Rattle.records.specs.Maps.{map_accepted, run_cells}
 use Rattle.records.specs.Sets.{set_accepted, most_threads}
-use Rattle.machine.specs.declared.RunAnswer.{RunAnswer}
-use Rattle.machine.specs.declared.RunAnswer.TheVariants.{Ran, Refused}
+use Rattle.records.specs.Refusals.{number}
+use Rattle.records.specs.declared.refusals.Refused.{Refused}
+use Rattle.machine.specs.declared.Run.{Run}
 use Rattle.simulation.specs.Simulation.{simulated}
 use Rattle.machine.specs.Traces.{longest_trace}
 use Rattle.machine.specs.Runs.{flush_byte}
@@ -19,9 +20,9 @@ abbrev pub candidate : ℕ → ℕ
 candidate j = cond (ltb j most_threads) j (flush_byte + (j - most_threads))
 
 -- an answer that a choice is not permitted
-abbrev pub denies : RunAnswer → Bool
-denies (Ran steps end) = false
-denies (Refused number place) = eqb number 12
+abbrev pub denies : Result Run Refused → Bool
+denies (Ok run) = false
+denies (Err refused) = eqb (number refused.refusal) 12
 
 -- candidate j is permitted after a schedule
 abbrev pub allows : (set map schedule : List ℕ) → ℕ → Bool

@@ -6,6 +6,7 @@ mod lines;
 mod output;
 
 ghost use Rattle.std.specs.Prelude.{◌*◌, ◌<◌, ◌≡◌, true, cond, eqb, take};
+ghost use Rattle.records.specs.Refusals.{number};
 ghost use Rattle.records.specs.Sets.{set_of, most_threads};
 ghost use Rattle.machine.specs.Machine.{no_write};
 ghost use Rattle.machine.specs.Maps.{begin};
@@ -18,8 +19,8 @@ ghost use Rattle.machine.specs.Traces.{longest_trace};
 ghost use Rattle.machine.specs.Runs.{most_steps};
 
 use lines::{last, line, refusal};
-use machine::{Choice, Machine, RunAnswer};
-use records::refusals;
+use machine::{Choice, Machine};
+use records::Refusal;
 
 // The schedule byte of candidate j: executes by thread, then flushes by thread.
 fn candidate(j: u8) -> u8
@@ -37,10 +38,9 @@ fn denied(set: &[u8], map: &[u8], schedule: &[u8]) -> bool
     ensures { result ≡ denies (simulated set.now map.now schedule.now longest_trace) }
 {
     let mut trace = [0u8; Machine::TRACE];
-    let answer = simulation::simulate(set, map, schedule, &mut trace);
-    match answer {
-        RunAnswer::Ran { steps, end } => false,
-        RunAnswer::Refused { number, place } => number == refusals::NOT_PERMITTED,
+    match simulation::simulate(set, map, schedule, &mut trace) {
+        Ok(_) => false,
+        Err(refused) => refused.refusal == Refusal::NotPermitted,
     }
 }
 
@@ -50,14 +50,12 @@ fn next(set: &[u8], map: &[u8], schedule: [u8; Machine::STEPS], k: usize) -> u8
     ensures { result ≡ next_byte set.now map.now (take k schedule) }
 {
     let mut tried = schedule;
-    let mut j: u8 = 0;
-    while j < 7 {
+    for j in 0..7 {
         let byte = candidate(j);
         tried[k] = byte;
         if !denied(set, map, &tried[..k + 1]) {
             return byte;
         }
-        j += 1;
     }
     candidate(7)
 }
@@ -67,19 +65,18 @@ fn finish(set: &[u8], map: &[u8], schedule: &[u8], out: &mut [u8], at: usize) ->
     ensures { Prints at out.old (last_of (simulated set.now map.now schedule.now longest_trace)) result out.new }
 {
     let mut trace = [0u8; Machine::TRACE];
-    let answer = simulation::simulate(set, map, schedule, &mut trace);
-    match answer {
-        RunAnswer::Ran { steps, end } => last(out, at, end),
-        RunAnswer::Refused { number, place } => refusal(out, at, number),
+    match simulation::simulate(set, map, schedule, &mut trace) {
+        Ok(run) => last(out, at, run.end),
+        Err(refused) => refusal(out, at, refused.refusal.number()),
     }
 }
 
-// Prints the last line after a schedule whose next choice was refused with a number.
-fn stop(set: &[u8], map: &[u8], schedule: &[u8], number: u8, out: &mut [u8], at: usize) -> usize
-    ensures { Prints at out.old (cond (eqb number 14) (refused_line 14) (last_of (simulated set.now map.now schedule.now longest_trace))) result out.new }
+// Prints the last line after a schedule whose next choice was refused.
+fn stop(set: &[u8], map: &[u8], schedule: &[u8], why: Refusal, out: &mut [u8], at: usize) -> usize
+    ensures { Prints at out.old (cond (eqb (number why) 14) (refused_line 14) (last_of (simulated set.now map.now schedule.now longest_trace))) result out.new }
 {
-    if number == refusals::LACKS_CELL {
-        return refusal(out, at, refusals::LACKS_CELL);
+    if why == Refusal::LacksCell {
+        return refusal(out, at, why.number());
     }
     finish(set, map, schedule, out, at)
 }
@@ -92,23 +89,19 @@ fn run(set: &[u8], map: &[u8], out: &mut [u8]) -> usize
     let mut schedule = [0u8; Machine::STEPS];
     let mut trace = [0u8; Machine::TRACE];
     let mut at: usize = 0;
-    let mut k: usize = 0;
-    while k < Machine::STEPS {
+    for k in 0..Machine::STEPS {
         schedule[k] = next(set, map, schedule, k);
-        let answer = simulation::simulate(set, map, &schedule[..k + 1], &mut trace);
-        match answer {
-            RunAnswer::Ran { steps, end } => {
+        let run = simulation::simulate(set, map, &schedule[..k + 1], &mut trace);
+        match run {
+            Ok(_) => {
                 let from = Machine::STEP * k;
                 let to = from + Machine::STEP;
                 at = line(out, at, &trace[from..to]);
-                k += 1;
             }
-            RunAnswer::Refused { number, place } => {
-                return stop(set, map, &schedule[..k], number, out, at);
-            }
+            Err(refused) => return stop(set, map, &schedule[..k], refused.refusal, out, at),
         }
     }
-    finish(set, map, &schedule[..k], out, at)
+    finish(set, map, &schedule, out, at)
 }
 
 // Prints the listing of a set and a map from the start of an output on, and gives how many bytes it printed.
@@ -117,10 +110,9 @@ pub fn list(set: &[u8], map: &[u8], out: &mut [u8]) -> usize
         × (out.new ≡ printed (listing set.now map.now) out.old) }
 {
     let mut trace = [0u8; 1];
-    let answer = simulation::simulate(set, map, b"", &mut trace);
-    match answer {
-        RunAnswer::Ran { steps, end } => run(set, map, out),
-        RunAnswer::Refused { number, place } => refusal(out, 0, number),
+    match simulation::simulate(set, map, b"", &mut trace) {
+        Ok(_) => run(set, map, out),
+        Err(refused) => refusal(out, 0, refused.refusal.number()),
     }
 }
 

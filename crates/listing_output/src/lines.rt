@@ -1,88 +1,53 @@
 // The line of a step, from the bytes of its trace step, and the last line.
-ghost use Rattle.std.specs.Prelude.{◌≤◌, ◌<◌};
+ghost use Rattle.std.specs.Prelude.{◌≡◌};
+ghost use Rattle.records.specs.Instructions.{word_of};
+ghost use Rattle.records.specs.Numbers.{number};
 ghost use Rattle.listing_output.specs.Listings.{item as item_of, name as name_of, argument as argument_of, pair as pair_of, last_line, refused_line};
 ghost use Rattle.listing_output.specs.Outputs.{Prints, act_at, registers_at, cell_shown, line_at};
 
 use crate::output::{item, number, put};
 use machine::{End, offsets};
 use records::instructions::is_bare;
-use records::{Statement, instructions};
+use records::{Instruction, Statement};
 
-// The words of the instructions are printed by four functions: the check of a `match` over byte strings grows
-// with the square of their number.
-
-// Prints LOAD, STORE or FENCE.
-fn access_word(out: &mut [u8], at: usize, n: u8) -> usize
-    requires { n < 3 }
-    ensures { Prints at out.old (name_of n) result out.new }
+// The word of an instruction.
+#[tactic(auto, unfolding(records::specs::Instructions::word_of, records::specs::Instructions::words))]
+fn word_of(instruction: Instruction) -> &'static [u8]
+    ensures { result.now ≡ word_of (number instruction) }
 {
-    match n {
-        instructions::LOAD => put(out, at, b"LOAD"),
-        instructions::STORE => put(out, at, b"STORE"),
-        _ => put(out, at, b"FENCE"),
+    match instruction {
+        Instruction::Load => b"LOAD",
+        Instruction::Store => b"STORE",
+        Instruction::Fence => b"FENCE",
+        Instruction::Add => b"ADD",
+        Instruction::Addi => b"ADDI",
+        Instruction::Sub => b"SUB",
+        Instruction::Subi => b"SUBI",
+        Instruction::Mul => b"MUL",
+        Instruction::Muli => b"MULI",
+        Instruction::Jmp => b"JMP",
+        Instruction::Jz => b"JZ",
+        Instruction::Jnz => b"JNZ",
+        Instruction::Js => b"JS",
+        Instruction::Jns => b"JNS",
+        Instruction::Jnzns => b"JNZNS",
+        Instruction::Mem => b"MEM",
+        Instruction::Cas => b"CAS",
+        Instruction::Halt => b"HALT",
+        Instruction::Exit => b"EXIT",
+        Instruction::Check => b"CHECK",
     }
 }
 
-// Prints the word of an instruction from ADD to MULI.
-fn arithmetic_word(out: &mut [u8], at: usize, n: u8) -> usize
-    requires { (3 ≤ n) × (n < 9) }
-    ensures { Prints at out.old (name_of n) result out.new }
-{
-    match n {
-        instructions::ADD => put(out, at, b"ADD"),
-        instructions::ADDI => put(out, at, b"ADDI"),
-        instructions::SUB => put(out, at, b"SUB"),
-        instructions::SUBI => put(out, at, b"SUBI"),
-        instructions::MUL => put(out, at, b"MUL"),
-        _ => put(out, at, b"MULI"),
-    }
-}
-
-// Prints the word of a jump.
-fn jump_word(out: &mut [u8], at: usize, n: u8) -> usize
-    requires { (9 ≤ n) × (n < 15) }
-    ensures { Prints at out.old (name_of n) result out.new }
-{
-    match n {
-        instructions::JMP => put(out, at, b"JMP"),
-        instructions::JZ => put(out, at, b"JZ"),
-        instructions::JNZ => put(out, at, b"JNZ"),
-        instructions::JS => put(out, at, b"JS"),
-        instructions::JNS => put(out, at, b"JNS"),
-        _ => put(out, at, b"JNZNS"),
-    }
-}
-
-// Prints the word of an instruction from MEM on, or FLUSH; nothing past these.
-fn other_word(out: &mut [u8], at: usize, n: u8) -> usize
-    requires { 15 ≤ n }
-    ensures { Prints at out.old (name_of n) result out.new }
-{
-    match n {
-        instructions::MEM => put(out, at, b"MEM"),
-        instructions::CAS => put(out, at, b"CAS"),
-        instructions::HALT => put(out, at, b"HALT"),
-        instructions::EXIT => put(out, at, b"EXIT"),
-        instructions::CHECK => put(out, at, b"CHECK"),
-        Statement::INSTRUCTIONS => put(out, at, b"FLUSH"),
-        _ => put(out, at, b""),
-    }
-}
-
-// Prints the word of instruction n, or FLUSH.
+// Prints the word of instruction n, or FLUSH; nothing past these.
 fn name(out: &mut [u8], at: usize, n: u8) -> usize
     ensures { Prints at out.old (name_of n) result out.new }
 {
-    if n < instructions::ADD {
-        return access_word(out, at, n);
+    match Instruction::try_from(n) {
+        Ok(instruction) => put(out, at, word_of(instruction)),
+        Err(_) if n == Statement::INSTRUCTIONS => put(out, at, b"FLUSH"),
+        Err(_) => put(out, at, b""),
     }
-    if n < instructions::JMP {
-        return arithmetic_word(out, at, n);
-    }
-    if n < instructions::MEM {
-        return jump_word(out, at, n);
-    }
-    other_word(out, at, n)
 }
 
 // Prints an argument: - for none, an indirect one in brackets.
@@ -118,7 +83,7 @@ fn act(out: &mut [u8], at: usize, step: &[u8]) -> usize
         mode: base::byte_at(step, offsets::MODE),
         argument: base::word_at(step, offsets::ARGUMENT),
     };
-    let thread = item(out, at, base::byte_at(step, offsets::THREAD) as u16);
+    let thread = item(out, at, u16::from(base::byte_at(step, offsets::THREAD)));
     let pc = item(out, thread, base::word_at(step, offsets::PC));
     let named = word(out, pc, n);
     let next = argument(out, named, i);
@@ -133,7 +98,7 @@ fn registers(out: &mut [u8], at: usize, step: &[u8]) -> usize
     let mem = item(out, accu, base::word_at(step, offsets::MEM));
     let adr = item(out, mem, base::word_at(step, offsets::ADR));
     let val = item(out, adr, base::word_at(step, offsets::VAL));
-    item(out, val, base::byte_at(step, offsets::FULL) as u16)
+    item(out, val, u16::from(base::byte_at(step, offsets::FULL)))
 }
 
 // Prints address and value of a written cell, between their brackets.
@@ -188,6 +153,6 @@ pub fn refusal(out: &mut [u8], at: usize, n: u8) -> usize
     ensures { Prints at out.old (refused_line n) result out.new }
 {
     let word = put(out, at, b"refused ");
-    let next = number(out, word, n as u16);
+    let next = number(out, word, u16::from(n));
     put(out, next, b"\n")
 }

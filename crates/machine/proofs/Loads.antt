@@ -2,14 +2,16 @@
 use Prim.Native.Nat.{ℕ}
 use mathlib.Core.Path.{◌≡◌, refl, ap, ap₂, sym, ◌∙◌}
 use mathlib.Core.Bool.{Bool, true, false, cond, not, ◌&&◌, ◌||◌}
-use mathlib.Core.List.{[], ◌∷◌, ◌++◌}
+use mathlib.Core.List.{List, [], ◌∷◌, ◌++◌}
 use borrow.Author.Tests.{eq-eqb, ne_eqb}
+use Rattle.std.specs.Prelude.{Option, None}
+use Rattle.std.specs.Bool.{then_some}
 use lib.Dec.{eqb}
 use Rattle.base.proofs.Choice.{chosen, passed, and_true, and_false, and_right_false, and_yes, or_true}
 use Rattle.records.specs.Instructions.{STORE, CAS, is_memory}
 use Rattle.records.specs.declared.Statement.{Statement}
 use Rattle.machine.specs.Machine.{forwards, load, address, takes_word, word_taken, reads_argument, reads_address, cells_read}
-use Rattle.machine.specs.Held.{cells_of}
+use Rattle.machine.specs.Held.{cells_of, listed}
 use Rattle.machine.specs.Maps.{knows_all}
 use Rattle.machine.specs.declared.Thread.{Thread}
 
@@ -69,15 +71,21 @@ module _ (i : Statement) (x : Thread) (memory : ℕ → ℕ) (known : ℕ → Bo
   knows-from k l p q = ap₂ (λ (b c : Bool). b && c) p q ∙ sym knows-cells
 
   -- as the code reports them
-  pub cells-word : (p q : Bool) (a : ℕ) → p ≡ reads_argument i x → q ≡ reads_address i x (address i x memory) → a ≡ address i x memory →
-      cells_of (record { argument = p; first = i.argument; word = q; second = a }) ≡ cells_read i x memory
-  unfolding cells_read
-  cells-word p q a e f g k = cond (e k) (i.argument ∷ []) [] ++ cond (f k) (g k ∷ []) []
+  listed_if : (r : Option ℕ) (b : Bool) (a : ℕ) → r ≡ then_some b a → listed r ≡ cond b (a ∷ []) []
+  listed_if r true a e = ap listed e
+  listed_if r false a e = ap listed e
 
-  pub cells-none : (p : Bool) → p ≡ reads_argument i x → false ≡ reads_address i x (address i x memory) →
-      cells_of (record { argument = p; first = i.argument; word = false; second = 0 }) ≡ cells_read i x memory
+  pub cells-word : (p q : Bool) (a : ℕ) (r s : Option ℕ) → p ≡ reads_argument i x → q ≡ reads_address i x (address i x memory) → a ≡ address i x memory →
+      r ≡ then_some p i.argument → s ≡ then_some q a → cells_of (record { argument = r; word = s }) ≡ cells_read i x memory
   unfolding cells_read
-  cells-none p e f k = cond (e k) (i.argument ∷ []) [] ++ cond (f k) (address i x memory ∷ []) []
+  cells-word p q a r s e f g d h =
+      ap₂ (λ (xs ys : List ℕ). xs ++ ys) (listed_if r p i.argument d) (listed_if s q a h) ∙ (λ k. cond (e k) (i.argument ∷ []) [] ++ cond (f k) (g k ∷ []) [])
+
+  pub cells-none : (p : Bool) (r : Option ℕ) → p ≡ reads_argument i x → false ≡ reads_address i x (address i x memory) → r ≡ then_some p i.argument →
+      cells_of (record { argument = r; word = None }) ≡ cells_read i x memory
+  unfolding cells_read
+  cells-none p r e f d =
+      ap (λ (xs : List ℕ). xs ++ []) (listed_if r p i.argument d) ∙ (λ k. cond (e k) (i.argument ∷ []) [] ++ cond (f k) (address i x memory ∷ []) [])
 
   -- ---- the word taken
 

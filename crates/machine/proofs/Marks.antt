@@ -1,5 +1,6 @@
 -- The marks after a step, one thread and checkpoint at a time: a CHECK sets its own, a mark at a checkpoint that is not open stays, and there is
 -- no other; so a checkpoint opens in the step that sets its last mark. Assumes nothing.
+use Rattle.std.specs.Prelude.{Option, Some, is_some}
 use Prim.Native.Nat.{ℕ, ◌<◌}
 use mathlib.Core.Path.{◌≡◌, refl, ap, ap₂, sym, subst, ◌∙◌}
 use mathlib.Core.Bool.{Bool, true, false, cond, not, ◌&&◌, ◌||◌}
@@ -10,10 +11,9 @@ use Rattle.base.proofs.Choice.{chosen, passed, and_true, and_false, and_left, an
 use Rattle.records.specs.Instructions.{CHECK}
 use Rattle.records.specs.Sets.{Set}
 use Rattle.records.specs.declared.Statement.{Statement}
-use Rattle.machine.specs.Machine.{State, unmarked, is_empty, needs_empty, current, actor, is_check, contains, marked_at, opened, waiting, permitted, leaves_mark, cleared, marks_after}
+use Rattle.machine.specs.Machine.{State, unmarked, is_empty, needs_empty, current, actor, is_check, contains, marked_at, opened, waiting, permitted, leaves_mark, cleared, marks_after, checkpoint_of}
 use Rattle.machine.specs.declared.Choice.{Choice}
 use Rattle.machine.specs.declared.Choice.TheVariants.{Execute, Flush}
-use Rattle.machine.specs.declared.Mark.{Mark}
 
 -- a thread that may execute does not wait
 pub runs_free : (S : Set) (s : State) (t : ℕ) → permitted S s (Execute t) ≡ true → waiting S s.marks t ≡ false
@@ -34,7 +34,7 @@ module _ (S : Set) (s : State) where
   checks (Flush u) t p = false
 
   module _ (t p : ℕ) where
-    abbrev own : Mark
+    abbrev own : Option ℕ
     own = s.marks t
 
     abbrev is_open : Bool
@@ -53,12 +53,12 @@ module _ (S : Set) (s : State) where
         kept true e = refl
         kept false e = e
 
-        go : (b : Bool) → marked_at own p ≡ b → marked_at (cond (own.on && opened S s.marks own.checkpoint) unmarked own) p ≡ (b && not is_open)
+        go : (b : Bool) → marked_at own p ≡ b → marked_at (cond ((is_some own) && opened S s.marks (checkpoint_of own)) unmarked own) p ≡ (b && not is_open)
         go true e =
-            let on = and_left own.on (eqb own.checkpoint p) e in
-            let here = eqb-true own.checkpoint p (and_right own.on (eqb own.checkpoint p) e) in
+            let on = and_left (is_some own) (eqb (checkpoint_of own) p) e in
+            let here = eqb-true (checkpoint_of own) p (and_right (is_some own) (eqb (checkpoint_of own) p) e) in
             (λ z. marked_at (cond (on z && opened S s.marks (here z)) unmarked own) p) ∙ kept is_open e
-        go false e = into (own.on && opened S s.marks own.checkpoint) e
+        go false e = into ((is_some own) && opened S s.marks (checkpoint_of own)) e
 
     -- a thread that does not wait keeps none
     keeps-none : waiting S s.marks t ≡ false → keeps t p ≡ false
@@ -67,8 +67,8 @@ module _ (S : Set) (s : State) where
       where
         go : (b : Bool) → marked_at own p ≡ b → (b && not is_open) ≡ false
         go true e =
-            let on = and_left own.on (eqb own.checkpoint p) e in
-            let here = eqb-true own.checkpoint p (and_right own.on (eqb own.checkpoint p) e) in
+            let on = and_left (is_some own) (eqb (checkpoint_of own) p) e in
+            let here = eqb-true (checkpoint_of own) p (and_right (is_some own) (eqb (checkpoint_of own) p) e) in
             sym (λ z. on z && not (opened S s.marks (here z))) ∙ free
         go false e = refl
 
@@ -80,7 +80,7 @@ module _ (S : Set) (s : State) where
     unfolding leaves_mark
     leaves = refl
 
-    own-set : leaves_mark S s (Execute t) ≡ true → marks_after S s (Execute t) t ≡ record { on = true; checkpoint = i.argument }
+    own-set : leaves_mark S s (Execute t) ≡ true → marks_after S s (Execute t) t ≡ Some i.argument
     own-set e = chosen _ _ (and_true e (eq-eqb t t refl))
 
     -- every other mark is cleared where its checkpoint is open
@@ -88,7 +88,7 @@ module _ (S : Set) (s : State) where
     not_set c e = passed _ _ e
 
     stays : (c : Choice) → (leaves_mark S s c && eqb t (actor c)) ≡ false → checks c t p ≡ false → marked_at (marks_after S s c t) p ≡ (keeps t p || checks c t p)
-    stays c e none = ap (λ (m : Mark). marked_at m p) (not_set c e) ∙ cleared_at ∙ sym (ap (λ (b : Bool). keeps t p || b) none ∙ or_no (keeps t p))
+    stays c e none = ap (λ (m : Option ℕ). marked_at m p) (not_set c e) ∙ cleared_at ∙ sym (ap (λ (b : Bool). keeps t p || b) none ∙ or_no (keeps t p))
 
     own-after : permitted S s (Execute t) ≡ true → marked_at (marks_after S s (Execute t) t) p ≡ (keeps t p || checks (Execute t) t p)
     own-after may = go (eqb i.number CHECK) refl
@@ -98,7 +98,7 @@ module _ (S : Set) (s : State) where
 
         go : (n : Bool) → eqb i.number CHECK ≡ n → marked_at (marks_after S s (Execute t) t) p ≡ (keeps t p || checks (Execute t) t p)
         go true e =
-            ap (λ (m : Mark). marked_at m p) (own-set (leaves ∙ e))
+            ap (λ (m : Option ℕ). marked_at m p) (own-set (leaves ∙ e))
             ∙ sym (ap₂ (λ (a b : Bool). a || b) (keeps-none (runs_free S s t may)) (checked true e))
         go false e = stays (Execute t) (and_false (eqb t t) (leaves ∙ e)) (checked false e)
 
@@ -127,7 +127,7 @@ module _ (S : Set) (s : State) where
       stayed none u = from (leaves_mark S s c && eqb u (actor c)) refl
         where
           from : (b : Bool) → (leaves_mark S s c && eqb u (actor c)) ≡ b →
-              marked_at (cond b (record { on = true; checkpoint = (current S s (actor c)).argument }) (cleared S s.marks u)) p ≡ true → keeps u p ≡ true
+              marked_at (cond b (Some (current S s (actor c)).argument) (cleared S s.marks u)) p ≡ true → keeps u p ≡ true
           from true e m = clash (and_true (and_left (leaves_mark S s c) (eqb u (actor c)) e) m) none
           from false e m = sym (cleared_at u p) ∙ m
 

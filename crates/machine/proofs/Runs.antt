@@ -6,6 +6,7 @@ use mathlib.Core.Bool.{Bool, true, false, cond, not, ◌||◌}
 use mathlib.Core.List.{List, [], ◌∷◌, ◌++◌}
 use native.Mathlib.Omega.{arith}
 use native.Mathlib.Decide.{dec_lt}
+use Rattle.std.specs.Prelude.{Result, Ok, Err, Option}
 use lib.Dec.{eqb, ltb}
 use lib.ListN.{length, take, drop, length-append}
 use lib.Seq.{take_at, drop_at, get_or-take}
@@ -13,38 +14,44 @@ use borrow.Author.Tests.{ltb-true, ltb-false, lt-ltb, le-ltb, eqb-true, ne_eqb}
 use Rattle.base.proofs.Choice.{chosen, passed, and_true, and_left, and_right, clash}
 use Rattle.records.specs.Instructions.{JMP, JZ, JNZ, JS, JNS, JNZNS, HALT, EXIT, instructions, is_jump, is_last}
 use Rattle.records.specs.Sets.{Set, WellFormedSet}
+use Rattle.records.specs.declared.refusals.Refused.{Refused}
 use Rattle.machine.specs.Machine.{State, start, current, jumps, next_pc, executed, permitted, actor, acted, written, reads, step}
 use Rattle.machine.specs.Runs.{flush_byte, choice_of, choices, takes, is_run, after, end_of}
-use Rattle.machine.specs.Maps.{Held, knows_all, outcome, advanced, on_outcome, follow}
+use Rattle.machine.specs.Maps.{Held, knows_all, outcome, advanced, ran, refused_at, on_outcome, follow}
 use Rattle.machine.specs.Traces.{bit, shown, step_bytes, trace_step, trace, step_choice, step_length}
-use Rattle.machine.specs.declared.RunAnswer.{RunAnswer}
-use Rattle.machine.specs.declared.RunAnswer.TheVariants.{Ran, Refused}
 use Rattle.machine.specs.declared.Choice.{Choice}
 use Rattle.machine.specs.declared.Choice.TheVariants.{Execute, Flush}
 use Rattle.machine.specs.declared.End.{End}
 use Rattle.machine.specs.declared.Outcome.{Outcome}
 use Rattle.machine.specs.declared.Outcome.TheVariants.{Taken, NotPermitted, Lacking}
+use Rattle.machine.specs.declared.Run.{Run}
 use Rattle.machine.specs.declared.Thread.{Thread}
-use Rattle.machine.specs.declared.Written.{Written}
+use Rattle.records.specs.declared.Cell.{Cell}
 
 -- ---- answers
 
 -- no answer is both a refusal and a run
-pub refused-ran : {A : Type 0} {number place n : ℕ} {e : End} → Refused number place ≡ Ran n e → A
-refused-ran p = let z : ◌≡◌ {A = ℕ} 0 1 = cc in absurd (omega arith)
+pub refused-ran : {A : Type 0} {r : Refused} {run : Run} → Err r ≡ Ok run → A
+refused-ran p = cc
+
+-- answers that are the same are of one run
+pub same_run : {a b : Run} → ran a.steps a.end ≡ ran b.steps b.end → a ≡ b
+same_run p = cc
+
+-- refusals that are the same are of one refusal and place
+pub same_refused : {r s : Refused} → refused_at r.refusal r.place ≡ refused_at s.refusal s.place → r ≡ s
+same_refused p = cc
 
 -- what ran was refused by no test before it
-pub ran-after : (b : Bool) (number place : ℕ) {n : ℕ} {e : End} {rest : RunAnswer} → cond b (Refused number place) rest ≡ Ran n e →
-    (b ≡ false) × (rest ≡ Ran n e)
-ran-after true number place p = refused-ran p
-ran-after false number place p = (refl, p)
+pub ran-after : (b : Bool) (r : Refused) {run : Run} {rest : Result Run Refused} → cond b (Err r) rest ≡ Ok run → (b ≡ false) × (rest ≡ Ok run)
+ran-after true r p = refused-ran p
+ran-after false r p = (refl, p)
 
-pub ran_where : (b : Bool) (number place : ℕ) {n : ℕ} {e : End} {rest : RunAnswer} → cond b rest (Refused number place) ≡ Ran n e →
-    (b ≡ true) × (rest ≡ Ran n e)
-ran_where true number place p = (refl, p)
-ran_where false number place p = refused-ran p
+pub ran_where : (b : Bool) (r : Refused) {run : Run} {rest : Result Run Refused} → cond b rest (Err r) ≡ Ok run → (b ≡ true) × (rest ≡ Ok run)
+ran_where true r p = (refl, p)
+ran_where false r p = refused-ran p
 
-pub ran-taken : (o : Outcome) (i : ℕ) {n : ℕ} {e : End} {rest : RunAnswer} → on_outcome o i rest ≡ Ran n e → (o ≡ Taken) × (rest ≡ Ran n e)
+pub ran-taken : (o : Outcome) (i : ℕ) {run : Run} {rest : Result Run Refused} → on_outcome o i rest ≡ Ok run → (o ≡ Taken) × (rest ≡ Ok run)
 ran-taken Taken i p = (refl, p)
 ran-taken NotPermitted i p = refused-ran p
 ran-taken Lacking i p = refused-ran p
@@ -257,17 +264,19 @@ pub record Followed (S : Set) (h : Held) (i : ℕ) (run : List Choice) (n : ℕ)
 
 -- a run is followed to its end exactly if all of it is taken
 pub follow-taken : (S : Set) (h : Held) (i : ℕ) (run : List Choice) → AllTaken S h run →
-    follow S h i run ≡ Ran (i + length run) (end_of S (after S h.state run))
+    follow S h i run ≡ ran (i + length run) (end_of S (after S h.state run))
 unfolding follow after advanced
-follow-taken S h i [] taken = ap (λ (n : ℕ). Ran n (end_of S h.state)) (omega arith)
+follow-taken S h i [] taken = ap (λ (n : ℕ). ran n (end_of S h.state)) (omega arith)
 follow-taken S h i (c ∷ run) taken =
     ap (λ (o : Outcome). on_outcome o i (follow S (advanced S h c) (suc i) run)) taken.0
     ∙ follow-taken S (advanced S h c) (suc i) run taken.1
-    ∙ ap (λ (n : ℕ). Ran n (end_of S (after S (step S h.state c) run))) (omega arith)
+    ∙ ap (λ (n : ℕ). ran n (end_of S (after S (step S h.state c) run))) (omega arith)
 
-pub follow-ran : (S : Set) (h : Held) (i : ℕ) (run : List Choice) (n : ℕ) (e : End) → follow S h i run ≡ Ran n e → Followed S h i run n e
+pub follow-ran : (S : Set) (h : Held) (i : ℕ) (run : List Choice) (n : ℕ) (e : End) → follow S h i run ≡ ran n e → Followed S h i run n e
 unfolding follow after advanced
-follow-ran S h i [] n e p = record { taken = tt; steps = let q : i ≡ n = cc in omega arith; end = cc }
+follow-ran S h i [] n e p =
+    let q = same_run p in
+    record { taken = tt; steps = let k : i ≡ n = ap (λ (r : Run). r.steps) q in omega arith; end = ap (λ (r : Run). r.end) (sym q) }
 follow-ran S h i (c ∷ run) n e p =
     let (o, r) = ran-taken (outcome S h c) i p in
     let f = follow-ran S (advanced S h c) (suc i) run n e r in
@@ -275,11 +284,11 @@ follow-ran S h i (c ∷ run) n e p =
 
 -- ---- traces
 
-pub length-trace_step : (S : Set) (s : State) (w : Written) (c : Choice) → length (trace_step S s w c) ≡ step_length
+pub length-trace_step : (S : Set) (s : State) (w : Option Cell) (c : Choice) → length (trace_step S s w c) ≡ step_length
 unfolding trace_step step_bytes
 length-trace_step S s w c = refl
 
-pub length-trace : (S : Set) (s : State) (w : Written) (run : List Choice) → length (trace S s w run) ≡ step_length * length run
+pub length-trace : (S : Set) (s : State) (w : Option Cell) (run : List Choice) → length (trace S s w run) ≡ step_length * length run
 unfolding trace
 length-trace S s w [] = omega arith
 length-trace S s w (c ∷ run) =
@@ -287,7 +296,7 @@ length-trace S s w (c ∷ run) =
     ∙ omega (arith, length-trace_step S s w c, length-trace S (step S s c) (written S s c) run)
 
 -- a trace's first step, and what follows it
-module _ (S : Set) (s : State) (w : Written) (c : Choice) where
+module _ (S : Set) (s : State) (w : Option Cell) (c : Choice) where
   pub take-trace : (run : List Choice) → take step_length (trace S s w (c ∷ run)) ≡ trace_step S s w c
   unfolding trace
   take-trace run = take_at (trace_step S s w c) (trace S (step S s c) (written S s c) run) step_length (length-trace_step S s w c)
@@ -303,7 +312,7 @@ step_choice-take bytes =
     ap₂ (λ (n t : ℕ). cond (eqb n instructions) (Flush t) (Execute t))
     (get_or-take step_length bytes 1 0 (omega arith)) (get_or-take step_length bytes 0 0 (omega arith))
 
-module _ (S : Set) (s : State) (w : Written) where
+module _ (S : Set) (s : State) (w : Option Cell) where
   -- a step's record shows its choice
   pub step_choice_execute : (t : ℕ) → (current S s t).number < instructions → step_choice (trace_step S s w (Execute t)) ≡ Execute t
   unfolding step_choice trace_step step_bytes shown
@@ -333,7 +342,7 @@ length-step_choices zero bytes = refl
 length-step_choices (suc n) bytes = ap suc (length-step_choices n (drop step_length bytes))
 
 -- a run's trace shows its choices
-pub step_choices-trace : (S : Set) (s : State) (w : Written) (run : List Choice) → WellFormedSet S → Inside S s.threads →
+pub step_choices-trace : (S : Set) (s : State) (w : Option Cell) (run : List Choice) → WellFormedSet S → Inside S s.threads →
     is_run S s run ≡ true → step_choices (length run) (trace S s w run) ≡ run
 unfolding step_choices
 step_choices-trace S s w [] well inside e = refl

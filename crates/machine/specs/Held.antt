@@ -1,6 +1,6 @@
 -- How it holds a state and what is known of memory. Four threads and marks, and the sparse memory's two arrays with a filled count. This serves the
 -- code; no call's promise needs it. Assumes nothing.
-use Rattle.std.specs.Prelude.{ℕ, Bool, false, cond, not, ◌&&◌, ◌||◌, List, [], ◌∷◌, ◌++◌, length, get_or}
+use Rattle.std.specs.Prelude.{ℕ, Bool, not, ◌&&◌, ◌||◌, List, [], ◌∷◌, ◌++◌, Option, Some, None, length, get_or}
 use Rattle.records.specs.Maps.{holds, content}
 use Rattle.records.specs.declared.Statement.{Statement}
 use Rattle.machine.specs.Machine.{State, fresh, unmarked, is_empty, needs_empty}
@@ -47,9 +47,13 @@ permitted_by (Execute t) i x waiting = not x.halted && not waiting && (not (need
 permitted_by (Flush t) i x waiting = not (is_empty x)
 
 -- the cells that a step read, as the code reports them
+abbrev pub listed : Option ℕ → List ℕ
+listed None = []
+listed (Some a) = a ∷ []
+
 abbrev pub cells_of : Read → List ℕ
-cells_of r = cond r.argument (r.first ∷ []) [] ++ cond r.word (r.second ∷ []) []
+cells_of r = listed r.argument ++ listed r.word
 
 -- no cell read
 abbrev pub no_read : Read
-no_read = record { argument = false; first = 0; word = false; second = 0 }
+no_read = record { argument = None; word = None }

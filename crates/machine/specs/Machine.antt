@@ -1,6 +1,6 @@
 -- The machine (document 01, "Machine"; of marks change request 2026-05): its state, which choices are permitted, and one step. The step rule that
 -- every crate stands on. Memory gives every address a word. A reader of the calls believes this. Assumes nothing.
-use Rattle.std.specs.Prelude.{ℕ, suc, Bool, true, false, cond, not, ◌&&◌, ◌||◌, List, [], ◌∷◌, ◌++◌, eqb, ltb}
+use Rattle.std.specs.Prelude.{ℕ, suc, Bool, true, false, cond, not, ◌&&◌, ◌||◌, List, [], ◌∷◌, ◌++◌, eqb, ltb, Option, Some, None, is_some, unwrap_or}
 use Rattle.base.specs.Below.{every, some}
 use Rattle.base.specs.Words.{plus, minus, times, top_bit}
 use Rattle.records.specs.Instructions.{LOAD, STORE, FENCE, ADD, ADDI, SUB, SUBI, MUL, MULI, JMP, JZ, JNZ, JS, JNS, JNZNS, MEM, CAS, HALT, EXIT, CHECK, instructions, is_memory}
@@ -8,9 +8,8 @@ use Rattle.records.specs.Sets.{Set}
 use Rattle.records.specs.declared.Statement.{Statement}
 use Rattle.machine.specs.declared.Choice.{Choice}
 use Rattle.machine.specs.declared.Choice.TheVariants.{Execute, Flush}
-use Rattle.machine.specs.declared.Mark.{Mark}
 use Rattle.machine.specs.declared.Thread.{Thread}
-use Rattle.machine.specs.declared.Written.{Written}
+use Rattle.records.specs.declared.Cell.{Cell}
 
 -- ---- state
 
@@ -18,7 +17,7 @@ use Rattle.machine.specs.declared.Written.{Written}
 -- is not open it waits, and the step after a checkpoint opened clears its marks.
 pub record State : Type 0 where
   pub threads : ℕ → Thread
-  pub marks : ℕ → Mark
+  pub marks : ℕ → Option ℕ
   pub memory : ℕ → ℕ
   pub ended : Bool
   pub code : ℕ
@@ -28,8 +27,12 @@ abbrev pub fresh : Thread
 fresh = record { accu = 0; mem = 0; adr = 0; val = 0; full = false; pc = 0; halted = false }
 
 -- no mark
-abbrev pub unmarked : Mark
-unmarked = record { on = false; checkpoint = 0 }
+abbrev pub unmarked : Option ℕ
+unmarked = None
+
+-- the checkpoint of a mark, 0 where there is none
+abbrev pub checkpoint_of : Option ℕ → ℕ
+checkpoint_of mark = unwrap_or mark 0
 
 -- fresh threads, no marks and a first memory
 abbrev pub start : (ℕ → ℕ) → State
@@ -161,16 +164,16 @@ unfoldable pub contains : Set → ℕ → ℕ → Bool
 contains S t c = some (S.count t) (is_check S t c)
 
 -- the mark is one at checkpoint c
-abbrev pub marked_at : Mark → ℕ → Bool
-marked_at m c = m.on && eqb m.checkpoint c
+abbrev pub marked_at : Option ℕ → ℕ → Bool
+marked_at m c = is_some m && eqb (checkpoint_of m) c
 
 -- A checkpoint opens when every thread containing that CHECK is marked.
-unfoldable pub opened : Set → (ℕ → Mark) → ℕ → Bool
+unfoldable pub opened : Set → (ℕ → Option ℕ) → ℕ → Bool
 opened S marks c = every S.threads (λ t. not (contains S t c) || marked_at (marks t) c)
 
 -- A marked thread waits until then.
-unfoldable pub waiting : Set → (ℕ → Mark) → ℕ → Bool
-waiting S marks t = (marks t).on && not (opened S marks (marks t).checkpoint)
+unfoldable pub waiting : Set → (ℕ → Option ℕ) → ℕ → Bool
+waiting S marks t = is_some (marks t) && not (opened S marks (checkpoint_of (marks t)))
 
 -- ---- permitted choices
 
@@ -213,26 +216,30 @@ leaves_mark S s (Execute t) = eqb (current S s t).number CHECK
 leaves_mark S s (Flush t) = false
 
 -- The next step, by anyone, clears an open checkpoint's marks.
-unfoldable pub cleared : Set → (ℕ → Mark) → ℕ → Mark
-cleared S marks u = cond ((marks u).on && opened S marks (marks u).checkpoint) unmarked (marks u)
+unfoldable pub cleared : Set → (ℕ → Option ℕ) → ℕ → Option ℕ
+cleared S marks u = cond (is_some (marks u) && opened S marks (checkpoint_of (marks u))) unmarked (marks u)
 
 -- the marks after a step: a CHECK's own is set after the clearing, also where this very step clears that checkpoint (request 2026-05)
-abbrev pub marks_after : Set → State → Choice → ℕ → Mark
+abbrev pub marks_after : Set → State → Choice → ℕ → Option ℕ
 marks_after S s c u =
     cond (leaves_mark S s c && eqb u (actor c))
-    (record { on = true; checkpoint = (current S s (actor c)).argument })
+    (Some (current S s (actor c)).argument)
     (cleared S s.marks u)
 
 -- no cell written
-abbrev pub no_write : Written
-no_write = record { done = false; address = 0; value = 0 }
+abbrev pub no_write : Option Cell
+no_write = None
 
 -- v written at address a
-abbrev pub wrote : (a v : ℕ) → Written
-wrote a v = record { done = true; address = a; value = v }
+abbrev pub wrote : (a v : ℕ) → Option Cell
+wrote a v = Some (record { address = a; value = v })
+
+-- the cell of a write, 0 with 0 where there is none
+abbrev pub cell_of : Option Cell → Cell
+cell_of w = unwrap_or w (record { address = 0; value = 0 })
 
 -- the cell that a step writes: a flush val at adr, a CAS that matches accu at its address
-unfoldable pub written : Set → State → Choice → Written
+unfoldable pub written : Set → State → Choice → Option Cell
 written S s (Execute t) =
     cond (cas_matches (current S s t) (s.threads t) s.memory)
     (wrote (address (current S s t) (s.threads t) s.memory) (s.threads t).accu)
@@ -240,8 +247,8 @@ written S s (Execute t) =
 written S s (Flush t) = wrote (s.threads t).adr (s.threads t).val
 
 -- the memory once the write is made, if there is one
-abbrev pub memory_after : Written → (ℕ → ℕ) → ℕ → ℕ
-memory_after w memory a = cond (w.done && eqb w.address a) w.value (memory a)
+abbrev pub memory_after : Option Cell → (ℕ → ℕ) → ℕ → ℕ
+memory_after w memory a = cond (is_some w && eqb (cell_of w).address a) (cell_of w).value (memory a)
 
 -- EXIT: the machine ends, its code the argument.
 abbrev pub exits : Set → State → Choice → Bool

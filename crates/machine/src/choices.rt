@@ -1,18 +1,20 @@
 // Which choices are permitted.
-ghost use Rattle.std.specs.Prelude.{◌≡◌, not, ◌&&◌, ℕ, leb, get_or};
+ghost use Rattle.std.specs.Prelude.{◌≡◌, not, ◌&&◌, ℕ, is_some, leb, get_or};
 ghost use Rattle.records.specs.Sets.{set_by, most_threads};
 ghost use Rattle.machine.specs.Held.{state_of, permitted_by};
-ghost use Rattle.machine.specs.Machine.{unmarked, needs_empty, opened, actor as actor_of, permitted};
+ghost use Rattle.machine.specs.Machine.{unmarked, checkpoint_of, needs_empty, opened, actor as actor_of, permitted};
 
-use crate::{Choice, Machine, Mark, Thread, checkpoints};
-use records::instructions::{CAS, FENCE, HALT, STORE};
-use records::{Layout, Statement};
+use crate::{Choice, Machine, Thread, checkpoints};
+use records::{Instruction, Layout, Statement};
 
 // STORE, FENCE, CAS and HALT.
 pub fn needs_empty(n: u8) -> bool
     ensures { result ≡ needs_empty n }
 {
-    (n == STORE) | (n == FENCE) | (n == CAS) | (n == HALT)
+    (n == Instruction::Store.number())
+        | (n == Instruction::Fence.number())
+        | (n == Instruction::Cas.number())
+        | (n == Instruction::Halt.number())
 }
 
 // Whether the acting thread may make its choice: i is its statement, x its registers, mark its mark.
@@ -20,13 +22,13 @@ pub fn needs_empty(n: u8) -> bool
 pub fn may(
     set: &[u8],
     layout: Layout,
-    marks: [Mark; Layout::THREADS],
-    mark: Mark,
+    marks: [Option<u16>; Layout::THREADS],
+    mark: Option<u16>,
     i: Statement,
     x: Thread,
     choice: Choice,
 ) -> bool
-    ensures { result ≡ permitted_by choice i x (mark.on && not (opened (set_by set.now layout) (λ u. get_or marks u unmarked) mark.checkpoint)) }
+    ensures { result ≡ permitted_by choice i x (is_some mark && not (opened (set_by set.now layout) (λ u. get_or marks u unmarked) (checkpoint_of mark))) }
 {
     match choice {
         Choice::Execute(_) => {
@@ -34,10 +36,10 @@ pub fn may(
             if blocked {
                 return false;
             }
-            if mark.on {
-                return checkpoints::opened(set, layout, marks, mark.checkpoint);
+            match mark {
+                Some(c) => checkpoints::opened(set, layout, marks, c),
+                None => true,
             }
-            true
         }
         Choice::Flush(_) => x.full,
     }
@@ -64,7 +66,7 @@ pub fn permits(set: &[u8], layout: Layout, m: Machine, choice: Choice) -> bool
     if layout.threads <= t {
         return false;
     }
-    let at = t as usize;
+    let at = usize::from(t);
     let x = m.threads[at];
     let marks = m.marks;
     let mark = marks[at];

@@ -25,13 +25,6 @@ pub struct Thread {
     pub halted: bool,
 }
 
-// Where a thread is marked, if it is.
-#[derive(Clone, Copy)]
-pub struct Mark {
-    pub on: bool,
-    pub checkpoint: u16,
-}
-
 // A step: one thread executing or one thread flushing.
 #[derive(Clone, Copy)]
 pub enum Choice {
@@ -39,24 +32,17 @@ pub enum Choice {
     Flush(u8),
 }
 
-// The cell that a step wrote, if it wrote one.
-#[derive(Clone, Copy)]
-pub struct Written {
-    pub done: bool,
-    pub address: u16,
-    pub value: u16,
-}
-
-// The machine apart from its memory.
+// The machine apart from its memory; a thread's mark is the checkpoint where it is marked.
 #[derive(Clone, Copy)]
 pub struct Machine {
     pub threads: [Thread; Layout::THREADS],
-    pub marks: [Mark; Layout::THREADS],
+    pub marks: [Option<u16>; Layout::THREADS],
     pub ended: bool,
     pub code: u16,
 }
 
-// How a step came out: taken, not permitted, or a cell read that is not known.
+// How a step came out: taken, not permitted, or a cell read that is not known. No `Result`: none of the three has a value, and which of them
+// refuses depends on what a trace says of the step.
 #[derive(Clone, Copy)]
 pub enum Outcome {
     Taken,
@@ -64,28 +50,26 @@ pub enum Outcome {
     Lacking,
 }
 
-// The cells that a step read: its address word's, where that is read from a cell, then the word's it took.
-#[derive(Clone, Copy)]
+// The cells that a step read: its address word's, then the word's it took, each where it is read from a cell.
+#[derive(Clone, Copy, Debug, PartialEq, Eq)]
 pub struct Read {
-    pub argument: bool,
-    pub first: u16,
-    pub word: bool,
-    pub second: u16,
+    pub argument: Option<u16>,
+    pub word: Option<u16>,
 }
 
 // How a run stands: ended with a code, stuck, or open.
-#[derive(Clone, Copy)]
+#[derive(Clone, Copy, Debug, PartialEq, Eq)]
 pub enum End {
     Code(u16),
     Stuck,
     Open,
 }
 
-// What simulation and replay answer.
-#[derive(Clone, Copy)]
-pub enum RunAnswer {
-    Ran { steps: u16, end: End },
-    Refused { number: u8, place: u32 },
+// A run that no refusal stopped: how many steps it took, and how it stands.
+#[derive(Clone, Copy, Debug, PartialEq, Eq)]
+pub struct Run {
+    pub steps: u16,
+    pub end: End,
 }
 
 impl Choice {

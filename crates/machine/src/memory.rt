@@ -9,6 +9,7 @@ ghost use Rattle.machine.specs.Held.{memory_in, known_in};
 const GROUP: usize = 16;
 
 // A word that a statement takes: whether it is known, its value (0 where it is not), and whether it was read from its cell.
+// No option: a word that is not known counts as 0, and the cell at that address is told as read too.
 #[derive(Clone, Copy)]
 pub struct Word {
     pub known: bool,
@@ -21,10 +22,8 @@ fn among(addresses: &[u16], a: u16) -> bool
     ensures { result ≡ some (length addresses.now) (λ k. eqb (get_or addresses.now k 0) a) }
 {
     let mut found = false;
-    let mut k: usize = 0;
-    while k < addresses.len() {
-        found = found | (addresses[k] == a);
-        k += 1;
+    for address in addresses {
+        found |= *address == a;
     }
     found
 }
@@ -34,31 +33,27 @@ fn cell_from(addresses: &[u16], from: usize, a: u16) -> usize
     requires { (from ≤ length addresses.now) × (cell_at (λ k. get_or addresses.now k 0) from a ≡ from) }
     ensures { result ≡ cell_at (λ k. get_or addresses.now k 0) (length addresses.now) a }
 {
-    let mut i = from;
-    while i < addresses.len() {
+    for i in from..addresses.len() {
         if addresses[i] == a {
             return i;
         }
-        i += 1;
     }
-    i
+    addresses.len()
 }
 
 // The index of the first cell at address a, or how many cells there are. A group at a time is passed over.
 pub fn cell_at(addresses: &[u16], a: u16) -> usize
     ensures { result ≡ cell_at (λ k. get_or addresses.now k 0) (length addresses.now) a }
 {
-    let mut i: usize = 0;
-    let mut groups = addresses.len() / GROUP;
-    while 0 < groups {
+    let groups = addresses.len() / GROUP;
+    for k in 0..groups {
+        let i = GROUP * k;
         let end = i + GROUP;
         if among(&addresses[i..end], a) {
             return cell_from(addresses, i, a);
         }
-        i = end;
-        groups -= 1;
     }
-    cell_from(addresses, i, a)
+    cell_from(addresses, GROUP * groups, a)
 }
 
 // What is known of the cell at address a.

@@ -7,10 +7,10 @@ ghost use Rattle.machine.specs.Maps.{knows_all};
 
 use crate::memory::Word;
 use crate::{Read, Thread, memory};
-use records::Statement;
-use records::instructions::{CAS, STORE};
+use records::{Instruction, Statement};
 
-// The address of a memory word and the word it takes; known where each cell that it reads is.
+// The address of a memory word and the word it takes; known where each cell that it reads is. No option: the cells read are told also where
+// one of them is not known.
 #[derive(Clone, Copy)]
 pub struct Operand {
     pub known: bool,
@@ -59,7 +59,7 @@ fn word(i: Statement, x: Thread, addresses: &[u16], values: &[u16], a: u16) -> W
     ensures { (result.known ≡ (not (reads_address i x a) || known_in addresses.now a))
         × (result.value ≡ word_taken i x (memory_in addresses.now values.now)) × (result.read ≡ reads_address i x a) }
 {
-    if i.number == CAS {
+    if i.is(Instruction::Cas) {
         return memory::look(addresses, values, a);
     }
     load(x, addresses, values, a)
@@ -70,10 +70,8 @@ pub fn none() -> Operand
     ensures { (result.known ≡ true) × (result.address ≡ 0) × (result.word ≡ 0) × (result.read ≡ no_read) }
 {
     let read = Read {
-        argument: false,
-        first: 0,
-        word: false,
-        second: 0,
+        argument: None,
+        word: None,
     };
     Operand {
         known: true,
@@ -84,6 +82,7 @@ pub fn none() -> Operand
 }
 
 // What a statement takes: nothing but for memory words, and no word for STORE.
+#[inline(always)]
 pub fn operands(i: Statement, x: Thread, addresses: &[u16], values: &[u16]) -> Operand
     ensures { (result.known ≡ knows_all (known_in addresses.now) (cells_read i x (memory_in addresses.now values.now)))
         × (result.address ≡ address_of i x (memory_in addresses.now values.now))
@@ -92,12 +91,10 @@ pub fn operands(i: Statement, x: Thread, addresses: &[u16], values: &[u16]) -> O
 {
     if records::is_memory(i.number) {
         let a = address(i, x, addresses, values);
-        if i.number == STORE {
+        if i.is(Instruction::Store) {
             let read = Read {
-                argument: a.read,
-                first: i.argument,
-                word: false,
-                second: 0,
+                argument: a.read.then_some(i.argument),
+                word: None,
             };
             return Operand {
                 known: a.known,
@@ -108,10 +105,8 @@ pub fn operands(i: Statement, x: Thread, addresses: &[u16], values: &[u16]) -> O
         }
         let w = word(i, x, addresses, values, a.value);
         let read = Read {
-            argument: a.read,
-            first: i.argument,
-            word: w.read,
-            second: a.value,
+            argument: a.read.then_some(i.argument),
+            word: w.read.then_some(a.value),
         };
         return Operand {
             known: a.known & w.known,

@@ -63,5 +63,5 @@ maps = refl
 
 -- JNZ is 11, and FLUSH no word
 known-words : least 20 (λ n. same (74 ∷ 78 ∷ 90 ∷ []) (word_of n)) ∷ least 20 (λ n. same (70 ∷ 76 ∷ 85 ∷ 83 ∷ 72 ∷ []) (word_of n)) ∷ [] ≡ 11 ∷ 20 ∷ []
-unfolding least same words word_of
+unfolding least words word_of
 known-words = refl

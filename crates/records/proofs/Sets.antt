@@ -16,7 +16,7 @@ use Rattle.records.specs.Instructions.{instructions, is_memory, is_jump, is_bare
 use Rattle.records.specs.declared.Statement.{Statement}
 use Rattle.records.specs.declared.Layout.{Layout}
 use Rattle.records.specs.Sets.{WellFormedSet, records, thread_at, number_at, mode_at, spare_at, argument_at, pc_at, statement_at, nothing, threads_of, count_of, counts_of, start_of, set_of, follows, argument_fits, record_fits, opens_at, set_accepted, layout_of, set_by}
-use Rattle.records.proofs.Places.{Rows, count, start, rises, found, reached, goes_on_lem, few, most}
+use Rattle.records.proofs.Places.{Rows, start, rises, found, reached, goes_on_lem, few, most}
 
 -- ---- the tests as facts
 

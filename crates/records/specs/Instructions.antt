@@ -1,5 +1,5 @@
 -- The twenty instructions by number, word and class (document 01, the table of "Machine"). A reader of the calls believes this. Assumes nothing.
-use Rattle.std.specs.Prelude.{ℕ, Bool, cond, ◌||◌, List, [], ◌∷◌, eqb, ltb, leb, get_or}
+use Rattle.std.specs.Prelude.{ℕ, Bool, ◌||◌, List, [], ◌∷◌, eqb, get_or}
 
 -- ---- numbers
 

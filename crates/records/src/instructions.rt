@@ -1,193 +1,196 @@
 // The twenty instructions by number, with their words and classes.
-ghost use Rattle.std.specs.Prelude.{◌≡◌, cond, get_or};
+ghost use Rattle.std.specs.Prelude.{◌≡◌, MatchOption};
 ghost use Rattle.base.specs.Below.{least};
 ghost use Rattle.base.specs.Bytes.{same};
 ghost use Rattle.records.specs.Instructions.{word_of, is_memory, is_jump, is_bare, is_last};
+ghost use Rattle.records.specs.Numbers.{number, Numbered};
 
-use crate::Statement;
-use base::{byte_at, same};
+// The instructions, by number from 0.
+#[derive(Clone, Copy, Debug, PartialEq, Eq)]
+pub enum Instruction {
+    Load,
+    Store,
+    Fence,
+    Add,
+    Addi,
+    Sub,
+    Subi,
+    Mul,
+    Muli,
+    Jmp,
+    Jz,
+    Jnz,
+    Js,
+    Jns,
+    Jnzns,
+    Mem,
+    Cas,
+    Halt,
+    Exit,
+    Check,
+}
 
-pub const LOAD: u8 = 0;
+// A number that names no instruction.
+#[derive(Clone, Copy, Debug, PartialEq, Eq)]
+pub struct NoInstruction(pub u8);
 
-pub const STORE: u8 = 1;
+impl Instruction {
+    // All of them, in the order of their numbers.
+    pub const ALL: [Instruction; 20] = [
+        Instruction::Load,
+        Instruction::Store,
+        Instruction::Fence,
+        Instruction::Add,
+        Instruction::Addi,
+        Instruction::Sub,
+        Instruction::Subi,
+        Instruction::Mul,
+        Instruction::Muli,
+        Instruction::Jmp,
+        Instruction::Jz,
+        Instruction::Jnz,
+        Instruction::Js,
+        Instruction::Jns,
+        Instruction::Jnzns,
+        Instruction::Mem,
+        Instruction::Cas,
+        Instruction::Halt,
+        Instruction::Exit,
+        Instruction::Check,
+    ];
 
-pub const FENCE: u8 = 2;
+    // Its number in document 01.
+    pub fn number(self) -> u8
+        ensures { result ≡ number self }
+    {
+        self as u8
+    }
 
-pub const ADD: u8 = 3;
+    // Its word in a text and in a listing.
+    #[tactic(auto, unfolding(crate::specs::Instructions::words, crate::specs::Instructions::word_of))]
+    pub fn word(self) -> &'static [u8]
+        ensures { result.now ≡ word_of (number self) }
+    {
+        match self {
+            Instruction::Load => b"LOAD",
+            Instruction::Store => b"STORE",
+            Instruction::Fence => b"FENCE",
+            Instruction::Add => b"ADD",
+            Instruction::Addi => b"ADDI",
+            Instruction::Sub => b"SUB",
+            Instruction::Subi => b"SUBI",
+            Instruction::Mul => b"MUL",
+            Instruction::Muli => b"MULI",
+            Instruction::Jmp => b"JMP",
+            Instruction::Jz => b"JZ",
+            Instruction::Jnz => b"JNZ",
+            Instruction::Js => b"JS",
+            Instruction::Jns => b"JNS",
+            Instruction::Jnzns => b"JNZNS",
+            Instruction::Mem => b"MEM",
+            Instruction::Cas => b"CAS",
+            Instruction::Halt => b"HALT",
+            Instruction::Exit => b"EXIT",
+            Instruction::Check => b"CHECK",
+        }
+    }
 
-pub const ADDI: u8 = 4;
+    // The instruction whose word is w.
+    pub fn named(w: &[u8]) -> Option<Instruction>
+        ensures { let n = least 20 (λ n. same w.now (word_of n)) in MatchOption result (n ≡ 20) (λ i. n ≡ number i) }
+    {
+        for instruction in Instruction::ALL {
+            if w == instruction.word() {
+                return Some(instruction);
+            }
+        }
+        None
+    }
+}
 
-pub const SUB: u8 = 5;
+impl TryFrom<u8> for Instruction {
+    type Error = NoInstruction;
 
-pub const SUBI: u8 = 6;
+    ghost try_from_gives = { Numbered };
 
-pub const MUL: u8 = 7;
+    fn try_from(number: u8) -> Result<Self, NoInstruction> {
+        match number {
+            0 => Ok(Instruction::Load),
+            1 => Ok(Instruction::Store),
+            2 => Ok(Instruction::Fence),
+            3 => Ok(Instruction::Add),
+            4 => Ok(Instruction::Addi),
+            5 => Ok(Instruction::Sub),
+            6 => Ok(Instruction::Subi),
+            7 => Ok(Instruction::Mul),
+            8 => Ok(Instruction::Muli),
+            9 => Ok(Instruction::Jmp),
+            10 => Ok(Instruction::Jz),
+            11 => Ok(Instruction::Jnz),
+            12 => Ok(Instruction::Js),
+            13 => Ok(Instruction::Jns),
+            14 => Ok(Instruction::Jnzns),
+            15 => Ok(Instruction::Mem),
+            16 => Ok(Instruction::Cas),
+            17 => Ok(Instruction::Halt),
+            18 => Ok(Instruction::Exit),
+            19 => Ok(Instruction::Check),
+            _ => Err(NoInstruction(number)),
+        }
+    }
+}
 
-pub const MULI: u8 = 8;
-
-pub const JMP: u8 = 9;
-
-pub const JZ: u8 = 10;
-
-pub const JNZ: u8 = 11;
-
-pub const JS: u8 = 12;
-
-pub const JNS: u8 = 13;
-
-pub const JNZNS: u8 = 14;
-
-pub const MEM: u8 = 15;
-
-pub const CAS: u8 = 16;
-
-pub const HALT: u8 = 17;
-
-pub const EXIT: u8 = 18;
-
-pub const CHECK: u8 = 19;
-
-// Memory words, which may be indirect. The tests of a class are joined without branches: a few compares.
+// Memory words, which may be indirect.
 pub fn is_memory(n: u8) -> bool
     ensures { result ≡ is_memory n }
 {
-    (n == LOAD) | (n == STORE) | (n == ADD) | (n == SUB) | (n == MUL) | (n == MEM) | (n == CAS)
+    matches!(
+        Instruction::try_from(n),
+        Ok(
+            Instruction::Load
+                | Instruction::Store
+                | Instruction::Add
+                | Instruction::Sub
+                | Instruction::Mul
+                | Instruction::Mem
+                | Instruction::Cas
+        )
+    )
 }
 
 // Jumps, whose argument is a pc.
 pub fn is_jump(n: u8) -> bool
     ensures { result ≡ is_jump n }
 {
-    (n == JMP) | (n == JZ) | (n == JNZ) | (n == JS) | (n == JNS) | (n == JNZNS)
+    matches!(
+        Instruction::try_from(n),
+        Ok(
+            Instruction::Jmp
+                | Instruction::Jz
+                | Instruction::Jnz
+                | Instruction::Js
+                | Instruction::Jns
+                | Instruction::Jnzns
+        )
+    )
 }
 
 // Words without an argument.
 pub fn is_bare(n: u8) -> bool
     ensures { result ≡ is_bare n }
 {
-    (n == FENCE) | (n == HALT)
+    matches!(
+        Instruction::try_from(n),
+        Ok(Instruction::Fence | Instruction::Halt)
+    )
 }
 
 // What a thread may end in.
 pub fn is_last(n: u8) -> bool
     ensures { result ≡ is_last n }
 {
-    (n == EXIT) | (n == JMP) | (n == HALT)
-}
-
-// Instruction n where w is its word, 20 where it is not.
-fn number_if(w: &[u8], word: &[u8], n: u8) -> u8
-    ensures { result ≡ cond (same w.now word.now) n 20 }
-{
-    if same(w, word) {
-        n
-    } else {
-        Statement::INSTRUCTIONS
-    }
-}
-
-// The instruction whose word is w, which starts with A; 20 where none is.
-fn number_with_a(w: &[u8]) -> u8
-    requires { get_or w.now 0 0 ≡ 65 }
-    ensures { result ≡ least 20 (λ n. same w.now (word_of n)) }
-{
-    if same(w, b"ADD") {
-        return ADD;
-    }
-    if same(w, b"ADDI") {
-        return ADDI;
-    }
-    Statement::INSTRUCTIONS
-}
-
-// The instruction whose word is w, which starts with C; 20 where none is.
-fn number_with_c(w: &[u8]) -> u8
-    requires { get_or w.now 0 0 ≡ 67 }
-    ensures { result ≡ least 20 (λ n. same w.now (word_of n)) }
-{
-    if same(w, b"CAS") {
-        return CAS;
-    }
-    if same(w, b"CHECK") {
-        return CHECK;
-    }
-    Statement::INSTRUCTIONS
-}
-
-// The instruction whose word is w, which starts with J; 20 where none is.
-fn number_with_j(w: &[u8]) -> u8
-    requires { get_or w.now 0 0 ≡ 74 }
-    ensures { result ≡ least 20 (λ n. same w.now (word_of n)) }
-{
-    if same(w, b"JMP") {
-        return JMP;
-    }
-    if same(w, b"JZ") {
-        return JZ;
-    }
-    if same(w, b"JNZ") {
-        return JNZ;
-    }
-    if same(w, b"JS") {
-        return JS;
-    }
-    if same(w, b"JNS") {
-        return JNS;
-    }
-    if same(w, b"JNZNS") {
-        return JNZNS;
-    }
-    Statement::INSTRUCTIONS
-}
-
-// The instruction whose word is w, which starts with M; 20 where none is.
-fn number_with_m(w: &[u8]) -> u8
-    requires { get_or w.now 0 0 ≡ 77 }
-    ensures { result ≡ least 20 (λ n. same w.now (word_of n)) }
-{
-    if same(w, b"MUL") {
-        return MUL;
-    }
-    if same(w, b"MULI") {
-        return MULI;
-    }
-    if same(w, b"MEM") {
-        return MEM;
-    }
-    Statement::INSTRUCTIONS
-}
-
-// The instruction whose word is w, which starts with S; 20 where none is.
-fn number_with_s(w: &[u8]) -> u8
-    requires { get_or w.now 0 0 ≡ 83 }
-    ensures { result ≡ least 20 (λ n. same w.now (word_of n)) }
-{
-    if same(w, b"STORE") {
-        return STORE;
-    }
-    if same(w, b"SUB") {
-        return SUB;
-    }
-    if same(w, b"SUBI") {
-        return SUBI;
-    }
-    Statement::INSTRUCTIONS
-}
-
-// The instruction whose word is w, 20 where none is. Its first letter leaves one to six words to compare it with.
-pub fn number_of(w: &[u8]) -> u8
-    ensures { result ≡ least 20 (λ n. same w.now (word_of n)) }
-{
-    match byte_at(w, 0) {
-        b'A' => number_with_a(w),
-        b'C' => number_with_c(w),
-        b'E' => number_if(w, b"EXIT", EXIT),
-        b'F' => number_if(w, b"FENCE", FENCE),
-        b'H' => number_if(w, b"HALT", HALT),
-        b'J' => number_with_j(w),
-        b'L' => number_if(w, b"LOAD", LOAD),
-        b'M' => number_with_m(w),
-        b'S' => number_with_s(w),
-        _ => Statement::INSTRUCTIONS,
-    }
+    matches!(
+        Instruction::try_from(n),
+        Ok(Instruction::Exit | Instruction::Jmp | Instruction::Halt)
+    )
 }

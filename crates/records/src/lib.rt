@@ -6,11 +6,14 @@ pub mod map;
 pub mod refusals;
 pub mod set;
 
-ghost use Rattle.std.specs.Prelude.{◌≡◌, ◌+◌, ◌<◌, length, get_or};
+ghost use Rattle.std.specs.Prelude.{◌≡◌, ◌+◌, ◌<◌, ◌&&◌, true, false, MatchResult, eqb, length, get_or};
 ghost use Rattle.base.specs.Bytes.{word_at};
-ghost use Rattle.records.specs.Sets.{statement_at, set_by};
+ghost use Rattle.records.specs.Maps.{map_accepted};
+ghost use Rattle.records.specs.Numbers.{number};
+ghost use Rattle.records.specs.Sets.{statement_at, set_by, set_accepted, layout_of};
 
-pub use instructions::is_memory;
+pub use instructions::{Instruction, is_memory};
+pub use refusals::{Refusal, Refused};
 
 // A statement as its record has it; mode 1 is indirect.
 #[derive(Clone, Copy)]
@@ -28,11 +31,25 @@ pub struct Layout {
     pub counts: [u16; Layout::THREADS],
 }
 
+// An address with its word.
+#[derive(Clone, Copy, Debug, PartialEq, Eq)]
+pub struct Cell {
+    pub address: u16,
+    pub value: u16,
+}
+
 impl Statement {
     // How many instructions there are; as a number it names none.
     pub const INSTRUCTIONS: u8 = 20;
     // Bytes of a statement record.
     pub const SIZE: usize = 8;
+
+    // Whether it is one of this instruction.
+    pub fn is(self, instruction: Instruction) -> bool
+        ensures { result ≡ eqb self.number (number instruction) }
+    {
+        self.number == instruction.number()
+    }
 }
 
 impl Layout {
@@ -59,7 +76,7 @@ fn word(s: &[u8], at: usize) -> u16
     requires { at + 1 < length s.now }
     ensures { result ≡ word_at s.now at }
 {
-    (s[at] as u16) + 256 * (s[at + 1] as u16)
+    u16::from_le_bytes([s[at], s[at + 1]])
 }
 
 // The statement in record k; a byte past the end is 0.
@@ -82,18 +99,11 @@ pub fn statement_at(set: &[u8], k: u32) -> Statement
     }
 }
 
-// An element of an array of words, as a number that is known to be a word.
-fn wide(x: u16) -> u32
-    ensures { (result ≡ x) × (result < 65536) }
-{
-    x as u32
-}
-
 // How many statements thread t has, 0 where there is no such thread.
 pub fn count(layout: Layout, t: u8) -> u16
     ensures { result ≡ get_or layout.counts t 0 }
 {
-    let thread = t as usize;
+    let thread = usize::from(t);
     if thread < Layout::THREADS {
         return layout.counts[thread];
     }
@@ -104,9 +114,9 @@ pub fn count(layout: Layout, t: u8) -> u16
 pub fn first(layout: Layout, t: u8) -> u32
     ensures { (result ≡ get_or layout.starts t 0) × (result < 65536) }
 {
-    let thread = t as usize;
+    let thread = usize::from(t);
     if thread < Layout::THREADS {
-        return wide(layout.starts[thread]);
+        return u32::from(layout.starts[thread]);
     }
     0
 }
@@ -115,10 +125,10 @@ pub fn first(layout: Layout, t: u8) -> u32
 pub fn fetch(set: &[u8], layout: Layout, t: u8, p: u16) -> Statement
     ensures { result ≡ (set_by set.now layout).statement t p }
 {
-    let thread = t as usize;
+    let thread = usize::from(t);
     if thread < Layout::THREADS {
         if p < layout.counts[thread] {
-            let k = wide(layout.starts[thread]) + (p as u32);
+            let k = u32::from(layout.starts[thread]) + u32::from(p);
             return statement_at(set, k);
         }
     }
@@ -127,4 +137,19 @@ pub fn fetch(set: &[u8], layout: Layout, t: u8, p: u16) -> Statement
         mode: 0,
         argument: 0,
     }
+}
+
+// The layout of a set that is given with a map of at most `cells` cells; 9 where either is not accepted.
+pub fn accept(set: &[u8], map: &[u8], cells: usize) -> Result<Layout, Refusal>
+    ensures { let accepted = set_accepted set.now && map_accepted cells map.now in
+        MatchResult result (λ layout. (accepted ≡ true) × (layout ≡ layout_of set.now)) (λ refusal. (accepted ≡ false) × (refusal ≡ Refusal.Records)) }
+{
+    let layout = set::layout(set);
+    if layout.threads == 0 {
+        return Err(Refusal::Records);
+    }
+    if !map::map_accepted(map, cells) {
+        return Err(Refusal::Records);
+    }
+    Ok(layout)
 }

@@ -43,12 +43,10 @@ pub fn map_accepted(map: &[u8], limit: usize) -> bool
     if limit < n {
         return false;
     }
-    let mut k = 0;
-    while k < n {
+    for k in 0..n {
         if !ascends(map, k) {
             return false;
         }
-        k += 1;
     }
     true
 }

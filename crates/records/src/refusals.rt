@@ -1,34 +1,50 @@
-// The numbered refusals, as document 01 numbers them; include/deepchalk.h has the same names.
-pub const TEXT_LENGTH: u8 = 1;
+// The numbered refusals, as document 01 numbers them, and the answer of a refused call.
+ghost use Rattle.std.specs.Prelude.{◌≡◌};
+ghost use Rattle.records.specs.Refusals.{number, of_call};
 
-pub const MALFORMED: u8 = 2;
+// What is wrong with what a call was given; include/deepchalk.h has the same names.
+#[derive(Clone, Copy, Debug, PartialEq, Eq)]
+pub enum Refusal {
+    TextLength = 1,
+    Malformed,
+    Number,
+    Threads,
+    Statements,
+    Label,
+    Checkpoints,
+    Map,
+    Records,
+    Bound,
+    Room,
+    NotPermitted,
+    Differs,
+    LacksCell,
+    Model,
+    NotSatisfied,
+    Length,
+}
 
-pub const NUMBER: u8 = 3;
+// A refused call: the refusal, and the line, step or record that it names, 0 where it names none.
+#[derive(Clone, Copy, Debug, PartialEq, Eq)]
+pub struct Refused {
+    pub refusal: Refusal,
+    pub place: u32,
+}
 
-pub const THREADS: u8 = 4;
+impl Refusal {
+    // Its number in document 01.
+    pub fn number(self) -> u8
+        ensures { result ≡ number self }
+    {
+        self as u8
+    }
+}
 
-pub const STATEMENTS: u8 = 5;
+// A refusal of the whole call names no place.
+impl From<Refusal> for Refused {
+    ghost from_gives = { λ refusal refused. refused ≡ of_call refusal };
 
-pub const LABEL: u8 = 6;
-
-pub const CHECKPOINTS: u8 = 7;
-
-pub const MAP: u8 = 8;
-
-pub const RECORDS: u8 = 9;
-
-pub const BOUND: u8 = 10;
-
-pub const ROOM: u8 = 11;
-
-pub const NOT_PERMITTED: u8 = 12;
-
-pub const DIFFERS: u8 = 13;
-
-pub const LACKS_CELL: u8 = 14;
-
-pub const MODEL: u8 = 15;
-
-pub const NOT_SATISFIED: u8 = 16;
-
-pub const LENGTH: u8 = 17;
+    fn from(refusal: Refusal) -> Self {
+        Refused { refusal, place: 0 }
+    }
+}

@@ -3,8 +3,8 @@ ghost use Rattle.std.specs.Prelude.{◌≡◌, ◌&&◌, ◌≤◌, ◌<◌, leb
 ghost use Rattle.base.specs.Below.{every, some, number};
 ghost use Rattle.records.specs.Sets.{records, thread_at, count_of, follows, argument_fits, record_fits, checks_at, opens_at, set_accepted, counts_of, layout_of, most_checkpoints, most_records};
 
-use crate::instructions::{CHECK, is_bare, is_jump, is_last, is_memory};
-use crate::{Layout, Statement, word};
+use crate::instructions::{is_bare, is_jump, is_last, is_memory};
+use crate::{Instruction, Layout, Statement, word};
 
 // Whether record k follows record k - 1: threads, and pcs in each, count up from 0 without gaps,
 // and the thread before ends in EXIT, JMP or HALT.
@@ -72,13 +72,10 @@ fn records_fit(set: &[u8], counts: [u16; Layout::THREADS]) -> bool
     requires { counts ≡ counts_of set.now }
     ensures { result ≡ every (records set.now) (λ k. follows set.now k && record_fits set.now k) }
 {
-    let n = set.len() / Statement::SIZE;
-    let mut k = 0;
-    while k < n {
+    for k in 0..set.len() / Statement::SIZE {
         if !(follows(set, k) & record_fits(set, k, counts)) {
             return false;
         }
-        k += 1;
     }
     true
 }
@@ -89,7 +86,7 @@ fn checks(set: &[u8], c: u16, k: usize) -> bool
     ensures { result ≡ checks_at set.now c k }
 {
     let at = Statement::SIZE * k;
-    (set[at + 1] == CHECK) & (word(set, at + 4) == c)
+    (set[at + 1] == Instruction::Check as u8) & (word(set, at + 4) == c)
 }
 
 // Whether a record before k is a CHECK of checkpoint c.
@@ -97,12 +94,10 @@ fn checked_before(set: &[u8], c: u16, k: usize) -> bool
     requires { k < records set.now }
     ensures { result ≡ some k (checks_at set.now c) }
 {
-    let mut j = 0;
-    while j < k {
+    for j in 0..k {
         if checks(set, c, j) {
             return true;
         }
-        j += 1;
     }
     false
 }
@@ -113,7 +108,7 @@ fn opens(set: &[u8], k: usize) -> bool
     ensures { result ≡ opens_at set.now k }
 {
     let at = Statement::SIZE * k;
-    if set[at + 1] != CHECK {
+    if set[at + 1] != Instruction::Check as u8 {
         return false;
     }
     !checked_before(set, word(set, at + 4), k)
@@ -123,17 +118,14 @@ fn opens(set: &[u8], k: usize) -> bool
 pub fn few_checkpoints(set: &[u8]) -> bool
     ensures { result ≡ leb (number (records set.now) (opens_at set.now)) most_checkpoints }
 {
-    let n = set.len() / Statement::SIZE;
     let mut found: u8 = 0;
-    let mut k = 0;
-    while k < n {
+    for k in 0..set.len() / Statement::SIZE {
         if opens(set, k) {
             if found == Layout::CHECKPOINTS {
                 return false;
             }
             found += 1;
         }
-        k += 1;
     }
     true
 }
@@ -143,19 +135,16 @@ fn counts_of(set: &[u8]) -> [u16; Layout::THREADS]
     requires { records set.now ≤ most_records }
     ensures { result ≡ counts_of set.now }
 {
-    let n = set.len() / Statement::SIZE;
     let mut first: u16 = 0;
     let mut second: u16 = 0;
     let mut third: u16 = 0;
     let mut fourth: u16 = 0;
-    let mut k = 0;
-    while k < n {
+    for k in 0..set.len() / Statement::SIZE {
         let thread = set[Statement::SIZE * k];
         first += (thread == 0) as u16;
         second += (thread == 1) as u16;
         third += (thread == 2) as u16;
         fourth += (thread == 3) as u16;
-        k += 1;
     }
     [first, second, third, fourth]
 }

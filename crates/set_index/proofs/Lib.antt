@@ -8,3 +8,4 @@ pub mod Listed
 pub mod Making
 pub mod Noted
 pub mod Past
+pub mod ClassNumbers

@@ -3,6 +3,7 @@ use Prim.Native.Nat.{ℕ, ◌+◌, ◌*◌, ◌≤◌, ◌<◌}
 use mathlib.Core.Path.{◌≡◌, refl, ap, sym, ◌∙◌, subst}
 use mathlib.Core.Bool.{true}
 use mathlib.Core.List.{List}
+use Rattle.std.proofs.Common.{Option, Some, None, MatchOption}
 use native.Mathlib.Omega.{arith}
 use native.Mathlib.Decide.{ℕ_discrete, dec_lt}
 use lib.Dec.{eqb, ltb}
@@ -72,7 +73,7 @@ module _ (S : Set) (cs : List ℕ) (c t heads nexts : ℕ) (apart : heads + many
     named p is = sym (eqb-true (S.statement t one).argument (name cs c p) (and_right (in_class c (S.statement t one).number) (eqb (S.statement t one).argument (name cs c p)) is))
 
     -- it is put before the others of its list
-    pub listing-more : Distinct cs → nexts + 32 ≤ length table → (q : ℕ) → q < many cs c → name cs c q ≡ (S.statement t one).argument →
+    listing-more : Distinct cs → nexts + 32 ≤ length table → (q : ℕ) → q < many cs c → name cs c q ≡ (S.statement t one).argument →
         Listing S cs c t (From S c t j) heads nexts before (put table (heads + q) (nexts + one) one)
     listing-more distinct room q listed is = let s = small in record {
       lists =
@@ -89,13 +90,26 @@ module _ (S : Set) (cs : List ℕ) (c t heads nexts : ℕ) (apart : heads + many
     }
 
     -- it is of none
-    pub listing-same : ((p : ℕ) → p < many cs c → name cs c p ≡ (S.statement t one).argument → ⊥) → Listing S cs c t (From S c t j) heads nexts before table
+    listing-same : ((p : ℕ) → p < many cs c → name cs c p ≡ (S.statement t one).argument → ⊥) → Listing S cs c t (From S c t j) heads nexts before table
     listing-same none = record {
       lists =
           from-same S c t (in_list S cs c t) (many cs c) belong j r next inside _ _ _ _ old.lists (λ y l. refl)
           (λ (p : ℕ) h is. none p h (named p is)) (λ p k. refl);
       others = old.others;
     }
+
+    -- it is put before the others of the list that it is of, if it is of one
+    pub listing-put : Distinct cs → nexts + 32 ≤ length table → (list : Option ℕ) (i argument : ℕ) (after : List ℕ) → i ≡ one → argument ≡ (S.statement t one).argument →
+        MatchOption list ((p : ℕ) → p < many cs c → name cs c p ≡ argument → ⊥) (λ q. (q < no_statement) × (q < many cs c) × (name cs c q ≡ argument)) →
+        MatchOption list (after ≡ table) (λ q. i < 32 → heads + q < length table → nexts + i < length table → after ≡ put table (heads + q) (nexts + i) i) →
+        Listing S cs c t (From S c t j) heads nexts before after
+    listing-put distinct room None i argument after i-is argument-is none same =
+        subst (Listing S cs c t (From S c t j) heads nexts before) (sym same) (listing-same (λ (p : ℕ) h e. none p h (e ∙ sym argument-is)))
+    listing-put distinct room (Some q) i argument after i-is argument-is (near, within, called) placed =
+        let s = small in
+        subst (Listing S cs c t (From S c t j) heads nexts before)
+        (sym (placed (omega arith) (omega arith) (omega arith) ∙ ap (λ (k : ℕ). put table (heads + q) (nexts + k) k) i-is))
+        (listing-more distinct room q within (called ∙ argument-is))
 
 -- ---- the lists of all threads
 

@@ -1,15 +1,16 @@
 -- The first eight checkpoints, noted one after the other. Assumes nothing.
-use Prim.Native.Nat.{ℕ, suc, ◌+◌, ◌≤◌, ◌<◌}
+use Prim.Native.Nat.{ℕ, ◌+◌, ◌≤◌, ◌<◌}
 use mathlib.Core.Path.{◌≡◌, refl, ap, sym, ◌∙◌}
 use mathlib.Core.Bool.{Bool, true, false, cond, not, ◌&&◌, ◌||◌}
 use mathlib.Core.List.{List, [], ◌∷◌, ◌++◌}
 use native.Mathlib.Decide.{dec_lt}
+use Rattle.std.specs.List.{list_any}
 use native.Mathlib.Numerals.{add-one}
 use native.Mathlib.Omega.{arith}
 use lib.Dec.{eqb}
-use lib.ListN.{length, get_or, take, drop, set, length-append}
-use lib.Seq.{take_all, take-append-le, drop-cons, length-take-le, take-suc-set}
-use Rattle.base.proofs.Choice.{chosen, passed, and_true, and_false, and_right_false}
+use lib.ListN.{length, take, set, length-append}
+use lib.Seq.{take_all, take-append-le, length-take-le, take-suc-set}
+use Rattle.base.proofs.Choice.{eqb_swap, chosen, passed, and_true, and_false, and_right_false}
 use Rattle.records.specs.Instructions.{CHECK}
 use Rattle.records.specs.Sets.{Set}
 use Rattle.records.specs.declared.Statement.{Statement}
@@ -74,20 +75,10 @@ module _ (seen : List ℕ) (i : Statement) where
 
 -- ---- members
 
-pub member-none : (c : ℕ) → member c [] ≡ false
+pub member-any : (c : ℕ) (xs : List ℕ) → list_any (λ y. eqb y c) xs ≡ member c xs
 unfolding member
-member-none c = refl
-
-module _ (c : ℕ) (xs : List ℕ) (i : ℕ) (h : i < length xs) where
-  pub member-hit : eqb c (get_or xs i 0) ≡ true → member c (drop i xs) ≡ true
-  unfolding member
-  member-hit e = ap (member c) (drop-cons xs i 0 h) ∙ ap (λ (b : Bool). b || member c (drop (suc i) xs)) e
-
-  pub member-past : eqb c (get_or xs i 0) ≡ false → member c (drop i xs) ≡ member c (drop (i + 1) xs)
-  unfolding member
-  member-past e =
-      ap (member c) (drop-cons xs i 0 h) ∙ (ap (λ (b : Bool). b || member c (drop (suc i) xs)) e
-      ∙ ap (λ (n : ℕ). member c (drop n xs)) (sym (add-one i)))
+member-any c [] = refl
+member-any c (x ∷ xs) = λ i. eqb_swap x c i || member-any c xs i
 
 -- ---- points
 

@@ -5,6 +5,8 @@ use Rattle.records.specs.Sets.{Set, most_threads, most_statements}
 use Rattle.records.specs.declared.Statement.{Statement}
 use Rattle.machine.specs.Machine.{needs_empty}
 use Rattle.encoding.specs.Steps.{Link, skip, sets_accu, loads, is_conditional}
+use Rattle.set_index.specs.declared.members.Class.{Class}
+use Rattle.set_index.specs.declared.members.Class.TheVariants.{Store, Mem, SetsAccu, Halt, Cas, Exit, NeedsEmpty, Check, Jump, Loads, Conditional}
 
 -- ---- classes
 
@@ -45,6 +47,20 @@ conditional_class = 10
 -- how many there are
 abbrev pub class_count : ℕ
 class_count = 11
+
+-- the code's classes
+abbrev pub class_number : Class → ℕ
+class_number Store = store_class
+class_number Mem = mem_class
+class_number SetsAccu = accu_class
+class_number Halt = halt_class
+class_number Cas = cas_class
+class_number Exit = exit_class
+class_number NeedsEmpty = empty_class
+class_number Check = check_class
+class_number Jump = jump_class
+class_number Loads = load_class
+class_number Conditional = conditional_class
 
 -- instruction n is of class c
 abbrev pub in_class : (c n : ℕ) → Bool

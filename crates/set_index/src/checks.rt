@@ -11,14 +11,14 @@ use crate::numbers;
 pub fn first(table: &[u8], t: u8, p: u16) -> u16
     ensures { result ≡ get_or table.now (first_checks t + p) 0 }
 {
-    numbers::number(table, POINT_ROW * (t as u16), p)
+    numbers::number(table, POINT_ROW * u16::from(t), p)
 }
 
 // The CHECK of thread t after CHECK i for the same checkpoint, NONE if there is none.
 pub fn following(table: &[u8], t: u8, i: u16) -> u16
     ensures { result ≡ onward i (get_or table.now (next_checks t + i) 0) }
 {
-    numbers::next(table, NEXT_CHECKS + STATEMENT_ROW * (t as u16), i)
+    numbers::next(table, NEXT_CHECKS + STATEMENT_ROW * u16::from(t), i)
 }
 
 // Whether thread t contains checkpoint p.

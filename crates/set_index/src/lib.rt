@@ -9,4 +9,4 @@ pub mod members;
 mod numbers;
 pub mod points;
 
-pub use classes::{is_conditional, is_plain, rests};
+pub use classes::{is_conditional, is_plain, loads, rests};

@@ -1,17 +1,16 @@
 // Lists of a set's statements, in a table that is made once for a set: the CHECKs of each thread by checkpoint, and its jumps by the statement that they name.
-ghost use Rattle.std.specs.Prelude.{◌≡◌, ℕ, ◌+◌, ◌≤◌, ◌<◌, length, get_or, replicate};
-ghost use Rattle.records.specs.Sets.{set_by, most_threads};
+ghost use Rattle.std.specs.Prelude.{◌≡◌, ℕ, ◌+◌, ◌≤◌, ◌<◌, MatchOption, length, get_or, replicate};
+ghost use Rattle.records.specs.Sets.{set_by, most_threads, most_checkpoints};
 ghost use Rattle.set_index.specs.Points.{listed};
-ghost use Rattle.set_index.specs.Members.{Members, class_count};
+ghost use Rattle.set_index.specs.Members.{Members, class_count, class_number};
 ghost use Rattle.set_index.specs.ListTables.{ListTable, Distinct, many, name, all_of, Listing, Made, lists_length, no_statement};
 
-use crate::members::{IS_CHECK, IS_JUMP, count_of, member};
+use crate::members::{Class, count_of, member};
 use crate::numbers::add;
-use crate::points;
 use crate::points::Points;
 use records::Layout;
 
-// No statement.
+// No statement: a number after those of all statements, so that one comparison asks whether there is a next one and whether it comes before an end.
 pub const NONE: u16 = Layout::STATEMENTS;
 
 // The numbers of a thread in a part of the table: a number for each checkpoint or for each statement.
@@ -34,31 +33,19 @@ pub const NEXT_JUMPS: u16 = FIRST_JUMPS + STATEMENT_ROW * THREADS_OF;
 // The length of the table.
 pub const LENGTH: usize = (NEXT_JUMPS + STATEMENT_ROW * THREADS_OF) as usize;
 
-// The checkpoint that has number c, NONE if there is none.
-fn point_of(points: Points, c: u16) -> u16
-    ensures { (result < no_statement → (result < length (listed points)) × (get_or (listed points) result 0 ≡ c))
-        × (no_statement ≤ result → (p : ℕ) → p < length (listed points) → get_or (listed points) p 0 ≡ c → ⊥) }
+// Which list of its class a statement with this argument is of, if it is of one: a CHECK of its checkpoint's, a jump of that of the statement it names.
+fn list_of(points: &[u16], class: Class, argument: u16) -> Option<u16>
+    requires { length points.now ≤ most_checkpoints }
+    ensures { MatchOption result ((p : ℕ) → p < many points.now (class_number class) → name points.now (class_number class) p ≡ argument → ⊥)
+        (λ list. (list < no_statement) × (list < many points.now (class_number class)) × (name points.now (class_number class) list ≡ argument)) }
 {
-    let n = points::points_count(points);
-    let mut p: u16 = 0;
-    while p < n {
-        if points::checkpoint(points, p) == c {
-            return p;
+    match class {
+        Class::Check => {
+            let at = points.iter().position(|point| *point == argument)?;
+            Some(at as u16)
         }
-        p += 1;
+        _ => (argument < NONE).then_some(argument),
     }
-    NONE
-}
-
-// Which list of its class a statement with this argument is of: a CHECK of its checkpoint's, a jump of that of the statement it names; NONE or more if none.
-fn list_of(points: Points, class: u8, argument: u16) -> u16
-    ensures { (result < no_statement → (result < many (listed points) class) × (name (listed points) class result ≡ argument))
-        × (no_statement ≤ result → (p : ℕ) → p < many (listed points) class → name (listed points) class p ≡ argument → ⊥) }
-{
-    if class == IS_CHECK {
-        return point_of(points, argument);
-    }
-    argument
 }
 
 // Lists the statements of a class of thread t, from the last to the first. The first ones of the lists stand from `heads` on, the next ones from `nexts` on.
@@ -68,24 +55,29 @@ fn list_members(
     points: Points,
     members: &[u8],
     table: &mut [u8],
-    class: u8,
+    class: Class,
     heads: u16,
     nexts: u16,
     t: u8,
 )
     ensures { (length table.new ≡ length table.old)
-        × (class < class_count → t < most_threads → Members (set_by set.now layout) members.now → Distinct (listed points)
-        → heads + many (listed points) class ≤ nexts → nexts + 32 ≤ length table.old
-        → ((p : ℕ) → p < many (listed points) class → get_or table.old (heads + p) 0 ≡ no_statement)
-        → Listing (set_by set.now layout) (listed points) class t (all_of (set_by set.now layout) t) heads nexts table.old table.new) }
+        × (class_number class < class_count → t < most_threads → Members (set_by set.now layout) members.now → Distinct (listed points)
+        → heads + many (listed points) (class_number class) ≤ nexts → nexts + 32 ≤ length table.old
+        → ((p : ℕ) → p < many (listed points) (class_number class) → get_or table.old (heads + p) 0 ≡ no_statement)
+        → Listing (set_by set.now layout) (listed points) (class_number class) t (all_of (set_by set.now layout) t) heads nexts table.old table.new) }
 {
     let first = records::first(layout, t);
-    let mut j = count_of(members, class, t);
-    while 0 < j {
-        j -= 1;
-        let i = member(members, class, t, j);
-        let s = records::statement_at(set, first + (i as u32));
-        add(table, heads, nexts, list_of(points, class, s.argument), i);
+    let count = count_of(members, class, t);
+    for k in 0..count {
+        let i = member(members, class, t, count - 1 - k);
+        let s = records::statement_at(set, first + u32::from(i));
+        add(
+            table,
+            heads,
+            nexts,
+            list_of(points.as_slice(), class, s.argument),
+            i,
+        );
     }
 }
 
@@ -96,15 +88,15 @@ fn make_thread(set: &[u8], layout: Layout, points: Points, members: &[u8], table
         → Made (set_by set.now layout) (listed points) t table.old
         → Made (set_by set.now layout) (listed points) (t + 1) table.new) }
 {
-    let row = STATEMENT_ROW * (t as u16);
-    let checks = POINT_ROW * (t as u16);
+    let row = STATEMENT_ROW * u16::from(t);
+    let checks = POINT_ROW * u16::from(t);
     list_members(
         set,
         layout,
         points,
         members,
         table,
-        IS_CHECK,
+        Class::Check,
         checks,
         NEXT_CHECKS + row,
         t,
@@ -115,7 +107,7 @@ fn make_thread(set: &[u8], layout: Layout, points: Points, members: &[u8], table
         points,
         members,
         table,
-        IS_JUMP,
+        Class::Jump,
         FIRST_JUMPS + row,
         NEXT_JUMPS + row,
         t,
@@ -132,9 +124,7 @@ pub fn make(set: &[u8], layout: Layout, points: Points, members: &[u8], table: &
     if THREADS < threads {
         return;
     }
-    let mut t: u8 = 0;
-    while t < threads {
+    for t in 0..threads {
         make_thread(set, layout, points, members, table, t);
-        t += 1;
     }
 }

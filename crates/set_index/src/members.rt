@@ -1,38 +1,59 @@
 // A table of the statements of each class, made once for a set: most statements give a chain no link, and are not visited by it.
 ghost use Rattle.std.specs.Prelude.{◌≡◌, ℕ, ◌+◌, ◌≤◌, ◌<◌, length, get_or, replicate};
 ghost use Rattle.records.specs.Sets.{Set, set_by, most_threads, most_statements};
-ghost use Rattle.set_index.specs.Members.{in_class, members_of, Members, Filled, class_count, members_length};
+ghost use Rattle.set_index.specs.Members.{in_class, members_of, Members, Filled, class_count, class_number, row_index, members_length};
 
 use crate::classes::{is_conditional, loads, sets_accu};
 use machine::choices::needs_empty;
-use records::Layout;
-use records::instructions::{CAS, CHECK, EXIT, HALT, MEM, STORE, is_jump};
+use records::instructions::is_jump;
+use records::{Instruction, Layout};
 
 // The classes of statements, by instruction.
-pub const IS_STORE: u8 = 0;
+#[derive(Clone, Copy, Debug, PartialEq, Eq)]
+pub enum Class {
+    Store,
+    Mem,
+    SetsAccu,
+    Halt,
+    Cas,
+    Exit,
+    NeedsEmpty,
+    Check,
+    Jump,
+    Loads,
+    Conditional,
+}
 
-pub const IS_MEM: u8 = 1;
+impl Class {
+    // How many classes there are.
+    pub const COUNT: usize = 11;
 
-pub const SETS_ACCU: u8 = 2;
+    // Whether instruction n is of the class.
+    fn has(self, n: u8) -> bool
+        ensures { result ≡ in_class (class_number self) n }
+    {
+        match self {
+            Class::Store => n == Instruction::Store.number(),
+            Class::Mem => n == Instruction::Mem.number(),
+            Class::SetsAccu => sets_accu(n),
+            Class::Halt => n == Instruction::Halt.number(),
+            Class::Cas => n == Instruction::Cas.number(),
+            Class::Exit => n == Instruction::Exit.number(),
+            Class::NeedsEmpty => needs_empty(n),
+            Class::Check => n == Instruction::Check.number(),
+            Class::Jump => is_jump(n),
+            Class::Loads => loads(n),
+            Class::Conditional => is_conditional(n),
+        }
+    }
 
-pub const IS_HALT: u8 = 3;
-
-pub const IS_CAS: u8 = 4;
-
-pub const IS_EXIT: u8 = 5;
-
-pub const NEEDS_EMPTY: u8 = 6;
-
-pub const IS_CHECK: u8 = 7;
-
-pub const IS_JUMP: u8 = 8;
-
-pub const LOADS: u8 = 9;
-
-pub const IS_CONDITIONAL: u8 = 10;
-
-// How many classes there are.
-pub const CLASSES: u8 = 11;
+    // Where the row of a class and a thread begins.
+    fn row(self, t: u8) -> usize
+        ensures { result ≡ row_index (class_number self) t }
+    {
+        CLASS * (self as usize) + ROW * usize::from(t)
+    }
+}
 
 // The length of a row, which is of a class and a thread: how many members, then the members.
 const ROW: usize = 1 + (Layout::STATEMENTS as usize);
@@ -41,7 +62,7 @@ const ROW: usize = 1 + (Layout::STATEMENTS as usize);
 const CLASS: usize = Layout::THREADS * ROW;
 
 // The length of the table.
-pub const LENGTH: usize = (CLASSES as usize) * CLASS;
+pub const LENGTH: usize = Class::COUNT * CLASS;
 
 // The most members of a row.
 const STATEMENTS: u8 = Layout::STATEMENTS as u8;
@@ -49,36 +70,33 @@ const STATEMENTS: u8 = Layout::STATEMENTS as u8;
 const THREADS: u8 = Layout::THREADS as u8;
 
 // How many statements of thread t are of a class.
-pub fn count_of(members: &[u8], class: u8, t: u8) -> u16
-    ensures { ((S : Set) → Members S members.now → class < class_count → t < most_threads → result ≡ length (members_of S class t)) × (result ≤ most_statements) }
+pub fn count_of(members: &[u8], class: Class, t: u8) -> u16
+    ensures { ((S : Set) → Members S members.now → class_number class < class_count → t < most_threads → result ≡ length (members_of S (class_number class) t)) × (result ≤ most_statements) }
 {
-    let many = base::byte_at(members, CLASS * (class as usize) + ROW * (t as usize));
-    if many < STATEMENTS {
-        return many as u16;
-    }
-    Layout::STATEMENTS
+    let many = base::byte_at(members, class.row(t));
+    u16::from(many).min(Layout::STATEMENTS)
 }
 
 // Which statement is the one of number j among them.
-pub fn member(members: &[u8], class: u8, t: u8, j: u16) -> u16
-    ensures { (S : Set) → Members S members.now → class < class_count → t < most_threads → j < length (members_of S class t)
-        → result ≡ get_or (members_of S class t) j 0 }
+pub fn member(members: &[u8], class: Class, t: u8, j: u16) -> u16
+    ensures { (S : Set) → Members S members.now → class_number class < class_count → t < most_threads → j < length (members_of S (class_number class) t)
+        → result ≡ get_or (members_of S (class_number class) t) j 0 }
 {
-    let row = CLASS * (class as usize) + ROW * (t as usize);
-    base::byte_at(members, row + 1 + (j as usize)) as u16
+    let row = class.row(t);
+    u16::from(base::byte_at(members, row + 1 + usize::from(j)))
 }
 
 // Adds statement i of thread t to the members of a class, where it belongs to them.
-fn visit(members: &mut [u8], class: u8, t: u8, i: u8, belongs: bool)
+fn visit(members: &mut [u8], class: Class, t: u8, i: u8, belongs: bool)
     ensures { (length members.new ≡ length members.old)
-        × ((S : Set) → class < class_count → t < most_threads → i < most_statements → belongs ≡ in_class class (S.statement t i).number
-        → Filled S t i class members.old → Filled S t i (class + 1) members.new) }
+        × ((S : Set) → class_number class < class_count → t < most_threads → i < most_statements → belongs ≡ in_class (class_number class) (S.statement t i).number
+        → Filled S t i (class_number class) members.old → Filled S t i (class_number class + 1) members.new) }
 {
     if belongs {
-        let row = CLASS * (class as usize) + ROW * (t as usize);
+        let row = class.row(t);
         let many = base::byte_at(members, row);
         if many < STATEMENTS {
-            let at = row + 1 + (many as usize);
+            let at = row + 1 + usize::from(many);
             if at < members.len() {
                 members[at] = i;
                 members[row] = many + 1;
@@ -87,16 +105,17 @@ fn visit(members: &mut [u8], class: u8, t: u8, i: u8, belongs: bool)
     }
 }
 
-// Visits the first five classes for statement i of thread t, of instruction n. A proof allows five calls that lend one buffer.
+// Visits the first five classes for statement i of thread t, of instruction n. Each class is named, so that the compiler leaves out the choice of its test:
+// a loop over all classes took over a quarter of the time of `encode` for 128 jumps and the bound 1. A proof allows five calls that lend one buffer.
 fn visit_first(members: &mut [u8], t: u8, i: u8, n: u8)
     ensures { (length members.new ≡ length members.old)
         × ((S : Set) → t < most_threads → i < most_statements → n ≡ (S.statement t i).number → Filled S t i 0 members.old → Filled S t i 5 members.new) }
 {
-    visit(members, IS_STORE, t, i, n == STORE);
-    visit(members, IS_MEM, t, i, n == MEM);
-    visit(members, SETS_ACCU, t, i, sets_accu(n));
-    visit(members, IS_HALT, t, i, n == HALT);
-    visit(members, IS_CAS, t, i, n == CAS);
+    visit(members, Class::Store, t, i, Class::Store.has(n));
+    visit(members, Class::Mem, t, i, Class::Mem.has(n));
+    visit(members, Class::SetsAccu, t, i, Class::SetsAccu.has(n));
+    visit(members, Class::Halt, t, i, Class::Halt.has(n));
+    visit(members, Class::Cas, t, i, Class::Cas.has(n));
 }
 
 // Visits the next four classes.
@@ -104,10 +123,10 @@ fn visit_next(members: &mut [u8], t: u8, i: u8, n: u8)
     ensures { (length members.new ≡ length members.old)
         × ((S : Set) → t < most_threads → i < most_statements → n ≡ (S.statement t i).number → Filled S t i 5 members.old → Filled S t i 9 members.new) }
 {
-    visit(members, IS_EXIT, t, i, n == EXIT);
-    visit(members, NEEDS_EMPTY, t, i, needs_empty(n));
-    visit(members, IS_CHECK, t, i, n == CHECK);
-    visit(members, IS_JUMP, t, i, is_jump(n));
+    visit(members, Class::Exit, t, i, Class::Exit.has(n));
+    visit(members, Class::NeedsEmpty, t, i, Class::NeedsEmpty.has(n));
+    visit(members, Class::Check, t, i, Class::Check.has(n));
+    visit(members, Class::Jump, t, i, Class::Jump.has(n));
 }
 
 // Visits the last two classes.
@@ -115,8 +134,8 @@ fn visit_last(members: &mut [u8], t: u8, i: u8, n: u8)
     ensures { (length members.new ≡ length members.old)
         × ((S : Set) → t < most_threads → i < most_statements → n ≡ (S.statement t i).number → Filled S t i 9 members.old → Filled S t i 11 members.new) }
 {
-    visit(members, LOADS, t, i, loads(n));
-    visit(members, IS_CONDITIONAL, t, i, is_conditional(n));
+    visit(members, Class::Loads, t, i, Class::Loads.has(n));
+    visit(members, Class::Conditional, t, i, Class::Conditional.has(n));
 }
 
 // How many of a thread's statements the table is of.
@@ -144,14 +163,11 @@ fn make_thread(set: &[u8], layout: Layout, members: &mut [u8], t: u8)
     }
     let start = records::first(layout, t);
     let end = listed_count(records::count(layout, t));
-    let mut i: u8 = 0;
-    while i < end {
-        let s = records::statement_at(set, start + (i as u32));
-        let n = s.number;
-        visit_first(members, t, i, n);
-        visit_next(members, t, i, n);
-        visit_last(members, t, i, n);
-        i += 1;
+    for i in 0..end {
+        let s = records::statement_at(set, start + u32::from(i));
+        visit_first(members, t, i, s.number);
+        visit_next(members, t, i, s.number);
+        visit_last(members, t, i, s.number);
     }
 }
 
@@ -161,8 +177,7 @@ pub fn make(set: &[u8], layout: Layout, members: &mut [u8])
         × (members.old ≡ replicate members_length 0 → ((t : ℕ) → t < most_threads → get_or layout.counts t 0 ≤ most_statements)
         → Members (set_by set.now layout) members.new) }
 {
-    make_thread(set, layout, members, 0);
-    make_thread(set, layout, members, 1);
-    make_thread(set, layout, members, 2);
-    make_thread(set, layout, members, 3);
+    for t in 0..THREADS {
+        make_thread(set, layout, members, t);
+    }
 }

@@ -1,6 +1,6 @@
 // The numbers of the table: of each list its first statement, and of each statement the next one of its list; NONE where there is none.
-ghost use Rattle.std.specs.Prelude.{◌≡◌, ◌+◌, ◌≤◌, ◌<◌, length, get_or};
-ghost use Rattle.set_index.specs.ListTables.{onward, put, no_statement};
+ghost use Rattle.std.specs.Prelude.{◌≡◌, ◌+◌, ◌<◌, MatchOption, length, get_or};
+ghost use Rattle.set_index.specs.ListTables.{onward, put};
 ghost use Rattle.records.specs.Sets.{most_statements};
 
 use crate::lists::{NONE, STATEMENT_ROW};
@@ -9,7 +9,7 @@ use crate::lists::{NONE, STATEMENT_ROW};
 pub fn number(table: &[u8], row: u16, i: u16) -> u16
     ensures { result ≡ get_or table.now (row + i) 0 }
 {
-    base::byte_at(table, (row as usize) + (i as usize)) as u16
+    u16::from(base::byte_at(table, usize::from(row) + usize::from(i)))
 }
 
 // The next one after statement i, by its number in a row. A number that is not greater counts as none, so that a loop over a list ends for every table.
@@ -23,25 +23,19 @@ pub fn next(table: &[u8], row: u16, i: u16) -> u16
     NONE
 }
 
-// Puts statement i before the others of a list. The first ones stand from `heads` on, the next ones from `nexts` on.
-pub fn add(table: &mut [u8], heads: u16, nexts: u16, list: u16, i: u16)
-    ensures { (length table.new ≡ length table.old)
-        × (list < no_statement → i < most_statements → heads + list < length table.old → nexts + i < length table.old
-        → table.new ≡ put table.old (heads + list) (nexts + i) i)
-        × (no_statement ≤ list → table.new ≡ table.old) }
+// Puts statement i before the others of a list, if it is of one. The first ones stand from `heads` on, the next ones from `nexts` on.
+pub fn add(table: &mut [u8], heads: u16, nexts: u16, list: Option<u16>, i: u16)
+    ensures length { length table.new ≡ length table.old }
+    ensures added { MatchOption list (table.new ≡ table.old)
+        (λ list. i < most_statements → heads + list < length table.old → nexts + i < length table.old
+        → table.new ≡ put table.old (heads + list) (nexts + i) i) }
 {
-    if NONE <= list {
+    let Some(list) = list else {
         return;
-    }
-    if STATEMENT_ROW <= i {
-        return;
-    }
-    let head = (heads as usize) + (list as usize);
-    let after = (nexts as usize) + (i as usize);
-    if table.len() <= head {
-        return;
-    }
-    if table.len() <= after {
+    };
+    let head = usize::from(heads) + usize::from(list);
+    let after = usize::from(nexts) + usize::from(i);
+    if STATEMENT_ROW <= i || table.len() <= head || table.len() <= after {
         return;
     }
     table[after] = table[head];

@@ -4,13 +4,10 @@ ghost use Rattle.records.specs.Sets.{set_by, most_checkpoints};
 ghost use Rattle.encoding.specs.Checkpoints.{member, noted, noted_in, checkpoints};
 ghost use Rattle.set_index.specs.Points.{listed};
 
-use records::instructions::CHECK;
-use records::{Layout, Statement};
+use records::{Instruction, Layout, Statement};
 
 // The most checkpoints of a set.
 const MOST: usize = Layout::CHECKPOINTS as usize;
-
-const MANY: u16 = Layout::CHECKPOINTS as u16;
 
 // The checkpoints of a set, in the order of their first CHECK.
 #[derive(Clone, Copy)]
@@ -19,56 +16,51 @@ pub struct Points {
     pub numbers: [u16; MOST],
 }
 
+impl Points {
+    // The checkpoints as a slice.
+    pub fn as_slice(&self) -> &[u16]
+        ensures { result.now ≡ listed self.now }
+    {
+        match self.numbers.get(..usize::from(self.count)) {
+            Some(listed) => listed,
+            None => &self.numbers,
+        }
+    }
+}
+
 // How many checkpoints there are.
 pub fn points_count(points: Points) -> u16
     ensures { result ≡ length (listed points) }
 {
-    if points.count < Layout::CHECKPOINTS {
-        return points.count as u16;
-    }
-    MANY
+    points.as_slice().len() as u16
 }
 
 // Checkpoint p, 0 past the last.
 pub fn checkpoint(points: Points, p: u16) -> u16
     ensures { result ≡ get_or (listed points) p 0 }
 {
-    let i = p as usize;
-    if i < (points.count as usize) {
-        if i < MOST {
-            return points.numbers[i];
-        }
-    }
-    0
+    points.as_slice().get(usize::from(p)).copied().unwrap_or(0)
 }
 
 // Whether c is one of the checkpoints.
 fn known(points: Points, c: u16) -> bool
     ensures { result ≡ member c (listed points) }
 {
-    let n = points_count(points);
-    let mut i: u16 = 0;
-    while i < n {
-        if c == checkpoint(points, i) {
-            return true;
-        }
-        i += 1;
-    }
-    false
+    points.as_slice().contains(&c)
 }
 
 // The checkpoints seen once a statement is looked at.
 fn note(points: Points, statement: Statement) -> Points
     ensures { listed result ≡ take most_checkpoints (noted (listed points) statement) }
 {
-    if statement.number != CHECK {
+    if !statement.is(Instruction::Check) {
         return points;
     }
     let c = statement.argument;
     if known(points, c) {
         return points;
     }
-    let count = points.count as usize;
+    let count = usize::from(points.count);
     if MOST <= count {
         return points;
     }
@@ -88,10 +80,8 @@ fn points_of(set: &[u8], layout: Layout, t: u8, seen: Points) -> Points
     let n = records::count(layout, t);
     let first = records::first(layout, t);
     let mut points = seen;
-    let mut i: u16 = 0;
-    while i < n {
-        points = note(points, records::statement_at(set, first + (i as u32)));
-        i += 1;
+    for i in 0..n {
+        points = note(points, records::statement_at(set, first + u32::from(i)));
     }
     points
 }
@@ -100,15 +90,12 @@ fn points_of(set: &[u8], layout: Layout, t: u8, seen: Points) -> Points
 pub fn of_set(set: &[u8], layout: Layout) -> Points
     ensures { listed result ≡ take most_checkpoints (checkpoints (set_by set.now layout)) }
 {
-    let threads = layout.threads;
     let mut points = Points {
         count: 0,
         numbers: [0; MOST],
     };
-    let mut t: u8 = 0;
-    while t < threads {
+    for t in 0..layout.threads {
         points = points_of(set, layout, t, points);
-        t += 1;
     }
     points
 }

@@ -11,8 +11,8 @@ use Rattle.records.specs.Maps.{ascends_at, map_accepted, map_value}
 use Rattle.machine.specs.Machine.{State, start, fresh, no_write, with_accu, address, word_taken, cells_read, row, jumps, next_pc, executed, cas_matches, contains, opened, waiting, permitted, acted, leaves_mark, cleared, written, step, reads}
 use Rattle.machine.specs.Runs.{choice_of, choices, some_permitted, end_of, after}
 use Rattle.machine.specs.Traces.{step_bytes, trace_step, shown, trace}
-use Rattle.machine.specs.Maps.{begin, outcome, advanced, follow}
-use Rattle.machine.specs.declared.RunAnswer.TheVariants.{Ran, Refused}
+use Rattle.machine.specs.Maps.{begin, outcome, advanced, ran, refused_at, follow}
+use Rattle.records.specs.declared.refusals.Refusal.TheVariants.{NotPermitted, LacksCell}
 use Rattle.machine.specs.declared.End.TheVariants.{Code, Open}
 use Rattle.simulation.specs.Simulation.{simulated, limited}
 
@@ -45,15 +45,15 @@ unmapped : List ℕ
 unmapped = statement 0 0 9 0 (statement 0 17 0 1 [])
 
 -- the load of 5 is forwarded from the buffer: EXIT 0
-case2 : simulated set2 (5 ∷ 0 ∷ 0 ∷ 0 ∷ []) (0 ∷ 0 ∷ 0 ∷ 0 ∷ 0 ∷ []) 120 ≡ Ran 5 (Code 0)
+case2 : simulated set2 (5 ∷ 0 ∷ 0 ∷ 0 ∷ []) (0 ∷ 0 ∷ 0 ∷ 0 ∷ 0 ∷ []) 120 ≡ ran 5 (Code 0)
 unfolding set2 statement simulated limited follow begin outcome advanced choices choice_of end_of some_permitted step reads written cleared leaves_mark acted permitted waiting opened contains cas_matches executed next_pc jumps row cells_read word_taken address ascends_at map_accepted set_accepted opens_at record_fits argument_fits follows start_of count_of threads_of every some number least
 case2 = refl
 
-case4 : simulated set4 [] (1 ∷ 0 ∷ 1 ∷ []) 72 ≡ Ran 3 (Code 3)
+case4 : simulated set4 [] (1 ∷ 0 ∷ 1 ∷ []) 72 ≡ ran 3 (Code 3)
 unfolding set4 statement simulated limited follow begin outcome advanced choices choice_of end_of some_permitted step reads written cleared leaves_mark acted permitted waiting opened contains cas_matches executed next_pc jumps row cells_read word_taken address ascends_at map_accepted set_accepted opens_at record_fits argument_fits follows start_of count_of threads_of every some number least
 case4 = refl
 
-case4-long : simulated set4 [] (replicate 60 0 ++ (1 ∷ 0 ∷ 1 ∷ [])) 1536 ≡ Ran 63 (Code 3)
+case4-long : simulated set4 [] (replicate 60 0 ++ (1 ∷ 0 ∷ 1 ∷ [])) 1536 ≡ ran 63 (Code 3)
 unfolding set4 statement simulated limited follow begin outcome advanced choices choice_of end_of some_permitted step reads written cleared leaves_mark acted permitted waiting opened contains cas_matches executed next_pc jumps row cells_read word_taken address ascends_at map_accepted set_accepted opens_at record_fits argument_fits follows start_of count_of threads_of every some number least
 case4-long = refl
 
@@ -73,16 +73,16 @@ unfolding state7 after trace trace_step step_bytes shown set7 statement simulate
 case7 = (refl, refl, refl)
 
 -- FENCE with full 1 is not permitted; CHECK runs
-case8 : (simulated (set8 2) [] (0 ∷ 0 ∷ []) 48 ≡ Refused 12 1) × (simulated (set8 19) [] (0 ∷ 0 ∷ []) 48 ≡ Ran 2 Open)
+case8 : (simulated (set8 2) [] (0 ∷ 0 ∷ []) 48 ≡ refused_at NotPermitted 1) × (simulated (set8 19) [] (0 ∷ 0 ∷ []) 48 ≡ ran 2 Open)
 unfolding set8 statement simulated limited follow begin outcome advanced choices choice_of end_of some_permitted step reads written cleared leaves_mark acted permitted waiting opened contains cas_matches executed next_pc jumps row cells_read word_taken address ascends_at map_accepted set_accepted opens_at record_fits argument_fits follows start_of count_of threads_of every some number least
 case8 = (refl, refl)
 
 -- a marked thread waits; once both are marked, both go on
-waits : (simulated meeting [] (0 ∷ 0 ∷ []) 48 ≡ Refused 12 1) × (simulated meeting [] (0 ∷ 1 ∷ 0 ∷ 1 ∷ []) 96 ≡ Ran 4 (Code 0))
+waits : (simulated meeting [] (0 ∷ 0 ∷ []) 48 ≡ refused_at NotPermitted 1) × (simulated meeting [] (0 ∷ 1 ∷ 0 ∷ 1 ∷ []) 96 ≡ ran 4 (Code 0))
 unfolding meeting statement simulated limited follow begin outcome advanced choices choice_of end_of some_permitted step reads written cleared leaves_mark acted permitted waiting opened contains cas_matches executed next_pc jumps row cells_read word_taken address ascends_at map_accepted set_accepted opens_at record_fits argument_fits follows start_of count_of threads_of every some number least
 waits = (refl, refl)
 
 -- a first cell read that the map lacks
-lacks : simulated unmapped [] (0 ∷ []) 24 ≡ Refused 14 0
+lacks : simulated unmapped [] (0 ∷ []) 24 ≡ refused_at LacksCell 0
 unfolding unmapped statement simulated limited follow begin outcome advanced choices choice_of end_of some_permitted step reads written cleared leaves_mark acted permitted waiting opened contains cas_matches executed next_pc jumps row cells_read word_taken address ascends_at map_accepted set_accepted opens_at record_fits argument_fits follows start_of count_of threads_of every some number least
 lacks = refl

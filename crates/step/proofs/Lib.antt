@@ -4,6 +4,6 @@ pub mod MapCells
 pub mod Runs
 pub mod Settled
 pub mod Steps
+pub mod Stops
 pub mod Taken
 pub mod Tests
-mod Unknown

@@ -2,74 +2,78 @@
 use Prim.Native.Nat.{ℕ, zero, suc, ◌+◌, ◌*◌, ◌/◌, ◌≤◌, ◌<◌}
 use mathlib.Core.Path.{◌≡◌, refl, ap, ap₂, sym, ◌∙◌}
 use mathlib.Core.Bool.{Bool, true, false, cond, ◌&&◌}
-use mathlib.Core.List.{List}
+use mathlib.Core.List.{List, ◌∷◌}
+use Rattle.std.specs.Prelude.{Result, Err, Option}
 use native.Mathlib.Numerals.{add-one}
 use native.Mathlib.Omega.{arith}
 use borrow.Author.Tests.{le-leb}
 use lib.Dec.{leb}
-use lib.ListN.{length, get_or, take, drop, drop_of_length-le}
+use lib.ListN.{length, take, drop, drop_of_length-le}
 use lib.Seq.{drop-drop}
 use Rattle.base.specs.Bytes.{same}
 use Rattle.base.proofs.Choice.{chosen, and_true}
 use Rattle.records.specs.Maps.{cells}
+use Rattle.records.specs.Refusals.{of_call}
 use Rattle.records.specs.Sets.{Set}
+use Rattle.records.specs.declared.refusals.Refusal.TheVariants.{NotPermitted as Unpermitted, Differs, Length}
+use Rattle.records.specs.declared.refusals.Refused.{Refused}
 use Rattle.machine.specs.Machine.{no_write, written, reads}
-use Rattle.machine.specs.Maps.{Held, begin, outcome, advanced, knows_all, on_outcome, follow, retrace}
-use Rattle.machine.specs.Runs.{choice_of, choices, takes}
+use Rattle.machine.specs.Maps.{Held, begin, outcome, advanced, knows_all, refused_at, on_outcome, follow, retrace}
+use Rattle.machine.specs.Runs.{choices, takes}
 use Rattle.machine.specs.Traces.{trace_step, step_choice, step_length}
+use Rattle.machine.specs.declared.Choice.{Choice}
 use Rattle.machine.specs.declared.Outcome.{Outcome}
 use Rattle.machine.specs.declared.Outcome.TheVariants.{Taken, NotPermitted, Lacking}
-use Rattle.machine.specs.declared.RunAnswer.{RunAnswer}
-use Rattle.machine.specs.declared.RunAnswer.TheVariants.{Refused}
-use Rattle.machine.specs.declared.Written.{Written}
+use Rattle.machine.specs.declared.Run.{Run}
+use Rattle.records.specs.declared.Cell.{Cell}
 use Rattle.step.specs.Runs.{limits, followed, retraced, unknown, lacked}
 use Rattle.step.specs.Step.{on_taken}
-use Rattle.step.specs.Walks.{step_refusal, on_refusal, walked, walked_lacks, walked_over}
-use Rattle.step.proofs.Steps.{next-choice, follow-next}
+use Rattle.step.specs.Walks.{schedule_choice, schedule_agrees, trace_choice, trace_agrees, step_refusal, on_refusal, walked, walked_lacks, walked_over, choices_from}
+use Rattle.step.proofs.Steps.{next-choice}
 
 -- ---- a whole schedule
 
-agreed_outcome : (o : Outcome) (i : ℕ) (r : RunAnswer) → on_refusal (step_refusal o true) i r ≡ on_outcome o i r
+agreed_outcome : (o : Outcome) (i : ℕ) (r : Result Run Refused) → on_refusal (step_refusal o true) i r ≡ on_outcome o i r
 agreed_outcome Taken i r = refl
 agreed_outcome NotPermitted i r = refl
 agreed_outcome Lacking i r = refl
 
--- the loop over a schedule follows its choices
-walked-follow : (S : Set) (schedule : List ℕ) (h : Held) (w : Written) (i n : ℕ) → i + n ≡ length schedule →
-    walked S false schedule h w i n ≡ follow S h i (choices (drop i schedule))
-unfolding walked follow choices
-walked-follow S schedule h w i zero e =
-    let l : length schedule ≤ i = omega arith in
-    sym (ap (λ (ks : List ℕ). follow S h i (choices ks)) (drop_of_length-le schedule l))
-walked-follow S schedule h w i (suc n) e =
-    let c = choice_of (get_or schedule i 0) in
+-- the steps of a schedule are its choices
+pub schedule-choices_from : (S : Set) (schedule : List ℕ) (i n : ℕ) → i + n ≡ length schedule → choices_from (schedule_choice schedule) i n ≡ choices (drop i schedule)
+unfolding choices_from choices
+schedule-choices_from S schedule i zero e = let l : length schedule ≤ i = omega arith in sym (ap choices (drop_of_length-le schedule l))
+schedule-choices_from S schedule i (suc n) e =
     let l : i < length schedule = omega arith in
-    let p : suc i + n ≡ length schedule = omega arith in
-    agreed_outcome (outcome S h c) i (walked S false schedule (advanced S h c) (written S h.state c) (suc i) n)
-    ∙ ap (on_outcome (outcome S h c) i) (walked-follow S schedule (advanced S h c) (written S h.state c) (suc i) n p ∙ ap (λ (k : ℕ). follow S (advanced S h c) k (choices (drop k schedule))) (sym (add-one i)))
-    ∙ sym (follow-next S schedule i l c refl h)
+    ap (λ (run : List Choice). schedule_choice schedule i ∷ run) (schedule-choices_from S schedule (suc i) n (omega arith) ∙ ap (λ (k : ℕ). choices (drop k schedule)) (sym (add-one i)))
+    ∙ sym (next-choice S schedule i l)
+
+-- the loop over choices follows them
+walked-follow : (S : Set) (choice : ℕ → Choice) (h : Held) (w : Option Cell) (i n : ℕ) → walked S choice schedule_agrees h w i n ≡ follow S h i (choices_from choice i n)
+unfolding walked follow choices_from
+walked-follow S choice h w i zero = refl
+walked-follow S choice h w i (suc n) =
+    let c = choice i in
+    agreed_outcome (outcome S h c) i (walked S choice schedule_agrees (advanced S h c) (written S h.state c) (suc i) n)
+    ∙ ap (on_outcome (outcome S h c) i) (walked-follow S choice (advanced S h c) (written S h.state c) (suc i) n)
 
 -- and lacks the cell that they lack
-pub walked-lacked : (S : Set) (schedule : List ℕ) (h : Held) (i n : ℕ) → i + n ≡ length schedule →
-    walked_lacks S false schedule h i n ≡ lacked S h (choices (drop i schedule))
-unfolding walked_lacks lacked choices
-walked-lacked S schedule h i zero e =
-    let l : length schedule ≤ i = omega arith in
-    sym (ap (λ (ks : List ℕ). lacked S h (choices ks)) (drop_of_length-le schedule l))
-walked-lacked S schedule h i (suc n) e =
-    let c = choice_of (get_or schedule i 0) in
-    let l : i < length schedule = omega arith in
-    let p : suc i + n ≡ length schedule = omega arith in
-    ap (λ (k : ℕ). on_taken (outcome S h c) k (unknown h.known (reads S h.state c)))
-    (walked-lacked S schedule (advanced S h c) (suc i) n p ∙ ap (λ (k : ℕ). lacked S (advanced S h c) (choices (drop k schedule))) (sym (add-one i)))
-    ∙ sym (ap (lacked S h) (next-choice S schedule i l c refl))
+walked-lacked : (S : Set) (choice : ℕ → Choice) (h : Held) (i n : ℕ) → walked_lacks S choice h i n ≡ lacked S h (choices_from choice i n)
+unfolding walked_lacks lacked choices_from
+walked-lacked S choice h i zero = refl
+walked-lacked S choice h i (suc n) =
+    let c = choice i in
+    ap (λ (k : ℕ). on_taken (outcome S h c) k (unknown h.known (reads S h.state c))) (walked-lacked S choice (advanced S h c) (suc i) n)
+
+pub schedule-lacked : (S : Set) (schedule : List ℕ) (h : Held) → walked_lacks S (schedule_choice schedule) h 0 (length schedule) ≡ lacked S h (choices schedule)
+schedule-lacked S schedule h =
+    walked-lacked S (schedule_choice schedule) h 0 (length schedule) ∙ ap (lacked S h) (schedule-choices_from S schedule 0 (length schedule) (omega arith))
 
 -- ---- a whole trace
 
 -- 12 before 13 before 14
-judged : (takes knows agreed : Bool) (i : ℕ) (rest : RunAnswer) →
+judged : (takes knows agreed : Bool) (i : ℕ) (rest : Result Run Refused) →
     on_refusal (step_refusal (cond takes (cond knows Taken Lacking) NotPermitted) agreed) i rest
-    ≡ cond takes (cond agreed (on_outcome (cond takes (cond knows Taken Lacking) NotPermitted) i rest) (Refused 13 i)) (Refused 12 i)
+    ≡ cond takes (cond agreed (on_outcome (cond takes (cond knows Taken Lacking) NotPermitted) i rest) (refused_at Differs i)) (refused_at Unpermitted i)
 judged true true true i rest = refl
 judged true true false i rest = refl
 judged true false true i rest = refl
@@ -77,7 +81,8 @@ judged true false false i rest = refl
 judged false knows agreed i rest = refl
 
 -- the loop along a trace compares each step as the definition does
-walked-retrace : (S : Set) (trace : List ℕ) (h : Held) (w : Written) (i n : ℕ) → walked S true trace h w i n ≡ retrace S h w i n (drop (step_length * i) trace)
+walked-retrace : (S : Set) (trace : List ℕ) (h : Held) (w : Option Cell) (i n : ℕ) →
+    walked S (trace_choice trace) (trace_agrees trace) h w i n ≡ retrace S h w i n (drop (step_length * i) trace)
 unfolding walked retrace outcome
 walked-retrace S trace h w i zero = refl
 walked-retrace S trace h w i (suc n) =
@@ -90,23 +95,27 @@ walked-retrace S trace h w i (suc n) =
 
 -- ---- the calls
 
--- by a schedule the loop is the definition's run
-pub over-followed : (S : Set) (map schedule : List ℕ) (room : ℕ) → walked_over S map false schedule room ≡ followed S map schedule room
+-- by a schedule the loop is the definition's run, where there is room for its trace
+pub over-followed : (S : Set) (map schedule : List ℕ) (room : ℕ) → length schedule ≤ room / step_length →
+    walked_over S map (schedule_choice schedule) schedule_agrees (length schedule) ≡ followed S map schedule room
 unfolding walked_over followed
-over-followed S map schedule room =
-    ap (λ (r : RunAnswer). cond (limits S map (length schedule) && leb (length schedule) (room / step_length)) r (Refused 17 0))
-    (walked-follow S schedule (begin map) no_write 0 (length schedule) (omega arith))
+over-followed S map schedule room roomy =
+    ap₂ (λ (b : Bool) (r : Result Run Refused). cond b r (Err (of_call Length)))
+    (sym (and_yes (limits S map (length schedule)) (leb (length schedule) (room / step_length)) (le-leb (length schedule) (room / step_length) roomy)))
+    (walked-follow S (schedule_choice schedule) (begin map) no_write 0 (length schedule)
+    ∙ ap (follow S (begin map) 0) (schedule-choices_from S schedule 0 (length schedule) (omega arith)))
+  where
+    and_yes : (b t : Bool) → t ≡ true → (b && t) ≡ b
+    and_yes true t e = e
+    and_yes false t e = refl
 
 -- and along a trace it retraces it
-pub over-retraced : (S : Set) (map trace : List ℕ) (room : ℕ) → walked_over S map true trace room ≡ retraced S map trace
+pub over-retraced : (S : Set) (map trace : List ℕ) →
+    walked_over S map (trace_choice trace) (trace_agrees trace) (length trace / step_length) ≡ retraced S map trace
 unfolding walked_over retraced
-over-retraced S map trace room =
-    ap₂ (λ (b : Bool) (r : RunAnswer). cond b r (Refused 17 0)) (and_yes (limits S map (length trace / step_length)))
+over-retraced S map trace =
+    ap (λ (r : Result Run Refused). cond (limits S map (length trace / step_length)) r (Err (of_call Length)))
     (walked-retrace S trace (begin map) no_write 0 (length trace / step_length))
-  where
-    and_yes : (b : Bool) → (b && true) ≡ b
-    and_yes true = refl
-    and_yes false = refl
 
 -- within the limits a run is what the definition says
 module _ (S : Set) (map : List ℕ) (few : S.threads ≤ 4) (cells-few : cells map ≤ 256) where

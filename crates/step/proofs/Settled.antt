@@ -1,4 +1,5 @@
 -- The state after a step, as the code puts it together. Assumes nothing.
+use Rattle.std.specs.Prelude.{Option, Some, is_some}
 use Prim.Native.Nat.{ℕ, zero, suc, ◌≤◌, ◌<◌}
 use native.Mathlib.Omega.{arith}
 use mathlib.Core.Path.{◌≡◌, refl, ap, ap₂, sym, ◌∙◌, fun_ext, subst⁻¹}
@@ -16,12 +17,11 @@ use Rattle.records.specs.declared.Statement.{Statement}
 use Rattle.machine.proofs.Permitted.{permitted-is}
 use Rattle.machine.specs.Held.{state_of, memory_of, known_of, permitted_by, cells_of}
 use Rattle.machine.specs.Maps.{knows_all, outcome}
-use Rattle.machine.specs.Machine.{State, actor, reads, unmarked, fresh, with_pc, next_pc, row, flushed, executed, current, opened, cleared, waiting, written, memory_after, acted, leaves_mark, step}
+use Rattle.machine.specs.Machine.{State, actor, reads, unmarked, fresh, with_pc, next_pc, row, flushed, executed, current, opened, cleared, waiting, written, memory_after, acted, leaves_mark, step, checkpoint_of}
 use Rattle.machine.specs.Traces.{shown}
 use Rattle.machine.specs.declared.Choice.{Choice}
 use Rattle.machine.specs.declared.Choice.TheVariants.{Execute, Flush}
 use Rattle.machine.specs.declared.Machine.{Machine}
-use Rattle.machine.specs.declared.Mark.{Mark}
 use Rattle.machine.specs.declared.Outcome.{Outcome}
 use Rattle.machine.specs.declared.Outcome.TheVariants.{Taken, NotPermitted, Lacking}
 use Rattle.machine.specs.declared.Read.{Read}
@@ -30,7 +30,7 @@ use Rattle.step.specs.Acting.{marks_settled, threads_settled, waits, thread_by, 
 use Rattle.step.specs.Step.{on_taken}
 use Rattle.step.specs.declared.acting.Stepped.{Stepped}
 
-module _ (S : Set) (marks : ℕ → Mark) (t : ℕ) (i : Statement) where
+module _ (S : Set) (marks : ℕ → Option ℕ) (t : ℕ) (i : Statement) where
   abbrev is_check : Bool
   is_check = eqb i.number CHECK
 
@@ -38,18 +38,18 @@ module _ (S : Set) (marks : ℕ → Mark) (t : ℕ) (i : Statement) where
   marks-cleared e = fun_ext (λ u. sym (passed _ _ (and_false (eqb u t) e)))
 
   pub marks-left : is_check ≡ true →
-      (λ u. cond (eqb u t) (record { on = true; checkpoint = i.argument }) (cleared S marks u)) ≡ marks_settled S marks t i
-  marks-left e = fun_ext (λ u. sym (ap (λ (b : Bool). cond (b && eqb u t) (record { on = true; checkpoint = i.argument }) (cleared S marks u)) e))
+      (λ u. cond (eqb u t) (Some i.argument) (cleared S marks u)) ≡ marks_settled S marks t i
+  marks-left e = fun_ext (λ u. sym (ap (λ (b : Bool). cond (b && eqb u t) (Some i.argument) (cleared S marks u)) e))
 
 -- where no thread is marked, the marks stay
-pub unmarked-stay : (S : Set) (marks : List Mark) → length marks ≡ 4 →
-    ((get_or marks 0 unmarked).on || (get_or marks 1 unmarked).on || (get_or marks 2 unmarked).on || (get_or marks 3 unmarked).on) ≡ false →
+pub unmarked-stay : (S : Set) (marks : List (Option ℕ)) → length marks ≡ 4 →
+    ((is_some (get_or marks 0 unmarked)) || (is_some (get_or marks 1 unmarked)) || (is_some (get_or marks 2 unmarked)) || (is_some (get_or marks 3 unmarked))) ≡ false →
     (λ u. get_or marks u unmarked) ≡ cleared S (λ u. get_or marks u unmarked)
 unfolding cleared
-unmarked-stay S marks n e = fun_ext (λ u. sym (passed _ _ (and_false (opened S (λ v. get_or marks v unmarked) (get_or marks u unmarked).checkpoint) (off u))))
+unmarked-stay S marks n e = fun_ext (λ u. sym (passed _ _ (and_false (opened S (λ v. get_or marks v unmarked) (checkpoint_of (get_or marks u unmarked))) (off u))))
   where
     on : ℕ → Bool
-    on u = (get_or marks u unmarked).on
+    on u = (is_some (get_or marks u unmarked))
 
     off : (u : ℕ) → on u ≡ false
     off zero = or_left (on 0) (on 1) (or_left (on 0 || on 1) (on 2) (or_left (on 0 || on 1 || on 2) (on 3) e))
@@ -58,7 +58,7 @@ unmarked-stay S marks n e = fun_ext (λ u. sym (passed _ _ (and_false (opened S 
     off (suc (suc (suc zero))) = or_right (on 0 || on 1 || on 2) (on 3) e
     off (suc (suc (suc (suc u)))) =
         let h : length marks ≤ suc (suc (suc (suc u))) = omega arith in
-        ap (λ (m : Mark). m.on) (get_or-eq_default marks unmarked h)
+        ap (λ (m : Option ℕ). (is_some m)) (get_or-eq_default marks unmarked h)
 
 -- ---- a step by the acting thread alone
 
@@ -120,7 +120,7 @@ module _ (S : Set) (m : Machine) (memory : ℕ → ℕ) where
       (reads-by c)
 
   -- the state by what the acting thread's choice does
-  abbrev pub state_by : ℕ → Thread → Statement → (ℕ → Mark) → (ℕ → ℕ) → State
+  abbrev pub state_by : ℕ → Thread → Statement → (ℕ → Option ℕ) → (ℕ → ℕ) → State
   state_by t y i marks mem = record {
     threads = threads_settled (λ u. get_or m.threads u fresh) t y;
     marks = marks;
@@ -152,8 +152,8 @@ module _ (S : Set) (m : Machine) (memory : ℕ → ℕ) where
       record { threads = threads_settled (λ u. get_or m.threads u fresh) t y; marks = λ u. get_or m.marks u unmarked; memory = mem; ended = m.ended; code = m.code }
       ≡ state_by t y i (marks_settled S (λ u. get_or m.marks u unmarked) t i) mem
   quiet-state t y i mem n l q =
-      let marks : ℕ → Mark = λ u. get_or m.marks u unmarked in
-      let marked = (marks 0).on || (marks 1).on || (marks 2).on || (marks 3).on in
+      let marks : ℕ → Option ℕ = λ u. get_or m.marks u unmarked in
+      let marked = (is_some (marks 0)) || (is_some (marks 1)) || (is_some (marks 2)) || (is_some (marks 3)) in
       let checks = eqb i.number CHECK in
       let exits = eqb i.number EXIT in
       let p = and_left (not marked && not y.halted && not checks) (not exits) q in

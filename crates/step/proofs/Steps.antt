@@ -1,9 +1,10 @@
 -- One turn of the loop: what the definitions say of the next step, and what the step's answer makes of the machine. Assumes nothing.
 use Prim.Native.Nat.{ℕ, zero, suc, ◌+◌, ◌-◌, ◌*◌, ◌%◌, ◌≤◌, ◌<◌}
-use mathlib.Core.Path.{◌≡◌, refl, ap, ap₂, sym, subst, subst⁻¹, ◌∙◌}
+use mathlib.Core.Path.{◌≡◌, refl, ap, ap₂, sym, subst, ◌∙◌}
 use mathlib.Core.Bool.{Bool, true, false, cond, not, ◌&&◌, ◌||◌}
 use mathlib.Core.List.{List, [], ◌∷◌, ◌++◌, append_assoc}
 use native.Mathlib.Numerals.{add-one}
+use Rattle.std.specs.Prelude.{Option, None, Result}
 use native.Mathlib.Omega.{arith}
 use borrow.Author.Tests.{le-leb, lt-ltb, ltb-true}
 use lib.Dec.{eqb, leb, ltb}
@@ -18,6 +19,7 @@ use Rattle.records.specs.Maps.{cells, address_at, value_at, holds, content}
 use Rattle.records.specs.Sets.{Set}
 use Rattle.records.specs.declared.Layout.{Layout}
 use Rattle.records.specs.declared.Statement.{Statement}
+use Rattle.records.specs.declared.refusals.Refused.{Refused}
 use Rattle.machine.proofs.Four.{stored}
 use Rattle.machine.proofs.Runs.{length-trace_step, takes-actor, taken-takes, lacking_takes}
 use Rattle.step.proofs.Settled.{outcome-by, written-by, shown_by, state_by, stepped, quiet-state, reads-by}
@@ -25,75 +27,68 @@ use Rattle.machine.specs.Held.{state_of, memory_of, known_of, held_of, cells_of}
 use Rattle.step.specs.Acting.{can_step, waits, statement_by, thread_by, written_by, reads_by, outcome_by, quiet, marks_settled, threads_settled, Advances, on_permitted}
 use Rattle.step.specs.Step.{on_taken}
 use Rattle.machine.specs.Machine.{State, fresh, unmarked, actor, start, step, written, no_write, memory_after, reads}
-use Rattle.machine.specs.Maps.{Held, begin, outcome, advanced, known_after, on_outcome, follow}
+use Rattle.machine.specs.Maps.{Held, begin, outcome, advanced, known_after}
 use Rattle.machine.specs.Runs.{choice_of, choices, some_permitted, end_of}
 use Rattle.machine.specs.Traces.{step_bytes, trace_step, trace, step_length}
-use Rattle.machine.specs.declared.RunAnswer.{RunAnswer}
-use Rattle.machine.specs.declared.RunAnswer.TheVariants.{Refused}
 use Rattle.machine.specs.declared.Choice.{Choice}
 use Rattle.machine.specs.declared.Machine.{Machine}
-use Rattle.machine.specs.declared.Mark.{Mark}
 use Rattle.machine.specs.declared.Outcome.{Outcome}
 use Rattle.machine.specs.declared.Outcome.TheVariants.{Taken, NotPermitted, Lacking}
 use Rattle.step.specs.declared.acting.Stepped.{Stepped}
+use Rattle.machine.specs.declared.Run.{Run}
 use Rattle.machine.specs.declared.Thread.{Thread}
-use Rattle.machine.specs.declared.Written.{Written}
+use Rattle.records.specs.declared.Cell.{Cell}
 use Rattle.machine.specs.declared.End.TheVariants.{Code, Stuck, Open}
 use Rattle.step.specs.Ends.{end_for}
-use Rattle.step.specs.Runs.{Begins, unknown}
-use Rattle.step.specs.Walks.{made, agrees, step_refusal, on_refusal, walked, walked_lacks}
+use Rattle.step.specs.Runs.{unknown}
+use Rattle.step.specs.Walks.{step_refusal, on_refusal, walked, walked_lacks, choices_from}
 
 -- ---- refusals
 
-pub on-refused : (n i : ℕ) (rest : RunAnswer) → (n ≡ 0 → ⊥) → on_refusal n i rest ≡ Refused n i
-on-refused zero i rest f = absurd (f refl)
-on-refused (suc n) i rest f = refl
-
--- refusals that are the same have one number
-pub refused-number : {n m i j : ℕ} → Refused n i ≡ Refused m j → n ≡ m
-refused-number e = cc
-
--- nothing is asked of the bytes of a refused run
-pub refused-begins : (a : RunAnswer) (number place : ℕ) (trace bytes : List ℕ) → a ≡ Refused number place → Begins a trace bytes
-refused-begins a number place trace bytes e = subst⁻¹ (λ (z : RunAnswer). Begins z trace bytes) e tt
-
--- a step refused for a first cell could be taken
-pub lacks : (o : Outcome) (agreed : Bool) → step_refusal o agreed ≡ 14 → o ≡ Lacking
-lacks Taken true e = absurd (omega arith)
-lacks Taken false e = absurd (omega arith)
-lacks NotPermitted agreed e = absurd (omega arith)
-lacks Lacking agreed e = refl
-
 -- a step that is not refused is taken
-pub stands : (o : Outcome) (agreed : Bool) → step_refusal o agreed ≡ 0 → o ≡ Taken
+pub stands : (o : Outcome) (agreed : Bool) → step_refusal o agreed ≡ None → o ≡ Taken
 stands Taken agreed e = refl
-stands NotPermitted agreed e = absurd (omega arith)
-stands Lacking true e = absurd (omega arith)
-stands Lacking false e = absurd (omega arith)
+stands NotPermitted agreed e = cc
+stands Lacking true e = cc
+stands Lacking false e = cc
 
 -- ---- the next step
 
-module _ (S : Set) (replaying : Bool) (input : List ℕ) (h : Held) (w : Written) (i : ℕ) (c : Choice) (e : c ≡ made replaying input i) where
-  abbrev pub rest : ℕ → RunAnswer
-  rest n = walked S replaying input (advanced S h c) (written S h.state c) (i + 1) n
+module _ (S : Set) (choice : ℕ → Choice) (agrees : ℕ → List ℕ → Bool) (h : Held) (w : Option Cell) (i : ℕ) (c : Choice) (e : c ≡ choice i) where
+  abbrev pub rest : ℕ → Result Run Refused
+  rest n = walked S choice agrees (advanced S h c) (written S h.state c) (i + 1) n
 
   pub walked_next : (n : ℕ) → 0 < n →
-      walked S replaying input h w i n ≡ on_refusal (step_refusal (outcome S h c) (agrees replaying input i (trace_step S h.state w c))) i (rest (n - 1))
+      walked S choice agrees h w i n ≡ on_refusal (step_refusal (outcome S h c) (agrees i (trace_step S h.state w c))) i (rest (n - 1))
   unfolding walked
   walked_next zero l = absurd (omega arith)
-  walked_next (suc n) l =
-      let m : suc n - 1 ≡ n = omega arith in
-      ap (λ (k : Choice). on_refusal (step_refusal (outcome S h k) (agrees replaying input i (trace_step S h.state w k))) i (walked S replaying input (advanced S h k) (written S h.state k) (suc i) n)) (sym e)
-      ∙ rw (← add-one i, m) refl
+  walked_next (suc n) l = let m : suc n - 1 ≡ n = omega arith in rw (e, add-one, m) refl
 
   pub lacks-next : (n : ℕ) → 0 < n →
-      walked_lacks S replaying input h i n ≡ on_taken (outcome S h c) (walked_lacks S replaying input (advanced S h c) (i + 1) (n - 1)) (unknown h.known (reads S h.state c))
+      walked_lacks S choice h i n ≡ on_taken (outcome S h c) (walked_lacks S choice (advanced S h c) (i + 1) (n - 1)) (unknown h.known (reads S h.state c))
   unfolding walked_lacks
   lacks-next zero l = absurd (omega arith)
-  lacks-next (suc n) l =
-      let m : suc n - 1 ≡ n = omega arith in
-      ap (λ (k : Choice). on_taken (outcome S h k) (walked_lacks S replaying input (advanced S h k) (suc i) n) (unknown h.known (reads S h.state k))) (sym e)
-      ∙ rw (← add-one i, m) refl
+  lacks-next (suc n) l = let m : suc n - 1 ≡ n = omega arith in rw (e, add-one, m) refl
+
+  choices-next : (n : ℕ) → 0 < n → choices_from choice i n ≡ c ∷ choices_from choice (i + 1) (n - 1)
+  unfolding choices_from
+  choices-next zero l = absurd (omega arith)
+  choices-next (suc n) l = let m : suc n - 1 ≡ n = omega arith in rw (e, add-one, m) refl
+
+  -- the trace so far, with one step more
+  pub trace-more : (n : ℕ) → 0 < n → (bytes : List ℕ) → step_length * i + step_length ≤ length bytes →
+      take (step_length * i) bytes ++ trace S h.state w (choices_from choice i n)
+      ≡ take (step_length * (i + 1)) (placed bytes (step_length * i) (trace_step S h.state w c))
+      ++ trace S (step S h.state c) (written S h.state c) (choices_from choice (i + 1) (n - 1))
+  unfolding trace
+  trace-more n l bytes g =
+      let long = length-trace_step S h.state w c in
+      let m : step_length * i + length (trace_step S h.state w c) ≡ step_length * (i + 1) = omega arith in
+      let later = trace S (step S h.state c) (written S h.state c) (choices_from choice (i + 1) (n - 1)) in
+      ap (λ (run : List Choice). take (step_length * i) bytes ++ trace S h.state w run) (choices-next n l)
+      ∙ sym (append_assoc (take (step_length * i) bytes) (trace_step S h.state w c) later)
+      ∙ ap (λ (t : List ℕ). t ++ later)
+      (sym (take-placed bytes (step_length * i) (trace_step S h.state w c) (omega arith)) ∙ ap (λ (k : ℕ). take k (placed bytes (step_length * i) (trace_step S h.state w c))) m)
 
 -- ---- a step that was made: the acting thread is found by its number modulo 4
 
@@ -101,7 +96,7 @@ module _ (S : Set) (m : Machine) (memory : ℕ → ℕ) (known : ℕ → Bool) (
   abbrev pub slot : ℕ
   slot = actor c % 4
 
-  abbrev marks_of : ℕ → Mark
+  abbrev marks_of : ℕ → Option ℕ
   marks_of u = get_or m.marks u unmarked
 
   abbrev pub held : Held
@@ -132,7 +127,7 @@ module _ (S : Set) (m : Machine) (memory : ℕ → ℕ) (known : ℕ → Bool) (
         ∙ by-slot (ltb (actor c) S.threads) (not m.ended) there ∙ sym (outcome-by S m memory known c)
 
     -- the bytes of a step that a thread makes are its trace step's
-    pub shown-bytes : actor c < S.threads → (w : Written) → step_bytes (actor c) r.statement (get_or m.threads slot fresh) w ≡ trace_step S (state_of m memory) w c
+    pub shown-bytes : actor c < S.threads → (w : Option Cell) → step_bytes (actor c) r.statement (get_or m.threads slot fresh) w ≡ trace_step S (state_of m memory) w c
     unfolding trace_step
     shown-bytes l w =
         ap (λ (j : Statement). step_bytes (actor c) j (get_or m.threads slot fresh) w) a.stated
@@ -140,7 +135,7 @@ module _ (S : Set) (m : Machine) (memory : ℕ → ℕ) (known : ℕ → Bool) (
         ∙ ap (λ (j : Statement). step_bytes (actor c) j (get_or m.threads (actor c) fresh) w) (sym (shown_by S m memory c))
 
     -- so the refusal is the definition's
-    pub refused_so : (agreed : List ℕ → Bool) (w : Written) →
+    pub refused_so : (agreed : List ℕ → Bool) (w : Option Cell) →
         step_refusal r.outcome (agreed (step_bytes (actor c) r.statement (get_or m.threads slot fresh) w)) ≡ step_refusal (outcome S held c) (agreed (trace_step S (state_of m memory) w c))
     refused_so agreed w = go (ltb (actor c) S.threads) refl
       where
@@ -184,12 +179,12 @@ module _ (S : Set) (m : Machine) (memory : ℕ → ℕ) (known : ℕ → Bool) (
       later-is : later ≡ memory_after (written S (state_of m memory) c) memory
       later-is =
           told.memory-is ∙ ap {B = ℕ → ℕ} (λ (o : Outcome). on_taken o (memory_after (written_by c stated acted memory) memory) memory) t
-          ∙ ap {B = ℕ → ℕ} (λ (z : Written). memory_after z memory) (sym (written-by S m memory c))
+          ∙ ap {B = ℕ → ℕ} (λ (z : Option Cell). memory_after z memory) (sym (written-by S m memory c))
 
       knows-is : knows ≡ known_after (written S (state_of m memory) c) known
       knows-is =
           told.known_is ∙ ap {B = ℕ → Bool} (λ (o : Outcome). on_taken o (known_after (written_by c stated acted memory) known) known) t
-          ∙ ap {B = ℕ → Bool} (λ (z : Written). known_after z known) (sym (written-by S m memory c))
+          ∙ ap {B = ℕ → Bool} (λ (z : Option Cell). known_after z known) (sym (written-by S m memory c))
 
       state-is : state_by S m memory (actor c) r.thread r.statement (marks_settled S marks_of (actor c) r.statement) later ≡ step S (state_of m memory) c
       state-is = stepped S m memory c r.thread r.statement later (told.thread ∙ ap (λ (o : Outcome). on_taken o (thread_by c stated acted memory) fresh) t) told.stated later-is
@@ -243,30 +238,10 @@ end_is layout S s p = ap (λ (b : Bool). cond s.ended (Code s.code) (cond (b && 
 
 -- ---- a schedule's next step
 
-module _ (S : Set) (schedule : List ℕ) (i : ℕ) (l : i < length schedule) (c : Choice) (e : c ≡ choice_of (get_or schedule i 0)) where
-  pub next-choice : choices (drop i schedule) ≡ c ∷ choices (drop (i + 1) schedule)
+module _ (S : Set) (schedule : List ℕ) (i : ℕ) (l : i < length schedule) where
+  pub next-choice : choices (drop i schedule) ≡ choice_of (get_or schedule i 0) ∷ choices (drop (i + 1) schedule)
   unfolding choices
-  next-choice = ap choices (drop-cons schedule i 0 l) ∙ rw (add-one, e)
-
-  pub follow-next : (h : Held) → follow S h i (choices (drop i schedule)) ≡ on_outcome (outcome S h c) i (follow S (advanced S h c) (i + 1) (choices (drop (i + 1) schedule)))
-  unfolding follow
-  follow-next h = ap (follow S h i) next-choice ∙ rw add-one
-
-  pub trace-next : (s : State) (w : Written) → trace S s w (choices (drop i schedule)) ≡ trace_step S s w c ++ trace S (step S s c) (written S s c) (choices (drop (i + 1) schedule))
-  unfolding trace
-  trace-next s w = ap (trace S s w) next-choice
-
-  -- the trace so far, with one step more
-  pub trace-more : (s : State) (w : Written) (bytes : List ℕ) → step_length * i + step_length ≤ length bytes →
-      take (step_length * i) bytes ++ trace S s w (choices (drop i schedule))
-      ≡ take (step_length * (i + 1)) (placed bytes (step_length * i) (trace_step S s w c)) ++ trace S (step S s c) (written S s c) (choices (drop (i + 1) schedule))
-  trace-more s w bytes h =
-      let n = length-trace_step S s w c in
-      let m : step_length * i + length (trace_step S s w c) ≡ step_length * (i + 1) = omega arith in
-      ap (λ (t : List ℕ). take (step_length * i) bytes ++ t) (trace-next s w)
-      ∙ sym (append_assoc (take (step_length * i) bytes) (trace_step S s w c) _)
-      ∙ ap (λ (t : List ℕ). t ++ trace S (step S s c) (written S s c) (choices (drop (i + 1) schedule)))
-      (sym (take-placed bytes (step_length * i) (trace_step S s w c) (omega arith)) ∙ ap (λ (k : ℕ). take k (placed bytes (step_length * i) (trace_step S s w c))) m)
+  next-choice = ap choices (drop-cons schedule i 0 l) ∙ rw add-one
 
 -- ---- the start over a map
 

@@ -1,20 +1,19 @@
 -- A step by the acting thread alone, as `acting` makes it. This serves the code; no call's promise needs it. Assumes nothing.
-use Rattle.std.specs.Prelude.{ℕ, ◌+◌, ◌≤◌, ◌<◌, ◌≡◌, Bool, true, cond, not, ◌&&◌, ◌||◌, List, [], eqb, ltb}
+use Rattle.std.specs.Prelude.{ℕ, ◌+◌, ◌≤◌, ◌<◌, ◌≡◌, Bool, cond, not, ◌&&◌, ◌||◌, List, [], eqb, ltb, Option, Some, is_some}
 use Rattle.records.specs.Instructions.{EXIT, CHECK, instructions}
 use Rattle.records.specs.Sets.{Set, nothing}
 use Rattle.records.specs.declared.Layout.{Layout}
 use Rattle.records.specs.declared.Statement.{Statement}
 use Rattle.machine.specs.Held.{permitted_by, cells_of}
-use Rattle.machine.specs.Machine.{State, fresh, flushed, with_pc, row, next_pc, current, address, word_taken, cells_read, executed, cas_matches, actor, opened, cleared, memory_after, wrote, no_write}
+use Rattle.machine.specs.Machine.{State, fresh, flushed, with_pc, row, next_pc, current, address, word_taken, cells_read, executed, cas_matches, actor, opened, cleared, memory_after, wrote, no_write, checkpoint_of}
 use Rattle.machine.specs.Maps.{knows_all, known_after}
 use Rattle.machine.specs.declared.Choice.{Choice}
 use Rattle.machine.specs.declared.Choice.TheVariants.{Execute, Flush}
-use Rattle.machine.specs.declared.Mark.{Mark}
 use Rattle.machine.specs.declared.Outcome.{Outcome}
 use Rattle.machine.specs.declared.Outcome.TheVariants.{Taken, NotPermitted, Lacking}
 use Rattle.machine.specs.declared.Read.{Read}
 use Rattle.machine.specs.declared.Thread.{Thread}
-use Rattle.machine.specs.declared.Written.{Written}
+use Rattle.records.specs.declared.Cell.{Cell}
 use Rattle.step.specs.Step.{on_taken}
 use Rattle.step.specs.declared.acting.Stepped.{Stepped}
 
@@ -25,16 +24,16 @@ abbrev pub threads_settled : (ℕ → Thread) → ℕ → Thread → ℕ → Thr
 threads_settled threads t y u = cond (eqb u t) y (threads u)
 
 -- the marks after thread t's statement i
-abbrev pub marks_settled : Set → (ℕ → Mark) → ℕ → Statement → ℕ → Mark
+abbrev pub marks_settled : Set → (ℕ → Option ℕ) → ℕ → Statement → ℕ → Option ℕ
 marks_settled S marks t i u =
     cond (eqb i.number CHECK && eqb u t)
-    (record { on = true; checkpoint = i.argument })
+    (Some i.argument)
     (cleared S marks u)
 
 -- a step taken with statement i and registers y afterwards changes neither marks nor end
-abbrev pub quiet : (ℕ → Mark) → Statement → Thread → Bool
+abbrev pub quiet : (ℕ → Option ℕ) → Statement → Thread → Bool
 quiet marks i y =
-    not ((marks 0).on || (marks 1).on || (marks 2).on || (marks 3).on) && not y.halted
+    not (is_some (marks 0) || is_some (marks 1) || is_some (marks 2) || is_some (marks 3)) && not y.halted
     && not (eqb i.number CHECK) && not (eqb i.number EXIT)
 
 -- ---- the acting thread: its statement i, its registers x and whether it waits
@@ -45,8 +44,8 @@ abbrev pub can_step : Layout → Bool → (addresses values filled : ℕ) → Ch
 can_step layout ended addresses values filled c = ltb filled addresses && ltb filled values && ltb (actor c) layout.threads && not ended
 
 -- a thread with this mark waits
-abbrev pub waits : Set → (ℕ → Mark) → Mark → Bool
-waits S marks mark = mark.on && not (opened S marks mark.checkpoint)
+abbrev pub waits : Set → (ℕ → Option ℕ) → Option ℕ → Bool
+waits S marks mark = is_some mark && not (opened S marks (checkpoint_of mark))
 
 -- the statement executed, none in a flush
 abbrev pub statement_by : Set → Choice → Thread → Statement
@@ -59,7 +58,7 @@ thread_by (Execute t) i x memory = executed i memory x
 thread_by (Flush t) i x memory = flushed x
 
 -- the cell written
-abbrev pub written_by : Choice → Statement → Thread → (ℕ → ℕ) → Written
+abbrev pub written_by : Choice → Statement → Thread → (ℕ → ℕ) → Option Cell
 written_by (Execute t) i x memory = cond (cas_matches i x memory) (wrote (address i x memory) x.accu) no_write
 written_by (Flush t) i x memory = wrote x.adr x.val
 

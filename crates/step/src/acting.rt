@@ -10,11 +10,9 @@ ghost use Rattle.machine.specs.Maps.{knows_all, known_after};
 
 use machine::operands::Operand;
 use machine::{
-    Choice, Machine, Mark, Outcome, Read, Thread, Written, checkpoints, choices, memory, operands,
-    registers,
+    Choice, Machine, Outcome, Read, Thread, checkpoints, choices, memory, operands, registers,
 };
-use records::instructions::{CAS, CHECK, EXIT, HALT};
-use records::{Layout, Statement};
+use records::{Cell, Instruction, Layout, Statement};
 
 // What a step gave: its outcome; the statement executed, none in a flush; the acting thread's registers afterwards;
 // the filled count; what was written and read.
@@ -24,7 +22,7 @@ pub struct Stepped {
     pub statement: Statement,
     pub thread: Thread,
     pub filled: usize,
-    pub wrote: Written,
+    pub wrote: Option<Cell>,
     pub read: Read,
 }
 
@@ -33,13 +31,7 @@ fn next_pc(i: Statement, x: Thread) -> u16
     requires { PcFits i x }
     ensures { result ≡ next_pc i x }
 {
-    if Statement::INSTRUCTIONS <= i.number {
-        return x.pc;
-    }
-    if i.number == HALT {
-        return x.pc;
-    }
-    if i.number == EXIT {
+    if i.is(Instruction::Halt) | i.is(Instruction::Exit) | (Statement::INSTRUCTIONS <= i.number) {
         return x.pc;
     }
     if registers::jumps(i.number, x.accu) {
@@ -49,6 +41,7 @@ fn next_pc(i: Statement, x: Thread) -> u16
 }
 
 // The registers after a statement.
+#[inline(always)]
 fn executed(i: Statement, o: Operand, x: Thread) -> Thread
     requires { PcFits i x }
     ensures { result ≡ with_pc (next_pc i x) (row_of i.number i.argument o.address o.word x) }
@@ -58,48 +51,43 @@ fn executed(i: Statement, o: Operand, x: Thread) -> Thread
     Thread { pc, ..y }
 }
 
-// Whether each of n threads has halted, by four threads' flags. None is there after them.
-fn all_halted(n: u8, first: bool, second: bool, third: bool, fourth: bool) -> bool
-    ensures { result ≡ every n (λ t. get_or (first ∷ second ∷ third ∷ fourth ∷ []) t false) }
+// Whether each of n threads has halted. None is there after four.
+fn all_halted(n: u8, threads: [Thread; Layout::THREADS]) -> bool
+    ensures { result ≡ every n (λ t. (get_or threads t fresh).halted) }
 {
-    match n {
-        0 => true,
-        1 => first,
-        2 => first & second,
-        3 => first & second & third,
-        4 => first & second & third & fourth,
-        _ => false,
+    for t in 0..n {
+        let thread = usize::from(t);
+        if Layout::THREADS <= thread {
+            return false;
+        }
+        if !threads[thread].halted {
+            return false;
+        }
     }
+    true
 }
 
 // Whether the machine has ended after statement i, which left these threads.
 pub fn ended_after(n: u8, threads: [Thread; Layout::THREADS], i: Statement, ended: bool) -> bool
     ensures { result ≡ (ended || eqb i.number exit || every n (λ t. (get_or threads t fresh).halted)) }
 {
-    let halted = all_halted(
-        n,
-        threads[0].halted,
-        threads[1].halted,
-        threads[2].halted,
-        threads[3].halted,
-    );
-    ended | (i.number == EXIT) | halted
+    ended | i.is(Instruction::Exit) | all_halted(n, threads)
 }
 
 // Whether a taken step changes neither marks nor end: no thread is marked, and its statement i with the registers y afterwards
 // neither checks, exits nor halts.
-pub fn quiet(marks: [Mark; Layout::THREADS], i: Statement, y: Thread) -> bool
+pub fn quiet(marks: [Option<u16>; Layout::THREADS], i: Statement, y: Thread) -> bool
     ensures { result ≡ quiet_of (λ t. get_or marks t unmarked) i y }
 {
-    let marked = marks[0].on | marks[1].on | marks[2].on | marks[3].on;
-    !marked & !y.halted & (i.number != CHECK) & (i.number != EXIT)
+    let marked = marks[0].is_some() | marks[1].is_some() | marks[2].is_some() | marks[3].is_some();
+    !marked & !y.halted & !i.is(Instruction::Check) & !i.is(Instruction::Exit)
 }
 
 // The machine's code after statement i.
 pub fn code_after(i: Statement, code: u16) -> u16
     ensures { result ≡ cond (eqb i.number exit) i.argument code }
 {
-    if i.number == EXIT {
+    if i.is(Instruction::Exit) {
         return i.argument;
     }
     code
@@ -109,20 +97,16 @@ pub fn code_after(i: Statement, code: u16) -> u16
 fn marks_settled(
     set: &[u8],
     layout: Layout,
-    marks: [Mark; Layout::THREADS],
+    marks: [Option<u16>; Layout::THREADS],
     t: u8,
     i: Statement,
-) -> [Mark; Layout::THREADS]
+) -> [Option<u16>; Layout::THREADS]
     requires { t < most_threads }
     ensures { (λ u. get_or result u unmarked) ≡ marks_settled (set_by set.now layout) (λ v. get_or marks v unmarked) t i }
 {
     let mut after = checkpoints::clear(set, layout, marks);
-    if i.number == CHECK {
-        after[t as usize] = Mark {
-            on: true,
-            checkpoint: i.argument,
-        };
-        return after;
+    if i.is(Instruction::Check) {
+        after[usize::from(t)] = Some(i.argument);
     }
     after
 }
@@ -131,10 +115,10 @@ fn marks_settled(
 pub fn marks_after(
     set: &[u8],
     layout: Layout,
-    marks: [Mark; Layout::THREADS],
+    marks: [Option<u16>; Layout::THREADS],
     t: u8,
     i: Statement,
-) -> [Mark; Layout::THREADS]
+) -> [Option<u16>; Layout::THREADS]
     ensures { (λ u. get_or result u unmarked) ≡ cond (ltb t most_threads) (marks_settled (set_by set.now layout) (λ v. get_or marks v unmarked) t i) (λ v. get_or marks v unmarked) }
 {
     if t < Machine::THREADS {
@@ -160,39 +144,37 @@ fn put(addresses: &mut [u16], values: &mut [u16], filled: usize, a: u16, v: u16)
 }
 
 // Writes what a step writes, if it writes, and gives the filled count.
-fn write(addresses: &mut [u16], values: &mut [u16], filled: usize, w: Written) -> usize
+fn write(addresses: &mut [u16], values: &mut [u16], filled: usize, w: Option<Cell>) -> usize
     requires { (filled < length addresses.old) × (filled < length values.old) }
     ensures { (memory_of addresses.new values.new result ≡ memory_after w (memory_of addresses.old values.old filled))
         × (known_of addresses.new result ≡ known_after w (known_of addresses.old filled))
         × (result ≤ filled + 1) }
 {
-    if w.done {
-        return put(addresses, values, filled, w.address, w.value);
+    match w {
+        Some(cell) => put(addresses, values, filled, cell.address, cell.value),
+        None => filled,
     }
-    filled
 }
 
 // Whether a statement is a CAS whose cell equals mem.
 fn matches(i: Statement, o: Operand, x: Thread) -> bool
     ensures { result ≡ (eqb i.number cas && eqb o.word x.mem) }
 {
-    if i.number == CAS {
-        return o.word == x.mem;
-    }
-    false
+    i.is(Instruction::Cas) && o.word == x.mem
 }
 
 // What the acting thread's choice does: whether the cells it reads are known, the thread's registers afterwards,
-// and the cells written and read.
+// and the cells written and read. No option: the cells read are told also where one of them is not known.
 #[derive(Clone, Copy)]
 pub struct Effect {
     pub known: bool,
     pub thread: Thread,
-    pub wrote: Written,
+    pub wrote: Option<Cell>,
     pub read: Read,
 }
 
 // The registers after a choice.
+#[inline(always)]
 fn acted(x: Thread, choice: Choice, i: Statement, o: Operand) -> Thread
     requires { PcFits i x }
     ensures { result ≡ thread_from choice i o.address o.word x }
@@ -204,6 +186,7 @@ fn acted(x: Thread, choice: Choice, i: Statement, o: Operand) -> Thread
 }
 
 // Updates the acting thread's registers: to those after the machine's step, in every state where it has these registers and takes this operand.
+#[inline(always)]
 fn update(x: &mut Thread, choice: Choice, i: Statement, o: Operand)
     requires { PcFits i x.old }
     ensures { (S : Set) (s : State) → x.old ≡ s.threads (actor choice) → Operands S s choice i o.address o.word → x.new ≡ acted_of S s choice }
@@ -212,6 +195,7 @@ fn update(x: &mut Thread, choice: Choice, i: Statement, o: Operand)
 }
 
 // A copy of the acting thread's registers, lent to `update`: a thread is not lent out of the array of a machine.
+#[inline(always)]
 fn updated(x: Thread, choice: Choice, i: Statement, o: Operand) -> Thread
     requires { PcFits i x }
     ensures { (S : Set) (s : State) → x ≡ s.threads (actor choice) → Operands S s choice i o.address o.word → result ≡ acted_of S s choice }
@@ -222,6 +206,7 @@ fn updated(x: Thread, choice: Choice, i: Statement, o: Operand) -> Thread
 }
 
 // What thread t's executing of statement i does.
+#[inline(always)]
 fn executing(t: u8, i: Statement, x: Thread, addresses: &[u16], values: &[u16]) -> Effect
     requires { PcFits i x }
     ensures { (result.known ≡ knows_all (known_in addresses.now) (cells_read i x (memory_in addresses.now values.now)))
@@ -232,18 +217,11 @@ fn executing(t: u8, i: Statement, x: Thread, addresses: &[u16], values: &[u16]) 
     let o = operands::operands(i, x, addresses, values);
     let thread = updated(x, Choice::Execute(t), i, o);
     let read = o.read;
-    let mut wrote = Written {
-        done: false,
-        address: 0,
-        value: 0,
+    let cell = Cell {
+        address: o.address,
+        value: x.accu,
     };
-    if matches(i, o, x) {
-        wrote = Written {
-            done: true,
-            address: o.address,
-            value: x.accu,
-        };
-    }
+    let wrote = matches(i, o, x).then_some(cell);
     Effect {
         known: o.known,
         thread,
@@ -253,6 +231,7 @@ fn executing(t: u8, i: Statement, x: Thread, addresses: &[u16], values: &[u16]) 
 }
 
 // What thread t's flushing does; it takes nothing.
+#[inline(always)]
 fn flushing(t: u8, i: Statement, x: Thread) -> Effect
     requires { PcFits i x }
     ensures { (result.known ≡ true) × (result.thread ≡ flushed x) × (result.wrote ≡ wrote_of x.adr x.val) × (result.read ≡ no_read) }
@@ -260,11 +239,10 @@ fn flushing(t: u8, i: Statement, x: Thread) -> Effect
     let o = operands::none();
     let thread = updated(x, Choice::Flush(t), i, o);
     let read = o.read;
-    let wrote = Written {
-        done: true,
+    let wrote = Some(Cell {
         address: x.adr,
         value: x.val,
-    };
+    });
     Effect {
         known: o.known,
         thread,
@@ -274,6 +252,7 @@ fn flushing(t: u8, i: Statement, x: Thread) -> Effect
 }
 
 // What a choice does.
+#[inline(always)]
 fn effect_of(choice: Choice, i: Statement, x: Thread, addresses: &[u16], values: &[u16]) -> Effect
     requires { PcFits i x }
     ensures { (result.known ≡ knows_all (known_in addresses.now) (reads_by choice i x (memory_in addresses.now values.now)))
@@ -306,17 +285,12 @@ fn not_taken(outcome: Outcome, statement: Statement, filled: usize, read: Read) 
     ensures { result ≡ not_taken outcome statement filled read }
 {
     let thread = Thread::fresh();
-    let wrote = Written {
-        done: false,
-        address: 0,
-        value: 0,
-    };
     Stepped {
         outcome,
         statement,
         thread,
         filled,
-        wrote,
+        wrote: None,
         read,
     }
 }
@@ -326,21 +300,21 @@ fn not_permitted(statement: Statement, filled: usize) -> Stepped
     ensures { result ≡ not_taken Outcome.NotPermitted statement filled no_read }
 {
     let read = Read {
-        argument: false,
-        first: 0,
-        word: false,
-        second: 0,
+        argument: None,
+        word: None,
     };
     not_taken(Outcome::NotPermitted, statement, filled, read)
 }
 
 // One step of the acting thread over a sparse memory: x are its registers, mark its mark. Where it is not taken the memory is as it was.
 // The caller puts what it gives into its machine, so that a step copies no machine.
+// It and what it calls are inlined into each of its callers, so that registers stay in registers: 64 steps took 1.2 times as long without.
+#[inline(always)]
 pub fn advance(
     set: &[u8],
     layout: Layout,
-    marks: [Mark; Layout::THREADS],
-    mark: Mark,
+    marks: [Option<u16>; Layout::THREADS],
+    mark: Option<u16>,
     ended: bool,
     x: Thread,
     addresses: &mut [u16],

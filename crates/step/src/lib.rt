@@ -2,6 +2,7 @@
 #![tactic(auto)]
 
 mod acting;
+mod inputs;
 mod walks;
 
 ghost use Rattle.std.specs.Prelude.{◌≡◌, true, false, ℕ, length};
@@ -12,11 +13,12 @@ ghost use Rattle.machine.specs.Machine.{start, no_write};
 ghost use Rattle.machine.specs.Maps.{begin};
 ghost use Rattle.machine.specs.Runs.{choices};
 ghost use Rattle.machine.specs.Traces.{trace as trace_of};
-ghost use Rattle.step.specs.Runs.{followed, retraced, lacked, Begins};
+ghost use Rattle.step.specs.Runs.{followed, retraced, lacked, refused_by, answered, Begins, Lacks};
 ghost use Rattle.step.specs.Step.{has_room, on_taken, TakesStep};
 
-use machine::{Choice, Machine, Outcome, RunAnswer};
-use records::Layout;
+use inputs::{Schedule, Trace};
+use machine::{Choice, Machine, Outcome, Run};
+use records::{Layout, Refusal, Refused};
 
 // A step's outcome, the machine afterwards and the filled count of its sparse memory.
 #[derive(Clone, Copy)]
@@ -93,28 +95,51 @@ pub fn take(
     }
 }
 
-// What a run over a map gives: its answer, and the cell that it lacks where 14 refuses it.
-#[derive(Clone, Copy)]
-pub struct Walk {
-    pub answer: RunAnswer,
-    pub lacking: u16,
+// What stops a run: a refusal, or a step that reads a cell that is not known, which is refused with 14.
+#[derive(Clone, Copy, Debug, PartialEq, Eq)]
+pub enum Stopped {
+    Refused(Refused),
+    Lacking { step: u32, cell: u16 },
+}
+
+impl From<Stopped> for Refused {
+    ghost from_gives = { λ stopped refused. refused ≡ refused_by stopped };
+
+    fn from(stopped: Stopped) -> Self {
+        match stopped {
+            Stopped::Refused(refused) => refused,
+            Stopped::Lacking { step, .. } => Refused {
+                refusal: Refusal::LacksCell,
+                place: step,
+            },
+        }
+    }
 }
 
 // Runs a schedule over a map, and puts its trace into the lent bytes; 17 past the limits of a run or of those bytes.
-pub fn follow(set: &[u8], layout: Layout, map: &[u8], schedule: &[u8], trace: &mut [u8]) -> Walk
-    ensures { (result.answer ≡ followed (set_by set.now layout) map.now schedule.now (length trace.old))
-        × ((place : ℕ) → result.answer ≡ RunAnswer.Refused 14 place → result.lacking ≡ lacked (set_by set.now layout) (begin map.now) (choices schedule.now))
-        × Begins result.answer (trace_of (set_by set.now layout) (start (map_value map.now)) no_write (choices schedule.now)) trace.new }
+pub fn follow(
+    set: &[u8],
+    layout: Layout,
+    map: &[u8],
+    schedule: &[u8],
+    trace: &mut [u8],
+) -> Result<Run, Stopped>
+    ensures { (answered result ≡ followed (set_by set.now layout) map.now schedule.now (length trace.old))
+        × Lacks result (lacked (set_by set.now layout) (begin map.now) (choices schedule.now))
+        × Begins result (trace_of (set_by set.now layout) (start (map_value map.now)) no_write (choices schedule.now)) trace.new }
 {
-    walks::walk(set, layout, map, false, schedule, trace)
+    if trace.len() / Machine::STEP < schedule.len() {
+        return Err(Stopped::Refused(Refusal::Length.into()));
+    }
+    walks::walk(set, layout, map, &Schedule { bytes: schedule }, trace)
 }
 
 // Runs along a trace over a map and compares each of its whole records; 17 past the limits of a run.
-pub fn retrace(set: &[u8], layout: Layout, map: &[u8], trace: &[u8]) -> RunAnswer
+pub fn retrace(set: &[u8], layout: Layout, map: &[u8], trace: &[u8]) -> Result<Run, Refused>
     ensures { result ≡ retraced (set_by set.now layout) map.now trace.now }
 {
     // The records of its steps are compared and written nowhere.
     let mut nowhere = [0u8; 1];
-    let walk = walks::walk(set, layout, map, true, trace, &mut nowhere);
-    walk.answer
+    let run = walks::walk(set, layout, map, &Trace { bytes: trace }, &mut nowhere)?;
+    Ok(run)
 }

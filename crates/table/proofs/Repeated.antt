@@ -12,7 +12,7 @@ use Rattle.base.proofs.Bytes.{word_bytes}
 use Rattle.base.proofs.Choice.{chosen, passed, and_true, and_left, and_right}
 use Rattle.table.specs.Repeats.{moved_by, repeated, repeatable, repeated_at, last_index}
 use Rattle.table.specs.declared.Formula.{Formula}
-use Rattle.table.specs.Formulas.{long, formula_bytes, written_at, long_at, formula_at}
+use Rattle.table.specs.Formulas.{formula_bytes, written_at, long_at, formula_at}
 use Rattle.table.specs.Programs.{upto}
 use Rattle.table.proofs.Read.{written-before, read_record, read-long}
 use Rattle.table.proofs.Renamed.{renamed, Bounded, AllBounded}
@@ -65,38 +65,6 @@ moved-repeated first stride x = go (ltb 3 x.operation)
       b = moved_nowhere first x.b i;
       c = moved_nowhere first x.c i;
     }
-
--- the two bytes of a word
-word_low : (p q : ℕ) → p < 256 → p ≡ (p + 256 * q) % 256
-word_low p q h = omega arith
-
-word_high : (p q : ℕ) → p < 256 → q < 256 → q ≡ (p + 256 * q) / 256 % 256
-word_high p q h l =
-    let high : (p + 256 * q) / 256 ≡ q = omega arith in
-    sym (ap (λ (x : ℕ). x % 256) high ∙ omega arith)
-
--- the bytes of a record that repeats record n, from the four numbers of that record
-pub repeated-bytes : (first stride : ℕ) (bytes : List ℕ) (n head by a b c : ℕ) →
-    ((rest : List ℕ) → long head rest ≡ get_or bytes (16 * n) 0 ∷ get_or bytes (16 * n + 1) 0 ∷ get_or bytes (16 * n + 2) 0 ∷ get_or bytes (16 * n + 3) 0 ∷ rest) →
-    by ≡ cond (ltb 3 (head % 256)) stride 0 → a ≡ moved_by first by (long_at bytes (16 * n + 4)) → b ≡ moved_by first by (long_at bytes (16 * n + 8)) →
-    c ≡ moved_by first by (long_at bytes (16 * n + 12)) → long head (long a (long b (long c []))) ≡ formula_bytes (repeated first stride (formula_at bytes n))
-unfolding formula_bytes formula_at
-repeated-bytes first stride bytes n head by a b c parts by_is a_is b_is c_is =
-    let x = formula_at bytes n in
-    let part : (k : ℕ) → get_or (long head []) k 0 ≡ get_or (get_or bytes (16 * n) 0 ∷ get_or bytes (16 * n + 1) 0 ∷ get_or bytes (16 * n + 2) 0 ∷ get_or bytes (16 * n + 3) 0 ∷ []) k 0 = λ k. ap (λ (l : List ℕ). get_or l k 0) (parts []) in
-    let distance : by ≡ cond (ltb 3 x.operation) stride 0 = by_is ∙ ap (λ (o : ℕ). cond (ltb 3 o) stride 0) (part 0) in
-    let third : head / 65536 % 256 ≡ get_or bytes (16 * n + 2) 0 = part 2 in
-    let fourth : head / 16777216 % 256 ≡ get_or bytes (16 * n + 3) 0 = part 3 in
-    let next : get_or bytes (16 * n + 2 + 1) 0 ≡ get_or bytes (16 * n + 3) 0 = ap (λ (k : ℕ). get_or bytes k 0) (omega arith) in
-    let p = get_or bytes (16 * n + 2) 0 in
-    let q = get_or bytes (16 * n + 3) 0 in
-    let low : p ≡ x.constant % 256 = word_low p q (omega arith) ∙ ap (λ (y : ℕ). (p + 256 * y) % 256) (sym next) in
-    let high : q ≡ x.constant / 256 % 256 = word_high p q (omega arith) (omega arith) ∙ ap (λ (y : ℕ). (p + 256 * y) / 256 % 256) (sym next) in
-    parts (long a (long b (long c [])))
-    ∙ ((λ i. x.operation ∷ x.sort ∷ low i ∷ high i
-    ∷ long ((a_is ∙ ap (λ (d : ℕ). moved_by first d x.a) distance) i)
-    (long ((b_is ∙ ap (λ (d : ℕ). moved_by first d x.b) distance) i) (long ((c_is ∙ ap (λ (d : ℕ). moved_by first d x.c) distance) i) [])))
-    ∙ ap formula_bytes (moved-repeated first stride x))
 
 -- ---- records that are read
 

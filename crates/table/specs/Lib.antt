@@ -4,3 +4,4 @@ pub mod Programs
 pub mod Tables
 pub mod Values
 pub mod Repeats
+pub mod Operations

@@ -1,40 +1,65 @@
 // The operations and sorts of formula records, as document 01 numbers them.
-pub const NO_SORT: u8 = 0;
+ghost use Rattle.std.specs.Prelude.{◌≡◌, ◌↔◌};
+ghost use Rattle.table.specs.Operations.{operation_number, Decodes};
 
-pub const BIT: u8 = 1;
+// What a record computes from its operands, or says of one.
+#[derive(Clone, Copy, Debug, PartialEq, Eq)]
+pub enum Operation {
+    Choice = 1,
+    First,
+    Constant,
+    Not,
+    And,
+    Or,
+    Equal,
+    If,
+    Plus,
+    Minus,
+    Times,
+    Read,
+    Write,
+    Top,
+    Constraint,
+    Goal,
+}
 
-pub const WORD: u8 = 2;
+// A byte that numbers no operation.
+#[derive(Clone, Copy, Debug, PartialEq, Eq)]
+pub struct UnknownOperation(pub u8);
 
-pub const MEMORY: u8 = 3;
+impl TryFrom<u8> for Operation {
+    type Error = UnknownOperation;
 
-pub const CHOICE: u8 = 1;
+    ghost try_from_gives = { Decodes };
 
-pub const FIRST: u8 = 2;
+    fn try_from(number: u8) -> Result<Self, UnknownOperation> {
+        match number {
+            1 => Ok(Operation::Choice),
+            2 => Ok(Operation::First),
+            3 => Ok(Operation::Constant),
+            4 => Ok(Operation::Not),
+            5 => Ok(Operation::And),
+            6 => Ok(Operation::Or),
+            7 => Ok(Operation::Equal),
+            8 => Ok(Operation::If),
+            9 => Ok(Operation::Plus),
+            10 => Ok(Operation::Minus),
+            11 => Ok(Operation::Times),
+            12 => Ok(Operation::Read),
+            13 => Ok(Operation::Write),
+            14 => Ok(Operation::Top),
+            15 => Ok(Operation::Constraint),
+            16 => Ok(Operation::Goal),
+            _ => Err(UnknownOperation(number)),
+        }
+    }
+}
 
-pub const CONSTANT: u8 = 3;
-
-pub const NOT: u8 = 4;
-
-pub const AND: u8 = 5;
-
-pub const OR: u8 = 6;
-
-pub const EQUAL: u8 = 7;
-
-pub const IF: u8 = 8;
-
-pub const PLUS: u8 = 9;
-
-pub const MINUS: u8 = 10;
-
-pub const TIMES: u8 = 11;
-
-pub const READ: u8 = 12;
-
-pub const WRITE: u8 = 13;
-
-pub const TOP: u8 = 14;
-
-pub const CONSTRAINT: u8 = 15;
-
-pub const GOAL: u8 = 16;
+// What a record's value is.
+#[derive(Clone, Copy, Debug, PartialEq, Eq)]
+pub enum Sort {
+    None,
+    Bit,
+    Word,
+    Memory,
+}

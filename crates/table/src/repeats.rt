@@ -1,40 +1,27 @@
 // Records that repeat earlier ones of the same table, with their operands moved on.
-ghost use Rattle.std.specs.Prelude.{◌≡◌, cond, List, ◌∷◌, ℕ, ◌+◌, ◌*◌, ◌≤◌, ◌<◌, ltb, length, get_or};
+ghost use Rattle.std.specs.Prelude.{◌≡◌, cond, ◌+◌, ◌*◌, ◌≤◌, ◌<◌, ltb, length};
 ghost use Rattle.base.specs.Bytes.{placed};
-ghost use Rattle.table.specs.Formulas.{long as long_bytes, long_at, formula_at, formula_bytes, formula_length};
+ghost use Rattle.table.specs.Formulas.{formula_at, formula_bytes, formula_length};
 ghost use Rattle.table.specs.Repeats.{moved_by, repeated, repeatable, repeated_at};
 
-use crate::operations::CONSTANT;
-use crate::{Formula, put_longs};
+use crate::{Formula, Operation, put, record};
+
+const CONSTANT: u8 = Operation::Constant as u8;
 
 const LAST: u64 = Formula::LAST as u64;
 
 const BYTES: u64 = Formula::BYTES as u64;
 
-// The number of four bytes, low byte first.
-fn long(a: u8, b: u8, c: u8, d: u8) -> u32
-    ensures { (result ≡ a + 256 * b + 65536 * c + 16777216 * d) × ((rest : List ℕ) → long_bytes result rest ≡ a ∷ b ∷ c ∷ d ∷ rest) }
-{
-    (a as u32) + 256 * (b as u32) + 65536 * (c as u32) + 16777216 * (d as u32)
-}
-
-// The index whose four bytes stand from index i on.
-fn long_at(bytes: &[u8], i: usize) -> u32
-    requires { i + 3 < length bytes.now }
-    ensures { (result ≡ long_at bytes.now i)
-        × ((rest : List ℕ) → long_bytes result rest ≡ get_or bytes.now i 0 ∷ get_or bytes.now (i + 1) 0 ∷ get_or bytes.now (i + 2) 0 ∷ get_or bytes.now (i + 3) 0 ∷ rest) }
-{
-    long(bytes[i], bytes[i + 1], bytes[i + 2], bytes[i + 3])
-}
-
 // Where operand x lies in the repeating record.
-fn moved(first: u32, stride: u32, x: u32) -> u64
+#[tactic(auto, unfolding(crate::specs::Repeats::moved_by))]
+fn moved(first: u32, stride: u32, x: u64) -> u64
+    requires { x < 4294967296 }
     ensures { result ≡ moved_by first stride x }
 {
-    if x < first {
-        return x as u64;
+    if x < u64::from(first) {
+        return x;
     }
-    (x as u64) + (stride as u64)
+    x + u64::from(stride)
 }
 
 // How far the operands of an operation move; the operations up to CONSTANT have none.
@@ -52,20 +39,22 @@ fn repeat_record(out: &mut [u8], from: u32, n: u32, first: u32, stride: u32)
     requires { formula_length * from + 16 ≤ length out.old }
     ensures { out.new ≡ placed out.old (formula_length * n) (formula_bytes (repeated first stride (formula_at out.old from))) }
 {
-    let i = Formula::BYTES * (from as usize);
-    let head = long_at(out, i);
-    let by = distance((head % 256) as u8, stride);
-    let a = moved(first, by, long_at(out, i + 4));
-    let b = moved(first, by, long_at(out, i + 8));
-    let c = moved(first, by, long_at(out, i + 12));
-    put_longs(out, n, head, a, b, c);
+    let formula = record(out, from);
+    let by = distance(formula.operation, stride);
+    let repeated = Formula {
+        a: moved(first, by, formula.a),
+        b: moved(first, by, formula.b),
+        c: moved(first, by, formula.c),
+        ..formula
+    };
+    put(out, n, repeated);
 }
 
 // Whether the records to repeat are all written earlier, and there is room.
 fn can_repeat(size: usize, at: u32, count: u32, stride: u32) -> bool
     ensures { result ≡ repeatable size at count stride }
 {
-    let end = (at as u64) + (count as u64);
+    let end = u64::from(at) + u64::from(count);
     (count <= stride) & (stride <= at) & (end <= LAST) & (BYTES * end <= (size as u64))
 }
 
@@ -76,9 +65,7 @@ pub fn repeat(out: &mut [u8], at: u32, count: u32, first: u32, stride: u32)
     if !can_repeat(out.len(), at, count, stride) {
         return;
     }
-    let mut j: u32 = 0;
-    while j < count {
+    for j in 0..count {
         repeat_record(out, at - stride + j, at + j, first, stride);
-        j += 1;
     }
 }

@@ -1,6 +1,6 @@
 -- Laws of the threads and cells that the lines still to come leave. Assumes nothing.
 use Prim.Native.Nat.{ℕ, ◌+◌, ◌≤◌, ◌<◌}
-use mathlib.Core.Path.{◌≡◌, refl, ap, ◌∙◌, subst}
+use mathlib.Core.Path.{◌≡◌, refl, ◌∙◌, subst}
 use mathlib.Core.List.{List, [], ◌∷◌}
 use mathlib.Core.Bool.{Bool, true, false, cond}
 use native.Mathlib.Omega.{arith}
@@ -11,9 +11,11 @@ use borrow.Author.Tests.{eq-eqb, ne_eqb}
 use Rattle.base.proofs.Choice.{chosen, passed, cond_both}
 use Rattle.text_lines.specs.Lines.{is_dot, statement_line, map_line}
 use Rattle.text_lines.specs.declared.Stated.{Stated}
-use Rattle.text_lines.specs.declared.Cell.{Cell}
+use Rattle.std.specs.Prelude.{Option, None, Some, Result, Ok, Err}
+use Rattle.records.specs.declared.Cell.{Cell}
+use Rattle.records.specs.declared.refusals.Refusal.{Refusal}
 use Rattle.text.proofs.Inserted.{length_inserted}
-use Rattle.text.specs.Sections.{Threads, dots, is_good, halt, added, is_complete, gained, closed, line_added, threads_from, inserted, cell_added, cells_from}
+use Rattle.text.specs.Sections.{Threads, dots, held_added, held_inserted, halt, added, is_complete, gained, closed, line_added, threads_from, cell_added, cells_from}
 
 -- ---- threads
 
@@ -46,13 +48,14 @@ grows-closed T = go (is_complete T) refl
     go true e = rw (chosen T (added halt T) e) (ends T (stays T))
     go false e = rw (passed T (added halt T) e) (ends (added halt T) (grows-added halt T))
 
+grows_held : (r : Result (Option Stated) Refusal) (T : Threads) → Grows 0 T (held_added r T)
+grows_held (Ok (Some x)) T = grows-added x T
+grows_held (Ok None) T = stays T
+grows_held (Err refusal) T = stays T
+
 grows-line : (l : List ℕ) (T : Threads) → Grows 0 T (line_added l T)
 unfolding line_added
-grows-line l T = go (is_good (statement_line l).form) refl
-  where
-    go : (b : Bool) → is_good (statement_line l).form ≡ b → Grows 0 T (cond (is_good (statement_line l).form) (added (statement_line l) T) T)
-    go true e = rw (chosen (added (statement_line l) T) T e) (grows-added (statement_line l) T)
-    go false e = rw (passed (added (statement_line l) T) T e) (stays T)
+grows-line l T = grows_held (statement_line l) T
 
 grows_then : (m n : ℕ) (T U W : Threads) → Grows m T U → Grows n U W → Grows (m + n) T W
 grows_then m n T U W g h = record {
@@ -87,13 +90,14 @@ grows_from T (l ∷ ls) = grows_then (cond (is_dot l) 1 0) (dots ls) T (turned l
 
 -- ---- cells
 
+length_held : (r : Result (Option Cell) Refusal) (ds : List Cell) → length ds ≤ length (held_inserted r ds)
+length_held (Ok (Some c)) ds = omega (arith, length_inserted c ds)
+length_held (Ok None) ds = omega arith
+length_held (Err refusal) ds = omega arith
+
 length-added : (l : List ℕ) (ds : List Cell) → length ds ≤ length (cell_added l ds)
 unfolding cell_added
-length-added l ds = go (is_good (map_line l).form) refl
-  where
-    go : (b : Bool) → is_good (map_line l).form ≡ b → length ds ≤ length (cond (is_good (map_line l).form) (inserted (map_line l) ds) ds)
-    go true e = let k = ap length (chosen (inserted (map_line l) ds) ds e) ∙ length_inserted (map_line l) ds in omega (arith, k)
-    go false e = let k = ap length (passed (inserted (map_line l) ds) ds e) in omega (arith, k)
+length-added l ds = length_held (map_line l) ds
 
 pub length_from : (ds : List Cell) (ls : List (List ℕ)) → length ds ≤ length (cells_from ds ls)
 unfolding cells_from

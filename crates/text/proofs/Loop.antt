@@ -1,5 +1,5 @@
 -- What holds where a line starts: what is kept, and the lines still to come, give the whole text. Assumes nothing.
-use Prim.Native.Nat.{ℕ, suc, ◌+◌, ◌-◌, ◌*◌, ◌≤◌, ◌<◌, min}
+use Prim.Native.Nat.{ℕ, suc, ◌+◌, ◌*◌, ◌≤◌, ◌<◌, min}
 use mathlib.Core.Path.{◌≡◌, refl, ap, ap₂, sym, ◌∙◌, subst}
 use mathlib.Core.List.{List, [], ◌∷◌}
 use mathlib.Core.Bool.{Bool, true, false, cond, not, ◌&&◌, ◌||◌}
@@ -7,32 +7,37 @@ use native.Mathlib.Omega.{arith}
 use native.Mathlib.Nat.{min-eq_left, min-eq_right}
 use native.Mathlib.Decide.{ℕ_discrete, dec_lt}
 use lib.Dec.{eqb, ltb, leb}
-use lib.ListN.{length, get_or, take, drop, replicate, length-replicate, get_or-replicate, get_or-eq_default}
+use lib.ListN.{length, get_or, take, replicate, length-replicate, get_or-replicate, get_or-eq_default}
 use lib.Seq.{length-take-le}
 use borrow.Author.Tests.{eq-eqb, ne_eqb, eqb-true, lt-ltb, le-ltb, lt-leb, le-leb, leb-true}
 use Rattle.base.specs.Below.{every}
 use Rattle.base.proofs.Below.{every-not, every-all}
 use Rattle.base.proofs.Choice.{chosen, passed, and_true, and_false, and_left, and_right, and_right_false, clash}
-use Rattle.text_lines.specs.Lines.{lines, is_dot, statement_line, map_line}
-use Rattle.text_lines.specs.declared.Cell.{Cell}
-use Rattle.text.specs.Answers.{line_refusal, refusal_in, in_lines, threads_fit, statements_fit}
+use Rattle.text_lines.specs.Characters.{is_in_line}
+use Rattle.text_lines.specs.Lines.{lines, extended, is_dot, statement_line, map_line}
+use Rattle.records.specs.declared.Cell.{Cell}
+use Rattle.text.specs.Answers.{refusal_in, refused_or, in_lines, threads_fit, statements_fit}
 use Rattle.text_drafts.specs.Blocks.{block_at, draft_length}
 use Rattle.text.specs.Drafts.{drafted, threads_in, cells_of}
-use Rattle.text.specs.Readings.{threads_kept, cells_kept, Sound, Takes, ReadsLines, threads_after, cells_after, misfits}
-use Rattle.text.specs.Sections.{Threads, no_threads, halt, dots, is_good, line_added, closed, threads_from, threads, inserted, cell_added, cells_from, cells}
-use Rattle.text.specs.declared.ReadAnswer.{ReadAnswer}
-use Rattle.text.specs.declared.ReadAnswer.TheVariants.{Refused}
+use Rattle.text.specs.Readings.{threads_kept, cells_kept, Sound, line_refusal, Takes, Reads, threads_after, cells_after, misfits}
+use Rattle.text.specs.Sections.{Threads, no_threads, halt, dots, holds, held_inserted, line_added, closed, threads_from, threads, cell_added, cells_from, cells}
+use Rattle.std.specs.Prelude.{Option, None, Some, Result, Ok, Err}
+use Rattle.std.specs.List.{count_by}
+use Rattle.std.proofs.lemmas.Grind.{common_steps}
+use Rattle.std.proofs.lemmas.List.Sums.{sum_by-cons}
+use Rattle.std.specs.Result.{result_err}
+use Rattle.records.specs.declared.refusals.Refusal.{Refusal}
+use Rattle.records.specs.declared.refusals.Refused.{Refused}
+use Rattle.text.specs.declared.Counts.{Counts}
 use Rattle.text.specs.declared.Reading.{Reading}
 use Rattle.text.proofs.Carried.{cells-length}
 use Rattle.text.proofs.Final.{turned, Grows, grows-turned, grows_from, length_from}
 use Rattle.text.proofs.Inserted.{length_inserted}
-use Rattle.text_reader.specs.Readers.{line_at, lines_from}
-use Rattle.text_reader.specs.declared.Line.{Line}
-use Rattle.text_reader.proofs.Pieces.{lines_next}
 
 -- the lines `rest` are still to come
 pub record At (text : List ℕ) (r : Reading) (draft keys : List ℕ) (rest : List (List ℕ)) : Type 0 where
-  pub passed : (next : ReadAnswer) → in_lines 1 (lines text) next ≡ in_lines (r.line + 1) rest next
+  pub passed : (next : Result Counts Refused) → in_lines 1 (lines text) next ≡ in_lines (r.line + 1) rest next
+  pub counted : length (lines text) ≡ r.line + length rest
   pub ended : dots (lines text) ≡ r.ended + dots rest
   pub sound : Sound r draft
   pub kept : r.fits ≡ true → threads (lines text) ≡ threads_from (threads_kept r draft) rest
@@ -56,13 +61,13 @@ module _ (l : List ℕ) (ls : List (List ℕ)) where
   unfolding dots
   left-some dot = let e = ap (λ (b : Bool). cond b 1 0 + dots ls) dot in ne_eqb (cond (is_dot l) 1 0 + dots ls) 0 (omega (arith, e))
 
-  pub refusal_is : cond (is_dot l) 0 (line_refusal (cond (eqb (dots (l ∷ ls)) 0) (map_line l).form (statement_line l).form)) ≡ refusal_in l ls
+  pub refusal_is : line_refusal l (dots (l ∷ ls)) ≡ refusal_in l ls
   unfolding refusal_in
   refusal_is = go (is_dot l) refl
     where
-      go : (b : Bool) → is_dot l ≡ b → cond (is_dot l) 0 (line_refusal (cond (eqb (dots (l ∷ ls)) 0) (map_line l).form (statement_line l).form)) ≡ cond (is_dot l) 0 (line_refusal (cond (eqb (dots ls) 0) (map_line l).form (statement_line l).form))
+      go : (b : Bool) → is_dot l ≡ b → line_refusal l (dots (l ∷ ls)) ≡ cond (is_dot l) None (cond (eqb (dots ls) 0) (result_err (map_line l)) (result_err (statement_line l)))
       go true e = chosen _ _ e ∙ sym (chosen _ _ e)
-      go false e = ap (λ (n : ℕ). cond (is_dot l) 0 (line_refusal (cond (eqb n 0) (map_line l).form (statement_line l).form))) (left_is e)
+      go false e = ap (λ (n : ℕ). cond (is_dot l) None (cond (eqb n 0) (result_err (map_line l)) (result_err (statement_line l)))) (left_is e)
 
   threads-is : (T : Threads) → threads_after l (dots (l ∷ ls)) T ≡ turned l ls T
   threads-is T = go (is_dot l) refl
@@ -77,6 +82,12 @@ module _ (l : List ℕ) (ls : List (List ℕ)) where
       go : (b : Bool) → is_dot l ≡ b → cells_after l (dots (l ∷ ls)) ds ≡ cond (eqb (dots (l ∷ ls)) 0) (cell_added l ds) ds
       go true e = chosen _ _ e ∙ sym (passed _ _ (left-some e))
       go false e = passed _ _ e
+
+-- a line of the map that holds a cell adds one
+held-more : (r : Result (Option Cell) Refusal) (ds : List Cell) → holds r ≡ true → length (held_inserted r ds) ≡ suc (length ds)
+held-more (Ok (Some c)) ds e = length_inserted c ds
+held-more (Ok None) ds e = clash e refl
+held-more (Err refusal) ds e = clash e refl
 
 -- a count that does not fit makes the test of the threads fail
 unfit : (dot : Bool) (n : ℕ) → misfits dot n ≡ true → (dot ≡ false → 32 < n) × ((ltb 0 n && leb n 32) ≡ false)
@@ -112,26 +123,22 @@ ceases l ls T some bad up = go (is_dot l) refl
         (omega (arith, g.more, here, some e))
         (and_right_false (ltb 0 ((threads_from (turned l ls T) ls).count T.ended)) (lt-leb ((threads_from (turned l ls T) ls).count T.ended) 32 (omega (arith, big, more))))
 
-module _ (text : List ℕ) (r : Reading) (draft keys : List ℕ) (l : List ℕ) (ls : List (List ℕ)) (at : At text r draft keys (l ∷ ls))
-    (r' : Reading) (draft' keys' : List ℕ) (took : Takes l (dots (l ∷ ls)) r draft keys r' draft' keys') where
-  refusal-here : r'.refusal ≡ refusal_in l ls
-  refusal-here = took.refusal ∙ refusal_is l ls
-
+module _ (text : List ℕ) (r : Reading) (draft keys : List ℕ) (l : List ℕ) (ls : List (List ℕ)) (at : At text r draft keys (l ∷ ls)) where
   -- the line is refused
-  pub refused-here : (r'.refusal ≡ 0 → ⊥) → (next : ReadAnswer) → in_lines 1 (lines text) next ≡ Refused r'.refusal r'.line
+  pub refused-here : (refusal : Refusal) → line_refusal l (dots (l ∷ ls)) ≡ Some refusal → (next : Result Counts Refused) →
+      in_lines 1 (lines text) next ≡ Err (record { refusal = refusal; place = r.line + 1 })
   unfolding in_lines
-  refused-here f next =
+  refused-here refusal e next =
       at.passed next
-      ∙ passed _ _ (ne_eqb (refusal_in l ls) 0 (λ e. f (refusal-here ∙ e)))
-      ∙ ap₂ Refused (sym refusal-here) (sym took.line)
+      ∙ ap (λ (o : Option Refusal). refused_or o (r.line + 1) (in_lines (suc (r.line + 1)) ls next)) (sym (refusal_is l ls) ∙ e)
 
   -- it is not
-  module _ (good : r'.refusal ≡ 0) where
-    next-passed : (next : ReadAnswer) → in_lines 1 (lines text) next ≡ in_lines (r'.line + 1) ls next
+  module _ (r' : Reading) (draft' keys' : List ℕ) (took : Takes l (dots (l ∷ ls)) r draft keys r' draft' keys') where
+    next-passed : (next : Result Counts Refused) → in_lines 1 (lines text) next ≡ in_lines (r'.line + 1) ls next
     unfolding in_lines
     next-passed next =
         at.passed next
-        ∙ chosen _ _ (eq-eqb (refusal_in l ls) 0 (sym refusal-here ∙ good))
+        ∙ ap (λ (o : Option Refusal). refused_or o (r.line + 1) (in_lines (suc (r.line + 1)) ls next)) (sym (refusal_is l ls) ∙ took.good)
         ∙ ap (λ (n : ℕ). in_lines n ls next) (let e : suc (r.line + 1) ≡ r'.line + 1 = omega (arith, took.line) in e)
 
     next-ended : dots (lines text) ≡ r'.ended + dots ls
@@ -194,17 +201,17 @@ module _ (text : List ℕ) (r : Reading) (draft keys : List ℕ) (l : List ℕ) 
         go false d k g here = let none = passed {A = ℕ} 1 0 d in absurd (omega (arith, took.ended, none, h, k))
 
     -- cells
-    counted : r'.cells ≡ cond (not (is_dot l) && eqb (dots (l ∷ ls)) 0 && is_good (map_line l).form) (min (r.cells + 1) 129) r.cells
+    counted : r'.cells ≡ cond (not (is_dot l) && eqb (dots (l ∷ ls)) 0 && holds (map_line l)) (min (r.cells + 1) 129) r.cells
     counted = took.number at.most at.room
 
     -- the cells before the line were few, where those after it are; where they are not, the line brought one too many
     more-cells : (r'.cells ≤ 129) × (r'.cells ≤ 128 → r.cells ≤ 128)
-        × (r.cells ≤ 128 → 128 < r'.cells → (r.cells ≡ 128) × ((not (is_dot l) && eqb (dots (l ∷ ls)) 0 && is_good (map_line l).form) ≡ true))
-    more-cells = go (not (is_dot l) && eqb (dots (l ∷ ls)) 0 && is_good (map_line l).form) refl
+        × (r.cells ≤ 128 → 128 < r'.cells → (r.cells ≡ 128) × ((not (is_dot l) && eqb (dots (l ∷ ls)) 0 && holds (map_line l)) ≡ true))
+    more-cells = go (not (is_dot l) && eqb (dots (l ∷ ls)) 0 && holds (map_line l)) refl
       where
-        go : (b : Bool) → (not (is_dot l) && eqb (dots (l ∷ ls)) 0 && is_good (map_line l).form) ≡ b →
+        go : (b : Bool) → (not (is_dot l) && eqb (dots (l ∷ ls)) 0 && holds (map_line l)) ≡ b →
             (r'.cells ≤ 129) × (r'.cells ≤ 128 → r.cells ≤ 128)
-            × (r.cells ≤ 128 → 128 < r'.cells → (r.cells ≡ 128) × ((not (is_dot l) && eqb (dots (l ∷ ls)) 0 && is_good (map_line l).form) ≡ true))
+            × (r.cells ≤ 128 → 128 < r'.cells → (r.cells ≡ 128) × ((not (is_dot l) && eqb (dots (l ∷ ls)) 0 && holds (map_line l)) ≡ true))
         go true e =
             let n : r'.cells ≡ min (r.cells + 1) 129 = counted ∙ chosen _ _ e in
             elim (dec_lt r.cells 128) [
@@ -231,18 +238,20 @@ module _ (text : List ℕ) (r : Reading) (draft keys : List ℕ) (l : List ℕ) 
       | no k ↦
           let few : r.cells ≤ 128 = omega arith in
           let full = more-cells.2 few h in
-          let two = and_left (not (is_dot l) && eqb (dots (l ∷ ls)) 0) (is_good (map_line l).form) full.1 in
+          let two = and_left (not (is_dot l) && eqb (dots (l ∷ ls)) 0) (holds (map_line l)) full.1 in
           let ds = cells_kept r keys in
           let here : length ds ≡ 128 = cells-length (take r.cells keys) ∙ length-take-le r.cells keys (omega (arith, at.room)) ∙ full.0 in
           let e = at.few few ∙ cells-turned ds
-          ∙ ap (λ (es : List Cell). cells_from es ls) (chosen _ _ (and_right (not (is_dot l)) (eqb (dots (l ∷ ls)) 0) two) ∙ chosen _ _ (and_right (not (is_dot l) && eqb (dots (l ∷ ls)) 0) (is_good (map_line l).form) full.1)) in
-          let n : length (cells (lines text)) ≡ length (cells_from (inserted (map_line l) ds) ls) = ap length e in
-          omega (arith, n, length_from (inserted (map_line l) ds) ls, length_inserted (map_line l) ds, here)
+          ∙ ap (λ (es : List Cell). cells_from es ls) (chosen _ _ (and_right (not (is_dot l)) (eqb (dots (l ∷ ls)) 0) two)) in
+          let n : length (cells (lines text)) ≡ length (cells_from (held_inserted (map_line l) ds) ls) = ap length e in
+          let more = held-more (map_line l) ds (and_right (not (is_dot l) && eqb (dots (l ∷ ls)) 0) (holds (map_line l)) full.1) in
+          omega (arith, n, length_from (held_inserted (map_line l) ds) ls, more, here)
     ]
 
     pub next-at : At text r' draft' keys' ls
     next-at = record {
       passed = next-passed;
+      counted = omega (arith, at.counted, took.line);
       ended = next-ended;
       sound = took.sound at.sound;
       kept = next-kept;
@@ -280,6 +289,7 @@ pub begins : (text draft keys : List ℕ) (r : Reading) → r.fits ≡ (ltb 0 (d
 unfolding cells_of
 begins text draft keys r fits unended counts cells-none first d k = record {
   passed = λ next. ap (λ (n : ℕ). in_lines n (lines text) next) (let e : 1 ≡ r.line + 1 = omega (arith, first) in e);
+  counted = omega (arith, first);
   ended = omega (arith, unended);
   sound = ((λ t. let e = ap (λ (cs : List ℕ). get_or cs t 0) counts ∙ zeros t in omega (arith, e)), d);
   kept = λ f. ap (λ (T : Threads). threads_from T (lines text)) (sym (ap₂ (λ (e : ℕ) (cs : List ℕ). threads_in draft e cs) unended counts ∙ nothing-kept draft));
@@ -296,44 +306,42 @@ begins text draft keys r fits unended counts cells-none first d k = record {
     all-ended text = let e = (grows_from no_threads (lines text)).more in omega (arith, e)
 
 -- no line is refused
-pub ends : (text : List ℕ) (r : Reading) (draft keys : List ℕ) → At text r draft keys [] → r.refusal ≡ 0 → ReadsLines text r draft keys
+pub ends : (text : List ℕ) (r : Reading) (draft keys : List ℕ) → At text r draft keys [] → Reads text r draft keys
 unfolding in_lines dots threads_from cells_from statements_fit
-ends text r draft keys at good = record {
-  refused = λ f. absurd (f good);
-  passed = λ e. at.passed;
-  ended = λ e. let g = (grows_from no_threads (lines text)).more in omega (arith, g, at.ended);
+ends text r draft keys at = record {
+  passed = at.passed;
+  ended = let g = (grows_from no_threads (lines text)).more in omega (arith, g, at.ended);
   sound = at.sound;
-  kept = λ e f. at.kept f;
-  fit = λ e f. ap statements_fit (at.kept f) ∙ every-all (λ t. ltb 0 (get_or r.counts t 0) && leb (get_or r.counts t 0) 32) r.ended
+  kept = at.kept;
+  fit = λ f. ap statements_fit (at.kept f) ∙ every-all (λ t. ltb 0 (get_or r.counts t 0) && leb (get_or r.counts t 0) 32) r.ended
       (λ t h. and_true (lt-ltb 0 (get_or r.counts t 0) (at.some f t h)) (le-leb (get_or r.counts t 0) 32 (at.sound.0 t)));
-  lost = λ e. at.lost;
-  few = λ e h. (at.few h, ap length (at.few h) ∙ cells-length (take r.cells keys) ∙ length-take-le r.cells keys (omega (arith, h, at.room)));
-  many = λ e. at.many;
+  lost = at.lost;
+  few = λ h. (at.few h, ap length (at.few h) ∙ cells-length (take r.cells keys) ∙ length-take-le r.cells keys (omega (arith, h, at.room)));
+  many = at.many;
 }
 
--- a line is
-pub stops : (text : List ℕ) (r : Reading) (draft keys : List ℕ) → (r.refusal ≡ 0 → ⊥) → Sound r draft → ((next : ReadAnswer) → in_lines 1 (lines text) next ≡ Refused r.refusal r.line) → ReadsLines text r draft keys
-stops text r draft keys bad sound refused = record {
-  refused = λ f. refused;
-  passed = λ e. absurd (bad e);
-  ended = λ e. absurd (bad e);
-  sound = sound;
-  kept = λ e. absurd (bad e);
-  fit = λ e. absurd (bad e);
-  lost = λ e. absurd (bad e);
-  few = λ e. absurd (bad e);
-  many = λ e. absurd (bad e);
-}
+-- a section is still to end at each dot
+pub dots-most : (ls : List (List ℕ)) → dots ls ≤ length ls
+unfolding dots
+dots-most [] = omega arith
+dots-most (l ∷ ls) = go (is_dot l) (dots-most ls)
+  where
+    go : (b : Bool) → dots ls ≤ length ls → cond b 1 0 + dots ls ≤ suc (length ls)
+    go true h = omega arith
+    go false h = omega arith
 
--- the line at index i, which ends at e, as the first of those still to come
-pub turn : (text : List ℕ) (r : Reading) (draft keys : List ℕ) (i : ℕ) (line : Line) (left : ℕ) → i ≤ length text → line ≡ line_at text i →
-    At text r draft keys (lines_from text i) → left ≡ dots (lines text) - r.ended → (r' : Reading) (draft' keys' : List ℕ) →
-    Takes (take (line.end - i) (drop i text)) left r draft keys r' draft' keys' →
-    At text r draft keys (take (line.end - i) (drop i text) ∷ lines_from text line.next)
-    × Takes (take (line.end - i) (drop i text)) (dots (take (line.end - i) (drop i text) ∷ lines_from text line.next)) r draft keys r' draft' keys'
-turn text r draft keys i line left h end at count r' draft' keys' took =
-    let next = lines_next text i line h end in
-    let k : left ≡ dots (take (line.end - i) (drop i text) ∷ lines_from text line.next) = (let m = ap dots next in omega (arith, count, at.ended, m)) in (
-      subst (At text r draft keys) next at,
-      subst (λ (n : ℕ). Takes (take (line.end - i) (drop i text)) n r draft keys r' draft' keys') k took,
-    )
+pub dots-count : (ls : List (List ℕ)) → count_by is_dot ls ≡ dots ls
+unfolding dots
+dots-count [] = refl
+dots-count (l ∷ ls) = grind (arith, common_steps, sum_by-cons, dots-count ls)
+
+-- a text of few bytes has few lines
+pub lines-most : (s : List ℕ) → length (lines s) ≤ length s + 1
+unfolding lines
+lines-most [] = omega arith
+lines-most (b ∷ s) = go (is_in_line b) (lines s) (lines-most s)
+  where
+    go : (t : Bool) (ls : List (List ℕ)) → length ls ≤ length s + 1 → length (cond t (extended b ls) ([] ∷ ls)) ≤ suc (length s) + 1
+    go true [] h = omega arith
+    go true (l ∷ ls) h = omega arith
+    go false ls h = omega arith

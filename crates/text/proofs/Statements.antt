@@ -14,12 +14,12 @@ use Rattle.base.proofs.Bytes.{length_over}
 use Rattle.base.proofs.Choice.{chosen, passed, and_left, and_right, and_true, and_false, and_right_false, clash, cond_both}
 use Rattle.records.specs.Instructions.{instructions, is_memory, is_jump, is_bare, is_last, word_of}
 use Rattle.text_lines.specs.Characters.{is_blank, is_digit, digits, skip, only_blanks, name, past_name, past_digits, value, first, ends_with}
-use Rattle.text_lines.specs.Lines.{is_dot, is_allowed, uncommented, unlabelled, padded, is_label, no_statement, stated, numbered, bracketed, targeted, argued, after_word, worded, labelled, statement, statement_line}
-use Rattle.text_lines.specs.declared.Form.{Form}
-use Rattle.text_lines.specs.declared.Form.TheVariants.{Empty, Malformed, Large}
+use Rattle.text_lines.specs.Lines.{is_dot, is_allowed, uncommented, unlabelled, padded, is_label, held, stated, numbered, bracketed, targeted, argued, after_word, worded, labelled, statement, statement_line}
+use Rattle.std.specs.Prelude.{Option, None, Some, Result, Ok, Err}
+use Rattle.records.specs.declared.refusals.Refusal.{Refusal}
 use Rattle.text_lines.specs.declared.Stated.{Stated}
 use Rattle.text.proofs.Below.{cond_where}
-use Rattle.text.specs.Sections.{Threads, dots, is_good, halt, no_threads, added, is_complete, gained, closed, line_added, threads_from, threads}
+use Rattle.text.specs.Sections.{Threads, dots, held_added, halt, no_threads, added, is_complete, gained, closed, line_added, threads_from, threads}
 
 -- ---- a line's statement
 
@@ -33,12 +33,15 @@ pub record Sound (x : Stated) : Type 0 where
   pub label : length x.label ≡ 16
   pub target : length x.target ≡ 16
 
--- a line that is good gives a sound statement
-abbrev Reading : Stated → Type 0
-Reading x = is_good x.form ≡ true → Sound x
+-- a line that is not refused gives a sound statement, if it gives one
+abbrev Reading : Result Stated Refusal → Type 0
+Reading (Ok x) = Sound x
+Reading (Err refusal) = Unit {0}
 
-none : (form : Form) → is_good form ≡ false → Reading (no_statement form)
-none form e g = clash g e
+abbrev pub HoldsSound : Result (Option Stated) Refusal → Type 0
+HoldsSound (Ok (Some x)) = Sound x
+HoldsSound (Ok None) = Unit {0}
+HoldsSound (Err refusal) = Unit {0}
 
 length-padded : (w : List ℕ) → is_label w ≡ true → length (padded w) ≡ 16
 unfolding padded is_label
@@ -52,7 +55,7 @@ module _ (label : List ℕ) (number : ℕ) (long : length label ≡ 16) (known :
   sound-stated : (mode argument : ℕ) → mode ≤ cond (is_memory number) 1 0 → (is_bare number ≡ true → argument ≡ 0) →
       Reading (stated label number mode argument)
   unfolding stated
-  sound-stated mode argument m b = cond_where Reading (ltb 65535 argument) (λ e. none Large refl) (λ e g. record {
+  sound-stated mode argument m b = cond_where Reading (ltb 65535 argument) (λ e. tt) (λ e. record {
     number = known;
     mode = m;
     bare = b;
@@ -66,16 +69,16 @@ module _ (label : List ℕ) (number : ℕ) (long : length label ≡ 16) (known :
     sound-numbered : Reading (numbered label number s)
     unfolding numbered
     sound-numbered = cond_both Reading (ltb 0 (digits s) && only_blanks (past_digits s))
-        (sound-stated 0 (value s) (omega arith) (λ b. clash b bare)) (none Malformed refl)
+        (sound-stated 0 (value s) (omega arith) (λ b. clash b bare)) tt
 
     sound-bracketed : is_memory number ≡ true → Reading (bracketed label number s)
     unfolding bracketed
     sound-bracketed m = cond_both Reading (ltb 0 (digits s) && ends_with 93 (skip (past_digits s)))
-        (sound-stated 1 (value s) (omega (arith, chosen {A = ℕ} 1 0 m)) (λ b. clash b bare)) (none Malformed refl)
+        (sound-stated 1 (value s) (omega (arith, chosen {A = ℕ} 1 0 m)) (λ b. clash b bare)) tt
 
     sound-targeted : is_jump number ≡ true → Reading (targeted label number s)
     unfolding targeted
-    sound-targeted j = cond_where Reading (is_label (name s) && only_blanks (past_name s)) (λ e g. record {
+    sound-targeted j = cond_where Reading (is_label (name s) && only_blanks (past_name s)) (λ e. record {
       number = known;
       mode = omega arith;
       bare = λ b. refl;
@@ -83,7 +86,7 @@ module _ (label : List ℕ) (number : ℕ) (long : length label ≡ 16) (known :
       word = omega arith;
       label = long;
       target = length-padded (name s) (and_left (is_label (name s)) (only_blanks (past_name s)) e);
-    }) (λ e. none Malformed refl)
+    }) (λ e. tt)
 
   sound-argued : is_bare number ≡ false → (s : List ℕ) → Reading (argued label number s)
   unfolding argued
@@ -96,11 +99,11 @@ module _ (label : List ℕ) (number : ℕ) (long : length label ≡ 16) (known :
 sound-word : (label : List ℕ) (number : ℕ) (s : List ℕ) → length label ≡ 16 → Reading (after_word label number s)
 unfolding after_word
 sound-word label number s long = cond_where Reading (leb instructions number)
-    (λ e. none Malformed refl)
+    (λ e. tt)
     (λ e. let known = leb-false instructions number e in
     cond_where Reading (is_bare number)
-    (λ b. cond_both Reading (only_blanks s) (sound-stated label number long known 0 0 (omega arith) (λ f. refl)) (none Malformed refl))
-    (λ b. cond_both Reading (is_blank (first s)) (sound-argued label number long known b (skip s)) (none Malformed refl)))
+    (λ b. cond_both Reading (only_blanks s) (sound-stated label number long known 0 0 (omega arith) (λ f. refl)) tt)
+    (λ b. cond_both Reading (is_blank (first s)) (sound-argued label number long known b (skip s)) tt))
 
 sound-worded : (label s : List ℕ) → length label ≡ 16 → Reading (worded label s)
 unfolding worded
@@ -109,14 +112,18 @@ sound-worded label s long = sound-word label (least instructions (λ n. same (na
 sound-labelled : (s : List ℕ) → Reading (labelled s)
 unfolding labelled
 sound-labelled s = cond_both Reading (eqb (first (skip (past_name s))) 58)
-    (cond_where Reading (is_label (name s)) (λ e. sound-worded (padded (name s)) (skip (drop 1 (skip (past_name s)))) (length-padded (name s) e)) (λ e. none Malformed refl))
+    (cond_where Reading (is_label (name s)) (λ e. sound-worded (padded (name s)) (skip (drop 1 (skip (past_name s)))) (length-padded (name s) e)) (λ e. tt))
     (sound-worded unlabelled s refl)
 
-pub sound-line : (l : List ℕ) → is_good (statement_line l).form ≡ true → Sound (statement_line l)
+sound_held : (r : Result Stated Refusal) → Reading r → HoldsSound (held r)
+sound_held (Ok x) s = s
+sound_held (Err refusal) s = tt
+
+pub sound-line : (l : List ℕ) → HoldsSound (statement_line l)
 unfolding statement_line statement
-sound-line l = cond_both Reading (is_allowed l)
-    (cond_both Reading (only_blanks (uncommented l)) (none Empty refl) (sound-labelled (skip (uncommented l))))
-    (none Malformed refl)
+sound-line l = cond_both HoldsSound (is_allowed l)
+    (cond_both HoldsSound (only_blanks (uncommented l)) tt (sound_held (labelled (skip (uncommented l))) (sound-labelled (skip (uncommented l)))))
+    tt
 
 pub sound-halt : Sound halt
 sound-halt = record {
@@ -222,9 +229,14 @@ kept-closed T k =
       later = λ t h. g.later t (omega arith);
     }
 
+kept_held : (r : Result (Option Stated) Refusal) (T : Threads) → HoldsSound r → Kept T → Kept (held_added r T)
+kept_held (Ok (Some x)) T s k = kept-added x T s k
+kept_held (Ok None) T s k = k
+kept_held (Err refusal) T s k = k
+
 kept_line : (l : List ℕ) (T : Threads) → Kept T → Kept (line_added l T)
 unfolding line_added
-kept_line l T k = cond_where Kept (is_good (statement_line l).form) (λ e. kept-added (statement_line l) T (sound-line l e) k) (λ e. k)
+kept_line l T k = kept_held (statement_line l) T (sound-line l) k
 
 kept_from : (T : Threads) (ls : List (List ℕ)) → Kept T → Kept (threads_from T ls)
 unfolding threads_from

@@ -1,9 +1,8 @@
 -- What reading keeps of a text before its records are written: statements and cells read so far. This serves the code; no call's promise needs it.
 -- Assumes nothing.
-use Rattle.std.specs.Prelude.{ℕ, ◌+◌, ◌-◌, ◌*◌, ◌/◌, ◌%◌, Bool, cond, ◌&&◌, List, [], ◌∷◌, ◌++◌, ltb, leb, get_or, take, drop}
-use Rattle.text_lines.specs.declared.Form.TheVariants.{Good}
+use Rattle.std.specs.Prelude.{ℕ, ◌+◌, ◌-◌, ◌*◌, ◌/◌, ◌%◌, cond, List, [], ◌∷◌, ◌++◌, ltb, get_or, take, drop}
+use Rattle.records.specs.declared.Cell.{Cell}
 use Rattle.text_lines.specs.declared.Stated.{Stated}
-use Rattle.text_lines.specs.declared.Cell.{Cell}
 use Rattle.text_drafts.specs.Blocks.{block_at}
 use Rattle.text.specs.Sections.{Threads, halt, inserted}
 use Rattle.records.specs.Sets.{most_statements}
@@ -20,13 +19,9 @@ threads_in draft ended counts = record {
   statement = λ t p. drafted draft t (get_or counts t 0) p;
 }
 
--- no thread has more than 32 statements
-abbrev pub four_fit : List ℕ → Bool
-four_fit counts = leb (get_or counts 0 0) most_statements && leb (get_or counts 1 0) most_statements && leb (get_or counts 2 0) most_statements && leb (get_or counts 3 0) most_statements
-
 -- a cell as one number, the address above the value
 abbrev pub cell_of_key : ℕ → Cell
-cell_of_key key = record { form = Good; address = key / 65536; value = key % 65536 }
+cell_of_key key = record { address = key / 65536; value = key % 65536 }
 
 unfoldable pub cells_of : List ℕ → List Cell
 cells_of [] = []

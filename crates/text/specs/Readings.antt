@@ -1,18 +1,21 @@
 -- What reading a line does to what is kept of the lines before it. This serves the code; no call's promise needs it. Assumes nothing.
-use Rattle.std.specs.Prelude.{ℕ, ◌+◌, ◌-◌, ◌*◌, ◌≤◌, ◌<◌, min, ◌≡◌, Bool, true, false, cond, not, ◌&&◌, ◌||◌, List, [], eqb, ltb, leb, length, get_or, take}
+use Rattle.std.specs.Prelude.{ℕ, ◌+◌, ◌-◌, ◌*◌, ◌≤◌, ◌<◌, min, ◌≡◌, Bool, true, false, cond, not, ◌&&◌, ◌||◌, List, [], Option, None, Some, Result, Ok, Err, MatchResult, eqb, ltb, leb, length, get_or, take}
+use Rattle.std.specs.Result.{result_err}
 use Rattle.records.specs.Instructions.{is_last}
+use Rattle.records.specs.declared.Cell.{Cell}
+use Rattle.records.specs.declared.refusals.Refusal.{Refusal}
+use Rattle.records.specs.declared.refusals.Refusal.TheVariants.{Threads as ByThreads, Statements as ByStatements, Label as ByLabel, Checkpoints as ByCheckpoints, Map as ByMap, Room as ByRoom}
+use Rattle.records.specs.declared.refusals.Refused.{Refused}
 use Rattle.text_lines.specs.Lines.{lines, is_dot, statement_line, map_line}
 use Rattle.text_lines.specs.declared.Stated.{Stated}
-use Rattle.text_lines.specs.declared.Cell.{Cell}
-use Rattle.text.specs.Sections.{Threads, is_good, added, closed, line_added, threads, inserted, cell_added, cells}
-use Rattle.text.specs.Answers.{line_refusal, in_lines, threads_fit, statements_fit, labels_fit, checkpoints_fit, map_fits}
+use Rattle.text.specs.Sections.{Threads, holds, added, closed, line_added, threads, inserted, cell_added, cells}
+use Rattle.text.specs.Answers.{in_lines, threads_fit, statements_fit, labels_fit, checkpoints_fit, map_fits, longest_text, answer}
 use Rattle.text.specs.Answers.{refused as refused_by}
 use Rattle.text.specs.Records.{set_bytes, statements, map_bytes}
 use Rattle.records.specs.Maps.{map_accepted, set_cells, cell_length}
 use Rattle.text_drafts.specs.Blocks.{block_at, draft_length}
 use Rattle.text.specs.Drafts.{threads_in, cells_of}
-use Rattle.text.specs.declared.ReadAnswer.{ReadAnswer}
-use Rattle.text.specs.declared.ReadAnswer.TheVariants.{Read, Refused}
+use Rattle.text.specs.declared.Counts.{Counts}
 use Rattle.text.specs.declared.Reading.{Reading}
 use Rattle.records.specs.Sets.{most_threads, most_statements, record_length, most_records}
 
@@ -54,26 +57,19 @@ pub record Closes (r : Reading) (draft : List ℕ) (r' : Reading) (draft' : List
   pub sound : Sound r draft → Sound r' draft'
   pub threads : Sound r draft → Keeps r' draft' (closed (threads_kept r draft))
 
--- a thread's line that holds x
-pub record States (x : Stated) (r : Reading) (draft : List ℕ) (r' : Reading) (draft' : List ℕ) : Type 0 where
-  pub refusal : r'.refusal ≡ line_refusal x.form
-  pub fits : r'.fits ≡ cond (is_good x.form) (r.fits && ltb r.ended most_threads && ltb (open_count r) most_statements) r.fits
-  pub ended : r'.ended ≡ r.ended
-  pub cells : r'.cells ≡ r.cells
-  pub line : r'.line ≡ r.line
-  pub sound : Sound r draft → Sound r' draft'
-  pub threads : Sound r draft → Keeps r' draft' (cond (is_good x.form) (added x (threads_kept r draft)) (threads_kept r draft))
-
--- a line of the map that holds c; up to 128 cells are kept, and 129 stands for more
+-- a cell more; up to 128 are kept, and 129 stands for more
 pub record Maps (c : Cell) (r : Reading) (keys : List ℕ) (r' : Reading) (keys' : List ℕ) : Type 0 where
-  pub refusal : r'.refusal ≡ line_refusal c.form
   pub fits : r'.fits ≡ r.fits
   pub ended : r'.ended ≡ r.ended
   pub counts : r'.counts ≡ r.counts
   pub line : r'.line ≡ r.line
-  pub number : r.cells ≤ set_cells + 1 → length keys ≡ set_cells → r'.cells ≡ cond (is_good c.form) (min (r.cells + 1) (set_cells + 1)) r.cells
+  pub number : r.cells ≤ set_cells + 1 → length keys ≡ set_cells → r'.cells ≡ min (r.cells + 1) (set_cells + 1)
   pub room : length keys' ≡ length keys
-  pub cells : length keys ≡ set_cells → r'.cells ≤ set_cells → cells_kept r' keys' ≡ cond (is_good c.form) (inserted c (cells_kept r keys)) (cells_kept r keys)
+  pub cells : length keys ≡ set_cells → r'.cells ≤ set_cells → cells_kept r' keys' ≡ inserted c (cells_kept r keys)
+
+-- what refuses line l
+abbrev pub line_refusal : List ℕ → ℕ → Option Refusal
+line_refusal l left = cond (is_dot l) None (cond (eqb left 0) (result_err (map_line l)) (result_err (statement_line l)))
 
 -- the threads after line l, and the cells; `left` counts the dots from l on
 abbrev pub threads_after : List ℕ → ℕ → Threads → Threads
@@ -86,9 +82,9 @@ cells_after l left ds = cond (is_dot l) ds (cond (eqb left 0) (cell_added l ds) 
 abbrev pub misfits : Bool → ℕ → Bool
 misfits ended n = ltb most_statements n || ended && eqb n 0
 
--- a line taken: its refusal, and what is kept after it; threads that cease to fit have a section with too many statements or too few
+-- a line taken that is not refused, and what is kept after it; threads that cease to fit have a section with too many statements or too few
 pub record Takes (l : List ℕ) (left : ℕ) (r : Reading) (draft keys : List ℕ) (r' : Reading) (draft' keys' : List ℕ) : Type 0 where
-  pub refusal : r'.refusal ≡ cond (is_dot l) 0 (line_refusal (cond (eqb left 0) (map_line l).form (statement_line l).form))
+  pub good : line_refusal l left ≡ None
   pub line : r'.line ≡ r.line + 1
   pub ended : r'.ended ≡ r.ended + cond (is_dot l) 1 0
   pub sound : Sound r draft → Sound r' draft'
@@ -97,20 +93,33 @@ pub record Takes (l : List ℕ) (left : ℕ) (r : Reading) (draft keys : List �
   pub some : r'.fits ≡ true → is_dot l ≡ true → 0 < open_count r
   pub lost : Sound r draft → r.fits ≡ true → r.ended < most_threads → r'.fits ≡ false → misfits (is_dot l) ((threads_after l left (threads_kept r draft)).count r.ended) ≡ true
   pub room : length keys' ≡ length keys
-  pub number : r.cells ≤ set_cells + 1 → length keys ≡ set_cells → r'.cells ≡ cond (not (is_dot l) && eqb left 0 && is_good (map_line l).form) (min (r.cells + 1) (set_cells + 1)) r.cells
+  pub number : r.cells ≤ set_cells + 1 → length keys ≡ set_cells → r'.cells ≡ cond (not (is_dot l) && eqb left 0 && holds (map_line l)) (min (r.cells + 1) (set_cells + 1)) r.cells
   pub cells : length keys ≡ set_cells → r'.cells ≤ set_cells → cells_kept r' keys' ≡ cells_after l left (cells_kept r keys)
 
--- the lines of a text taken: the first that is refused, or what is kept of all
-pub record ReadsLines (text : List ℕ) (r : Reading) (draft keys : List ℕ) : Type 0 where
-  pub refused : (r.refusal ≡ 0 → ⊥) → (next : ReadAnswer) → in_lines 1 (lines text) next ≡ Refused r.refusal r.line
-  pub passed : r.refusal ≡ 0 → (next : ReadAnswer) → in_lines 1 (lines text) next ≡ next
-  pub ended : r.refusal ≡ 0 → (threads (lines text)).ended ≡ r.ended
+-- a line taken, or refused
+abbrev pub TakesLine : (l : List ℕ) (left : ℕ) (r : Reading) (draft keys : List ℕ) → Result Reading Refusal → (draft' keys' : List ℕ) → Type 0
+TakesLine l left r draft keys a draft' keys' =
+    MatchResult a (λ r'. Takes l left r draft keys r' draft' keys') (λ refusal. line_refusal l left ≡ Some refusal)
+
+-- the lines of a text taken, none of which is refused
+pub record Reads (text : List ℕ) (r : Reading) (draft keys : List ℕ) : Type 0 where
+  pub passed : (next : Result Counts Refused) → in_lines 1 (lines text) next ≡ next
+  pub ended : (threads (lines text)).ended ≡ r.ended
   pub sound : Sound r draft
-  pub kept : r.refusal ≡ 0 → r.fits ≡ true → threads (lines text) ≡ threads_kept r draft
-  pub fit : r.refusal ≡ 0 → r.fits ≡ true → statements_fit (threads (lines text)) ≡ true
-  pub lost : r.refusal ≡ 0 → r.fits ≡ false → threads_fit (threads (lines text)) ≡ true → statements_fit (threads (lines text)) ≡ false
-  pub few : r.refusal ≡ 0 → r.cells ≤ set_cells → (cells (lines text) ≡ cells_kept r keys) × (length (cells (lines text)) ≡ r.cells)
-  pub many : r.refusal ≡ 0 → set_cells < r.cells → set_cells < length (cells (lines text))
+  pub kept : r.fits ≡ true → threads (lines text) ≡ threads_kept r draft
+  pub fit : r.fits ≡ true → statements_fit (threads (lines text)) ≡ true
+  pub lost : r.fits ≡ false → threads_fit (threads (lines text)) ≡ true → statements_fit (threads (lines text)) ≡ false
+  pub few : r.cells ≤ set_cells → (cells (lines text) ≡ cells_kept r keys) × (length (cells (lines text)) ≡ r.cells)
+  pub many : set_cells < r.cells → set_cells < length (cells (lines text))
+
+-- the first line that is refused, or what is kept of all
+abbrev pub ReadsLines : List ℕ → Result Reading Refused → List ℕ → List ℕ → Type 0
+ReadsLines text a draft keys = MatchResult a (λ r. Reads text r draft keys) (λ e. (next : Result Counts Refused) → in_lines 1 (lines text) next ≡ Err e)
+
+-- the same of a text that may be too long: a refusal is the answer, whatever the room
+abbrev pub ReadsText : List ℕ → Result Reading Refused → List ℕ → List ℕ → Type 0
+ReadsText text a draft keys =
+    MatchResult a (λ r. (length text ≤ longest_text) × Reads text r draft keys) (λ e. (set_room map_room : ℕ) → answer text set_room map_room ≡ Err e)
 
 -- what is kept stands for threads T
 pub record ThreadsStand (r : Reading) (draft : List ℕ) (T : Threads) : Type 0 where
@@ -125,44 +134,44 @@ pub record CellsStand (r : Reading) (keys : List ℕ) (cs : List Cell) : Type 0 
   pub many : set_cells < r.cells → set_cells < length cs
   pub accepted : map_fits cs ≡ map_accepted set_cells (map_bytes cs)
 
--- 4, 5 or 6, and 0 where none of them refuses
-abbrev pub threads_refusal : Threads → ℕ
-threads_refusal T = cond (threads_fit T) (cond (statements_fit T) (cond (labels_fit T) 0 6) 5) 4
+-- 4, 5 or 6, where one of them refuses
+abbrev pub threads_judged : Threads → Result (Unit {0}) Refusal
+threads_judged T = cond (threads_fit T) (cond (statements_fit T) (cond (labels_fit T) (Ok tt) (Err ByLabel)) (Err ByStatements)) (Err ByThreads)
 
 -- the checks of the whole text, 4 to 8
-unfoldable pub checked : Threads → List Cell → ReadAnswer
+unfoldable pub checked : Threads → List Cell → Result Counts Refused
 checked T cs =
-    cond (not (threads_fit T)) (refused_by 4)
-    (cond (not (statements_fit T)) (refused_by 5)
-    (cond (not (labels_fit T)) (refused_by 6)
-    (cond (not (checkpoints_fit (set_bytes T))) (refused_by 7)
-    (cond (not (map_fits cs)) (refused_by 8)
-    (Read (statements T) (length cs))))))
+    cond (not (threads_fit T)) (refused_by ByThreads)
+    (cond (not (statements_fit T)) (refused_by ByStatements)
+    (cond (not (labels_fit T)) (refused_by ByLabel)
+    (cond (not (checkpoints_fit (set_bytes T))) (refused_by ByCheckpoints)
+    (cond (not (map_fits cs)) (refused_by ByMap)
+    (Ok (record { statements = statements T; cells = length cs }))))))
 
 -- the records stand at the start of work memory, where the answer is not a refusal
-abbrev pub RecordsWritten : ReadAnswer → Threads → List Cell → List ℕ → List ℕ → Type 0
-RecordsWritten (Read n m) T cs set map = (take (record_length * n) set ≡ set_bytes T) × (take (cell_length * m) map ≡ map_bytes cs) × (n ≤ most_records) × (m ≤ set_cells)
-RecordsWritten (Refused number place) T cs set map = Unit {0}
+abbrev pub RecordsWritten : Result Counts Refused → Threads → List Cell → List ℕ → List ℕ → Type 0
+RecordsWritten (Ok counts) T cs set map =
+    (take (record_length * counts.statements) set ≡ set_bytes T) × (take (cell_length * counts.cells) map ≡ map_bytes cs) × (counts.statements ≤ most_records) × (counts.cells ≤ set_cells)
+RecordsWritten (Err e) T cs set map = Unit {0}
 
-pub record Judges (r : Reading) (draft keys : List ℕ) (a : ReadAnswer) (set map : List ℕ) : Type 0 where
+pub record Judges (r : Reading) (draft keys : List ℕ) (a : Result Counts Refused) (set map : List ℕ) : Type 0 where
   pub answer : (T : Threads) (cs : List Cell) → ThreadsStand r draft T → CellsStand r keys cs → a ≡ checked T cs
   pub written : (T : Threads) (cs : List Cell) → ThreadsStand r draft T → CellsStand r keys cs → RecordsWritten a T cs set map
 
 -- 11 after the other checks
-abbrev pub roomed : ℕ → ℕ → ReadAnswer → ReadAnswer
-roomed set_room map_room (Read n m) = cond (leb (record_length * n) set_room && leb (cell_length * m) map_room) (Read n m) (refused_by 11)
-roomed set_room map_room (Refused number place) = Refused number place
+abbrev pub roomed : ℕ → ℕ → Result Counts Refused → Result Counts Refused
+roomed set_room map_room (Ok counts) = cond (leb (record_length * counts.statements) set_room && leb (cell_length * counts.cells) map_room) (Ok counts) (refused_by ByRoom)
+roomed set_room map_room (Err e) = Err e
 
 -- the records that an answer counts, at the start of work memory
-abbrev pub set_part : ReadAnswer → List ℕ → List ℕ
-set_part (Read n m) bytes = take (record_length * n) bytes
-set_part (Refused number place) bytes = []
+abbrev pub set_part : Result Counts Refused → List ℕ → List ℕ
+set_part (Ok counts) bytes = take (record_length * counts.statements) bytes
+set_part (Err e) bytes = []
 
-abbrev pub map_part : ReadAnswer → List ℕ → List ℕ
-map_part (Read n m) bytes = take (cell_length * m) bytes
-map_part (Refused number place) bytes = []
+abbrev pub map_part : Result Counts Refused → List ℕ → List ℕ
+map_part (Ok counts) bytes = take (cell_length * counts.cells) bytes
+map_part (Err e) bytes = []
 
 -- at most 128 statements and 128 cells
-abbrev pub Few : ReadAnswer → Type 0
-Few (Read n m) = (n ≤ most_records) × (m ≤ set_cells)
-Few (Refused number place) = Unit {0}
+abbrev pub Few : Counts → Type 0
+Few counts = (counts.statements ≤ most_records) × (counts.cells ≤ set_cells)

@@ -2,10 +2,9 @@
 use Rattle.std.specs.Prelude.{ℕ, zero, suc, ◌+◌, Bool, cond, not, List, [], ◌∷◌, ◌++◌, length, get_or}
 use Rattle.base.specs.Below.{least}
 use Rattle.base.specs.Bytes.{word, same}
-use Rattle.text_lines.specs.Lines.{unlabelled, no_cell}
-use Rattle.text_lines.specs.declared.Form.TheVariants.{Empty}
+use Rattle.records.specs.declared.Cell.{Cell}
+use Rattle.text_lines.specs.Lines.{unlabelled}
 use Rattle.text_lines.specs.declared.Stated.{Stated}
-use Rattle.text_lines.specs.declared.Cell.{Cell}
 use Rattle.text.specs.Sections.{Threads}
 
 -- the bytes of n items, one after the other
@@ -48,7 +47,7 @@ statements T = statements_before T T.ended
 -- ---- the map
 
 abbrev pub map_cell : List Cell → ℕ → Cell
-map_cell cs i = get_or cs i (no_cell Empty)
+map_cell cs i = get_or cs i (record { address = 0; value = 0 })
 
 -- Map cell, 4 bytes: address, value.
 unfoldable pub cell_bytes : List Cell → ℕ → List ℕ

@@ -1,10 +1,11 @@
 // A thread's statements once all are read: its labels, the pcs that they become, and its records.
-ghost use Rattle.std.specs.Prelude.{◌≡◌, ℕ, ◌+◌, ◌*◌, ◌≤◌, ◌<◌, ◌++◌, length, take, get_or};
+ghost use Rattle.std.specs.Prelude.{◌≡◌, ℕ, ◌+◌, ◌*◌, ◌≤◌, ◌<◌, ◌++◌, length, take, get_or, leb};
+ghost use Rattle.std.specs.List.{list_all};
 ghost use Rattle.base.specs.Below.{least};
 ghost use Rattle.base.specs.Bytes.{same};
 ghost use Rattle.text.specs.Answers.{doubled_at, target_fits, thread_fits, labels_fit, checkpoints_fit};
 ghost use Rattle.text_drafts.specs.Blocks.{block_at};
-ghost use Rattle.text.specs.Drafts.{drafted, threads_in, four_fit};
+ghost use Rattle.text.specs.Drafts.{drafted, threads_in};
 ghost use Rattle.text.specs.Records.{joined, is_named, argument_of, statement_bytes, set_bytes, statements};
 ghost use Rattle.records.specs.Sets.{most_threads, most_statements, record_length, most_records};
 
@@ -25,15 +26,13 @@ fn is_named(label: &[u8]) -> bool
 fn find(draft: &[u8], t: u16, n: u16, label: &[u8]) -> u16
     ensures { result ≡ least n (λ p. same (block_at draft.now (most_statements * t + p)).label label.now) }
 {
-    let mut p: u16 = 0;
-    while p < n {
+    for p in 0..n {
         let other = text_drafts::label(draft, text_drafts::block(t, p));
         if text_drafts::same_label(other, label) {
             return p;
         }
-        p += 1;
     }
-    p
+    n
 }
 
 // The argument of thread t's statement p.
@@ -77,15 +76,10 @@ fn target_fits(draft: &[u8], t: u16, n: u16, p: u16) -> bool
 fn fits(draft: &[u8], t: u16, n: u16) -> bool
     ensures { result ≡ thread_fits n (drafted draft.now t n) }
 {
-    let mut p: u16 = 0;
-    while p < n {
-        if is_doubled(draft, t, n, p) {
+    for p in 0..n {
+        if is_doubled(draft, t, n, p) || !target_fits(draft, t, n, p) {
             return false;
         }
-        if !target_fits(draft, t, n, p) {
-            return false;
-        }
-        p += 1;
     }
     true
 }
@@ -94,12 +88,10 @@ fn fits(draft: &[u8], t: u16, n: u16) -> bool
 pub fn labels_fit(draft: &[u8], ended: u16, counts: [u16; Layout::THREADS]) -> bool
     ensures { result ≡ labels_fit (threads_in draft.now ended counts) }
 {
-    let mut t: u16 = 0;
-    while t < ended {
+    for t in 0..ended {
         if !fits(draft, t, text_drafts::count(counts, t)) {
             return false;
         }
-        t += 1;
     }
     true
 }
@@ -110,16 +102,17 @@ fn bytes_of(draft: &[u8], t: u16, n: u16, p: u16) -> [u8; Statement::SIZE]
     ensures { result ≡ statement_bytes t n (drafted draft.now t n) p }
 {
     let k = text_drafts::block(t, p);
-    let argument = argument(draft, t, n, p);
+    let [low, high] = argument(draft, t, n, p).to_le_bytes();
+    let [pc_low, pc_high] = p.to_le_bytes();
     [
         t as u8,
         text_drafts::number(draft, k),
         text_drafts::mode(draft, k),
         0,
-        (argument % 256) as u8,
-        (argument / 256) as u8,
-        (p % 256) as u8,
-        (p / 256) as u8,
+        low,
+        high,
+        pc_low,
+        pc_high,
     ]
 }
 
@@ -129,12 +122,10 @@ fn write(draft: &[u8], t: u16, n: u16, set: &mut [u8], k: u16)
     ensures { (take (record_length * k + record_length * n) set.new ≡ take (record_length * k) set.old ++ joined n (statement_bytes t n (drafted draft.now t n)))
         × (length set.new ≡ length set.old) }
 {
-    let start = 8 * (k as usize);
-    let mut p: u16 = 0;
-    while p < n {
-        let bytes = bytes_of(draft, t, n, p);
-        base::place(set, start + 8 * (p as usize), &bytes);
-        p += 1;
+    let start = Statement::SIZE * usize::from(k);
+    for p in 0..n {
+        let at = start + Statement::SIZE * usize::from(p);
+        base::place(set, at, &bytes_of(draft, t, n, p));
     }
 }
 
@@ -144,21 +135,19 @@ fn write_threads(draft: &[u8], ended: u16, counts: [u16; Layout::THREADS], set: 
     ensures { (result ≡ statements (threads_in draft.now ended counts)) × (result ≤ most_records) × (take (record_length * result) set.new ≡ set_bytes (threads_in draft.now ended counts)) }
 {
     let mut k: u16 = 0;
-    let mut t: u16 = 0;
-    while t < ended {
+    for t in 0..ended {
         let n = text_drafts::count(counts, t);
         write(draft, t, n, set, k);
         k += n;
-        t += 1;
     }
     k
 }
 
 // Whether no thread has more than 32 statements.
 fn counts_fit(counts: [u16; Layout::THREADS]) -> bool
-    ensures { (result ≡ four_fit counts) × (length counts ≡ most_threads) }
+    ensures { (result ≡ list_all (λ n. leb n most_statements) counts) × (length counts ≡ most_threads) }
 {
-    (counts[0] <= 32) & (counts[1] <= 32) & (counts[2] <= 32) & (counts[3] <= 32)
+    counts.iter().all(|n| *n <= Layout::STATEMENTS)
 }
 
 // Writes the records of the threads that have ended, where they fit, and gives their number.
@@ -167,20 +156,18 @@ pub fn assemble(draft: &[u8], ended: u16, counts: [u16; Layout::THREADS], set: &
         (result ≡ statements (threads_in draft.now ended counts)) × (result ≤ most_records) × (take (record_length * result) set.new ≡ set_bytes (threads_in draft.now ended counts)))
         × (length set.new ≡ length set.old) }
 {
-    let fit = (ended <= Reading::THREADS) & counts_fit(counts) & (Layout::SET <= set.len());
-    if fit {
-        return write_threads(draft, ended, counts, set);
+    if Reading::THREADS < ended || !counts_fit(counts) || set.len() < Layout::SET {
+        return 0;
     }
-    0
+    write_threads(draft, ended, counts, set)
 }
 
 // Whether the first n records of a set have at most 8 different checkpoints.
 pub fn checkpoints_fit(set: &[u8], n: u16) -> bool
     ensures { record_length * n ≤ length set.now → result ≡ checkpoints_fit (take (record_length * n) set.now) }
 {
-    let size = 8 * (n as usize);
-    if size <= set.len() {
-        return records::set::few_checkpoints(&set[..size]);
+    match set.get(..Statement::SIZE * usize::from(n)) {
+        Some(records) => records::set::few_checkpoints(records),
+        None => false,
     }
-    false
 }

@@ -13,7 +13,6 @@ use borrow.Author.Tests.{eq-eqb, ne_eqb}
 use Rattle.base.specs.Bytes.{word_at, placed}
 use Rattle.base.proofs.Bytes.{length-placed}
 use Rattle.base.proofs.Choice.{chosen, passed}
-use Rattle.text_lines.specs.declared.Form.TheVariants.{Good}
 use Rattle.text_lines.specs.declared.Stated.{Stated}
 use Rattle.text_drafts.specs.Blocks.{block_at, stored}
 use Rattle.text_drafts.proofs.Parts.{part-before, part-after, part_at, byte-part}
@@ -22,7 +21,6 @@ use Rattle.text_drafts.proofs.Parts.{part-before, part-after, part_at, byte-part
 same_block : (c d : List ℕ) (j : ℕ) → ((a n : ℕ) → 36 * j ≤ a → a + n ≤ 36 * j + 36 → take n (drop a c) ≡ take n (drop a d)) → block_at c j ≡ block_at d j
 same_block c d j e =
     λ k. record {
-      form = Good;
       label = e (36 * j + 4) 16 (omega arith) (omega arith) k;
       number = byte (36 * j) (omega arith) (omega arith) k;
       mode = byte (36 * j + 1) (omega arith) (omega arith) k;
@@ -102,10 +100,9 @@ module _ (x : Stated) (k : ℕ) (d d₁ d₂ d₃ : List ℕ)
         ap₂ (λ (low high : ℕ). low + 256 * high) (number_is 2 (omega arith)) (ap (λ (i : ℕ). get_or d₃ i 0) (add_assoc (36 * k) 2 1) ∙ number_is 3 (omega arith))
         ∙ omega arith
 
-    put-block : x.form ≡ Good → (j : ℕ) → block_at d₃ j ≡ cond (eqb j k) x (block_at d j)
-    put-block good j = elim (ℕ_discrete j k) [
+    put-block : (j : ℕ) → block_at d₃ j ≡ cond (eqb j k) x (block_at d j)
+    put-block j = elim (ℕ_discrete j k) [
       | yes e ↦ rw e (λ i. record {
-        form = sym good i;
         label = label_is i;
         number = (ap (λ (a : ℕ). get_or d₃ a 0) (sym (add-zero (36 * k))) ∙ number_is 0 (omega arith)) i;
         mode = number_is 1 (omega arith) i;
@@ -123,7 +120,7 @@ pub stored-length : (x : Stated) (k : ℕ) (d d' : List ℕ) → d' ≡ stored d
 unfolding stored
 stored-length x k d d' e = put-length x k d _ _ d' refl refl e
 
-pub stored-block : (x : Stated) (k : ℕ) (d d' : List ℕ) → d' ≡ stored d k x → length x.label ≡ 16 → length x.target ≡ 16 → x.form ≡ Good → 36 * k + 36 ≤ length d →
+pub stored-block : (x : Stated) (k : ℕ) (d d' : List ℕ) → d' ≡ stored d k x → length x.label ≡ 16 → length x.target ≡ 16 → 36 * k + 36 ≤ length d →
     (j : ℕ) → block_at d' j ≡ cond (eqb j k) x (block_at d j)
 unfolding stored
-stored-block x k d d' e l16 t16 good room j = put-block x k d _ _ d' refl refl e room l16 t16 good j
+stored-block x k d d' e l16 t16 room j = put-block x k d _ _ d' refl refl e room l16 t16 j

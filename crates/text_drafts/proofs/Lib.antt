@@ -1,4 +1,3 @@
 -- The laws that this crate's proofs cite.
 pub mod Blocks
-mod Labels
 mod Parts

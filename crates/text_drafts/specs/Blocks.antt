@@ -1,7 +1,6 @@
 -- Statements in the draft of a text, in blocks of 36 bytes. This serves the code; no call's promise needs it. Assumes nothing.
 use Rattle.std.specs.Prelude.{ℕ, ◌+◌, ◌*◌, ◌/◌, ◌%◌, List, [], ◌∷◌, get_or, take, drop}
 use Rattle.base.specs.Bytes.{word_at, placed}
-use Rattle.text_lines.specs.declared.Form.TheVariants.{Good}
 use Rattle.text_lines.specs.declared.Stated.{Stated}
 use Rattle.text_lines.specs.Lines.{longest_label}
 
@@ -15,7 +14,6 @@ draft_length = 4608
 -- the statement in block k, 36 bytes: instruction number, mode, argument (2), label (16), target (16)
 abbrev pub block_at : List ℕ → ℕ → Stated
 block_at draft k = record {
-  form = Good;
   label = take longest_label (drop (block_length * k + 4) draft);
   number = get_or draft (block_length * k) 0;
   mode = get_or draft (block_length * k + 1) 0;

@@ -30,32 +30,22 @@ pub const DRAFT: usize = BLOCK * Layout::RECORDS;
 fn part(s: &[u8], i: usize, n: usize) -> &[u8]
     ensures { result.now ≡ take n (drop i s.now) }
 {
-    if s.len() <= i {
-        return &s[s.len()..];
-    }
-    if s.len() - i <= n {
-        return &s[i..];
-    }
-    let end = i + n;
-    &s[i..end]
+    let rest = s.get(i..).unwrap_or(&[]);
+    rest.get(..n).unwrap_or(rest)
 }
 
 // How many statements thread t has.
 pub fn count(counts: [u16; Layout::THREADS], t: u16) -> u16
     ensures { result ≡ get_or counts t 0 }
 {
-    let thread = t as usize;
-    if thread < Layout::THREADS {
-        return counts[thread];
-    }
-    0
+    counts.get(usize::from(t)).copied().unwrap_or(0)
 }
 
 // The block of thread t's statement p.
 pub fn block(t: u16, p: u16) -> u32
     ensures { result ≡ most_statements * t + p }
 {
-    (Layout::STATEMENTS as u32) * (t as u32) + (p as u32)
+    u32::from(Layout::STATEMENTS) * u32::from(t) + u32::from(p)
 }
 
 // The label of block k.
@@ -94,53 +84,22 @@ pub fn argument(draft: &[u8], k: u32) -> u16
 }
 
 // Puts a statement into block k, if there is room.
+#[tactic(auto, unfolding(crate::specs::Blocks::stored))]
 pub fn put(draft: &mut [u8], k: u32, x: Stated)
     ensures { (draft.new ≡ stored draft.old k x) × (length x.label ≡ longest_label) × (length x.target ≡ longest_label) }
 {
     let at = BLOCK * (k as usize);
     let label = x.label;
     let target = x.target;
-    let head = [
-        x.number,
-        x.mode,
-        (x.argument % 256) as u8,
-        (x.argument / 256) as u8,
-    ];
-    base::place(draft, at, &head);
+    let [low, high] = x.argument.to_le_bytes();
+    base::place(draft, at, &[x.number, x.mode, low, high]);
     base::place(draft, at + LABEL, &label);
     base::place(draft, at + TARGET, &target);
-}
-
-// Whether two labels of sixteen bytes are the same. Sixteen tests without a branch are one comparison of the machine.
-fn sixteen(a: &[u8], b: &[u8]) -> bool
-    requires { (length a.now ≡ longest_label) × (length b.now ≡ longest_label) }
-    ensures { result ≡ same a.now b.now }
-{
-    (a[0] == b[0])
-        & (a[1] == b[1])
-        & (a[2] == b[2])
-        & (a[3] == b[3])
-        & (a[4] == b[4])
-        & (a[5] == b[5])
-        & (a[6] == b[6])
-        & (a[7] == b[7])
-        & (a[8] == b[8])
-        & (a[9] == b[9])
-        & (a[10] == b[10])
-        & (a[11] == b[11])
-        & (a[12] == b[12])
-        & (a[13] == b[13])
-        & (a[14] == b[14])
-        & (a[15] == b[15])
 }
 
 // Whether two labels are the same.
 pub fn same_label(a: &[u8], b: &[u8]) -> bool
     ensures { result ≡ same a.now b.now }
 {
-    let whole = (a.len() == Stated::LABEL) & (b.len() == Stated::LABEL);
-    if whole {
-        return sixteen(a, b);
-    }
     base::same(a, b)
 }

@@ -1,5 +1,5 @@
--- The laws that this crate's proofs cite, and samples of its definitions.
-
+-- Laws of runs of bytes and of numbers, and samples of the definitions.
 pub mod Runs
-mod Samples
+pub mod Samples
 pub mod Values
+pub mod Words

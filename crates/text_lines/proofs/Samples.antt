@@ -3,16 +3,18 @@ use Prim.Native.Nat.{ℕ, zero, suc}
 use Prim.Native.Char.{code}
 use Prim.Native.String.{String, [] as none, ◌∷◌ as ◌then◌}
 use mathlib.Core.Path.{◌≡◌, refl}
+use Rattle.std.specs.Prelude.{Option, None, Some, Result, Ok, Err}
 use mathlib.Core.Bool.{true, false}
 use mathlib.Core.List.{List, [], ◌∷◌, ◌++◌, map}
 use Rattle.base.specs.Below.{least}
-use Rattle.base.specs.Bytes.{same, over}
+use Rattle.base.specs.Bytes.{over}
 use Rattle.records.specs.Instructions.{LOAD, FENCE, ADDI, JMP, JNZNS, HALT, CHECK, words, word_of}
-use Rattle.text_lines.specs.Characters.{run, value_after}
-use Rattle.text_lines.specs.Lines.{lines, is_dot, no_statement, padded, is_label, stated, numbered, bracketed, targeted, argued, after_word, worded, labelled, statement, statement_line}
-use Rattle.text_lines.specs.Lines.{no_cell, valued, addressed, cell, map_line}
-use Rattle.text_lines.specs.declared.Cell.{Cell}
-use Rattle.text_lines.specs.declared.Form.TheVariants.{Empty, Malformed, Large, Good}
+use Rattle.text_lines.specs.Characters.{value_after}
+use Rattle.text_lines.specs.Lines.{lines, is_dot, padded, is_label, stated, numbered, bracketed, targeted, argued, after_word, worded, labelled, statement, statement_line}
+use Rattle.text_lines.specs.Lines.{cell_of, valued, addressed, cell, map_line}
+use Rattle.records.specs.declared.Cell.{Cell}
+use Rattle.records.specs.declared.refusals.Refusal.{Refusal}
+use Rattle.records.specs.declared.refusals.Refusal.TheVariants.{Malformed, Number}
 use Rattle.text_lines.specs.declared.Stated.{Stated}
 
 -- the bytes of a text
@@ -29,9 +31,9 @@ abbrev Each : {A : Type 0} → (List ℕ → A) → List String → A → Type 0
 Each f texts x = map (λ s. f (bytes s)) texts ≡ map (λ _. x) texts
 
 -- a well-formed statement: label, word, mode, argument, target
-holds : String → ℕ → ℕ → ℕ → String → Stated
+holds : String → ℕ → ℕ → ℕ → String → Result (Option Stated) Refusal
 holds label number mode argument target =
-    record { form = Good; label = padded (bytes label); number = number; mode = mode; argument = argument; target = padded (bytes target) }
+    Ok (Some (record { label = padded (bytes label); number = number; mode = mode; argument = argument; target = padded (bytes target) }))
 
 -- ---- statements
 
@@ -48,7 +50,7 @@ good-arguments :
     ∷ (" FENCE\t# a # . :", holds "" FENCE 0 0 "")
     ∷ ("CHECK 7", holds "" CHECK 0 7 "")
     ∷ ("JMP 65535", holds "" JMP 0 65535 "") ∷ [])
-unfolding bytes run value_after padded over is_label stated numbered bracketed targeted argued after_word worded labelled statement statement_line least same words word_of holds
+unfolding bytes value_after padded over is_label stated numbered bracketed targeted argued after_word worded labelled statement statement_line least words word_of holds
 good-arguments = refl
 
 -- a label with and without blanks around the colon; one that is an instruction's word, in both places; one of 16 characters
@@ -63,7 +65,7 @@ good-labels :
     ∷ ("JMP: JMP JMP", holds "JMP" JMP 0 0 "JMP")
     ∷ ("CMP: HALT", holds "CMP" HALT 0 0 "")
     ∷ ("_b23456789012345: JNZNS _b23456789012345", holds "_b23456789012345" JNZNS 0 0 "_b23456789012345") ∷ [])
-unfolding bytes run value_after padded over is_label stated numbered bracketed targeted argued after_word worded labelled statement statement_line least same words word_of holds
+unfolding bytes value_after padded over is_label stated numbered bracketed targeted argued after_word worded labelled statement statement_line least words word_of holds
 good-labels = refl
 
 -- n zeros before the rest
@@ -73,7 +75,7 @@ zeros (suc n) rest = 48 ∷ zeros n rest
 
 -- any number of leading zeros
 five_thousand_zeros : statement_line (bytes "ADDI " ++ zeros 5000 (bytes "1")) ≡ holds "" ADDI 0 1 ""
-unfolding bytes run value_after padded over is_label stated numbered bracketed targeted argued after_word worded labelled statement statement_line least same words word_of holds zeros
+unfolding bytes value_after padded over is_label stated numbered bracketed targeted argued after_word worded labelled statement statement_line least words word_of holds zeros
 five_thousand_zeros = refl
 
 -- lines without a statement
@@ -81,8 +83,8 @@ empty-lines :
     Each statement_line
     ("" ∷ " \t " ∷  -- nothing, blanks
     "# HALT" ∷ "\t#" ∷ [])  -- comments
-    (no_statement Empty)
-unfolding bytes run value_after padded over is_label stated numbered bracketed targeted argued after_word worded labelled statement statement_line least same words word_of
+    (Ok None)
+unfolding bytes value_after padded over is_label stated numbered bracketed targeted argued after_word worded labelled statement statement_line least words word_of
 empty-lines = refl
 
 -- a number above 65,535
@@ -90,8 +92,8 @@ large-lines :
     Each statement_line
     ("ADDI 65536" ∷ "JMP 65536" ∷ "LOAD [65536]" ∷  -- in each kind of argument
     "a: EXIT 99999999999999999999999999" ∷ [])  -- of many digits
-    (no_statement Large)
-unfolding bytes run value_after padded over is_label stated numbered bracketed targeted argued after_word worded labelled statement statement_line least same words word_of
+    (Err Number)
+unfolding bytes value_after padded over is_label stated numbered bracketed targeted argued after_word worded labelled statement statement_line least words word_of
 large-lines = refl
 
 -- malformed lines and forbidden bytes
@@ -108,34 +110,34 @@ malformed-lines :
     ".." ∷ ". ." ∷ ". # x" ∷ ".#" ∷  -- not dot lines
     "ADDI 65536 x" ∷ "ADDI 65536 #\r" ∷ "FENCE 65536" ∷ "JMP [65536]" ∷  -- 2 before 3 in a line
     "HALT\r" ∷ "HALT # \r" ∷ "# \0" ∷ "\u{b}" ∷ "HALT \u{c}" ∷ "# \u{7f}" ∷ "# \u{80}" ∷ [])  -- forbidden bytes, in a comment too
-    (no_statement Malformed)
-unfolding bytes run value_after padded over is_label stated numbered bracketed targeted argued after_word worded labelled statement statement_line least same words word_of
+    (Err Malformed)
+unfolding bytes value_after padded over is_label stated numbered bracketed targeted argued after_word worded labelled statement statement_line least words word_of
 malformed-lines = refl
 
 -- ---- map cells
 
 -- an address and a value
-pair : ℕ → ℕ → Cell
-pair address value = record { form = Good; address = address; value = value }
+pair : ℕ → ℕ → Result (Option Cell) Refusal
+pair address value = Ok (Some (record { address = address; value = value }))
 
 good-cells : Gives map_line (("1 2", pair 1 2) ∷ (" 01\t2 # x", pair 1 2) ∷ ("65535 0#", pair 65535 0) ∷ [])
-unfolding bytes run value_after valued addressed cell map_line pair
+unfolding bytes value_after cell_of valued addressed cell map_line pair
 good-cells = refl
 
 -- lines without a cell
 empty-map-lines :
     Each map_line
     ("" ∷ " \t " ∷ "# 1 2" ∷ [])  -- nothing, blanks, a comment
-    (no_cell Empty)
-unfolding bytes run value_after valued addressed cell map_line
+    (Ok None)
+unfolding bytes value_after cell_of valued addressed cell map_line
 empty-map-lines = refl
 
 -- a number above 65,535
 large-cells :
     Each map_line
     ("65536 1" ∷ "1 65536" ∷ "99999999999999999999999999 65536" ∷ [])  -- either, or both
-    (no_cell Large)
-unfolding bytes run value_after valued addressed cell map_line
+    (Err Number)
+unfolding bytes value_after cell_of valued addressed cell map_line
 large-cells = refl
 
 -- malformed lines and forbidden bytes
@@ -146,20 +148,20 @@ malformed-cells :
     ".." ∷ ". # x" ∷  -- not dot lines
     "65536" ∷ "65536 x" ∷ "1 65536 x" ∷  -- 2 before 3 in a line
     "1 2 # \r" ∷ [])  -- a forbidden byte in a comment
-    (no_cell Malformed)
-unfolding bytes run value_after valued addressed cell map_line
+    (Err Malformed)
+unfolding bytes value_after cell_of valued addressed cell map_line
 malformed-cells = refl
 
 -- ---- lines
 
 -- one dot and blanks
 dots : Each is_dot ("." ∷ " .\t" ∷ []) true
-unfolding bytes run is_dot
+unfolding bytes is_dot
 dots = refl
 
 -- two dots, a comment, another byte, nothing
 no-dots : Each is_dot (".." ∷ ". ." ∷ ". # x" ∷ ".#" ∷ ".\r" ∷ "a." ∷ "" ∷ []) false
-unfolding bytes run is_dot
+unfolding bytes is_dot
 no-dots = refl
 
 -- with and without a last LF

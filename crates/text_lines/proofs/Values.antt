@@ -2,6 +2,7 @@
 use Prim.Native.Nat.{ℕ, ◌+◌, ◌-◌, ◌*◌, ◌≤◌, ◌<◌, min}
 use mathlib.Core.Bool.{Bool, true, false, cond, ◌&&◌}
 use mathlib.Core.List.{List, [], ◌∷◌}
+use Rattle.std.specs.Prelude.{Result, Err}
 use mathlib.Core.Path.{◌≡◌, refl, ap, sym, ◌∙◌}
 use native.Mathlib.Nat.{min-eq_left, min-eq_right, le_refl, le_trans}
 use native.Mathlib.Numerals.{add-one}
@@ -12,9 +13,10 @@ use lib.ListN.{length, get_or, drop}
 use lib.Seq.{drop-cons, drop-length}
 use Rattle.base.proofs.Choice.{chosen, passed, cond_both, and_left, or_true, or_right_true}
 use Rattle.text_lines.specs.Characters.{is_digit, digits, only_blanks, past_digits, value_after}
-use Rattle.text_lines.specs.Lines.{stated, no_cell, cell_of, valued}
-use Rattle.text_lines.specs.declared.Cell.{Cell}
-use Rattle.text_lines.specs.declared.Form.TheVariants.{Malformed}
+use Rattle.text_lines.specs.Lines.{stated, cell_of, valued}
+use Rattle.records.specs.declared.Cell.{Cell}
+use Rattle.records.specs.declared.refusals.Refusal.{Refusal}
+use Rattle.records.specs.declared.refusals.Refusal.TheVariants.{Malformed}
 
 -- what does not tell numbers above 65,535 apart is the same of the number that stands for them
 pub capped : {A : Type 0} (f : ℕ → A) → ((v : ℕ) → 65535 < v → f v ≡ f 65536) → (v : ℕ) → f (min v 65536) ≡ f v
@@ -57,12 +59,13 @@ unfolding stated
 stated-capped label number mode v = capped (stated label number mode) (λ n h. chosen _ _ (lt-ltb 65535 n h)) v
 
 pub cell-capped : (address v : ℕ) → cell_of address (min v 65536) ≡ cell_of address v
+unfolding cell_of
 cell-capped address v =
     capped (cell_of address)
     (λ n h. chosen _ _ (or_right_true (ltb 65535 address) (lt-ltb 65535 n h)) ∙ sym (chosen _ _ (or_right_true (ltb 65535 address) refl))) v
 
 pub valued-capped : (s : List ℕ) (address : ℕ) → valued (min address 65536) s ≡ valued address s
-unfolding valued
+unfolding valued cell_of
 valued-capped s address =
     capped (λ (n : ℕ). valued n s)
-    (λ n h. ap (λ (c : Cell). cond (ltb 0 (digits s) && only_blanks (past_digits s)) c (no_cell Malformed)) (chosen _ _ (or_true _ (lt-ltb 65535 n h)))) address
+    (λ n h. ap (λ (r : Result Cell Refusal). cond (ltb 0 (digits s) && only_blanks (past_digits s)) r (Err Malformed)) (chosen _ _ (or_true _ (lt-ltb 65535 n h)))) address

@@ -1,7 +1,6 @@
 -- The bytes of a set text: blanks, digits, letters, and runs of them (document 01, "Set text"). A reader of the calls believes this. Assumes nothing.
-use Rattle.std.specs.Prelude.{ℕ, suc, ◌+◌, ◌-◌, ◌*◌, Bool, cond, not, ◌&&◌, ◌||◌, List, [], ◌∷◌, eqb, leb, length, get_or, take, drop}
-use Rattle.text_lines.specs.declared.Class.{Class}
-use Rattle.text_lines.specs.declared.Class.TheVariants.{Allowed, Blank, Digit, Name, Code, InLine}
+use Rattle.std.specs.Prelude.{ℕ, ◌+◌, ◌-◌, ◌*◌, Bool, cond, not, ◌&&◌, ◌||◌, List, [], ◌∷◌, eqb, leb, length, get_or, take, drop}
+use Rattle.std.specs.List.{prefix_len}
 
 -- ---- bytes
 
@@ -29,21 +28,11 @@ is_code b = not (eqb b 35)
 abbrev pub is_in_line : ℕ → Bool
 is_in_line b = not (eqb b 10)
 
--- the test of each class
-abbrev pub test_of : Class → ℕ → Bool
-test_of Allowed b = allowed_byte b
-test_of Blank b = is_blank b
-test_of Digit b = is_digit b
-test_of Name b = is_name_byte b
-test_of Code b = is_code b
-test_of InLine b = is_in_line b
-
 -- ---- runs of bytes
 
 -- how many bytes at the start of s pass a test, up to the first that does not
-unfoldable pub run : (ℕ → Bool) → List ℕ → ℕ
-run test [] = 0
-run test (b ∷ s) = cond (test b) (suc (run test s)) 0
+abbrev pub run : (ℕ → Bool) → List ℕ → ℕ
+run test s = prefix_len test s
 
 abbrev pub blanks : List ℕ → ℕ
 blanks s = run is_blank s

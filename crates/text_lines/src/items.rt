@@ -1,211 +1,137 @@
 // The items of a line, at the start of a slice: blanks, names, numbers, signs.
-ghost use Rattle.std.specs.Prelude.{◌≡◌, ◌+◌, ◌-◌, ◌*◌, ◌≤◌, min, true, not, ◌&&◌, eqb, ltb, length, drop, take, get_or};
-ghost use Rattle.base.specs.Below.{every};
-ghost use Rattle.text_lines.specs.Characters.{allowed_byte as allowed_of, is_blank, is_digit, digits, past_digits, test_of, run as run_of, skip as skip_of, only_blanks, ends_with, value as value_of, value_after};
+ghost use Rattle.std.specs.Prelude.{◌≡◌, ◌<◌, ◌≤◌, cond, not, ◌&&◌, min, eqb, ltb, length, Ok, Err, MatchResult};
+ghost use Rattle.records.specs.declared.refusals.Refusal.TheVariants.{Malformed};
+ghost use Rattle.text_lines.specs.Characters.{allowed_byte, is_blank, is_name_byte, blanks, name_bytes, digits, past_digits, name, past_name, skip as skip_of, only_blanks, ends_with, value as value_of, run};
 ghost use Rattle.text_lines.specs.Lines.{is_allowed, uncommented as uncommented_of};
 
-use crate::Class;
+use memchr::memchr;
+use records::Refusal;
 
 pub fn is_blank(b: u8) -> bool
     ensures { result ≡ is_blank b }
 {
-    (b == 32) | (b == 9)
+    b == b' ' || b == b'\t'
 }
 
-pub fn is_digit(b: u8) -> bool
-    ensures { result ≡ is_digit b }
+fn is_name_byte(b: u8) -> bool
+    ensures { result ≡ is_name_byte b }
 {
-    (48 <= b) & (b <= 57)
+    b.is_ascii_alphanumeric() || b == b'_'
 }
 
-fn allowed(b: u8) -> bool
-    ensures { result ≡ allowed_of b }
+fn is_allowed_byte(b: u8) -> bool
+    ensures { result ≡ allowed_byte b }
 {
-    (b == 9) | (b == 10) | ((32 <= b) & (b <= 126))
+    b == b'\t' || b == b'\n' || (b' ' <= b && b <= b'~')
 }
 
-// Whether a byte is of a class.
-fn passes(class: Class, b: u8) -> bool
-    ensures { result ≡ test_of class b }
+// How many blanks s starts with.
+fn blanks(s: &[u8]) -> usize
+    ensures number { result ≡ blanks s.now }
+    ensures within { result ≤ length s.now }
 {
-    match class {
-        Class::Allowed => allowed(b),
-        Class::Blank => is_blank(b),
-        Class::Digit => is_digit(b),
-        Class::Name => {
-            ((65 <= b) & (b <= 90)) | ((97 <= b) & (b <= 122)) | is_digit(b) | (b == 95)
-        }
-        Class::Code => b != 35,
-        Class::InLine => b != 10,
-    }
+    s.iter().take_while(|b| is_blank(**b)).count()
 }
 
-// Whether none of the first eight bytes of s is b. Eight tests without a branch are one comparison of the machine.
-fn eight_but(b: u8, s: &[u8]) -> bool
-    requires { 8 ≤ length s.now }
-    ensures { result ≡ every 8 (λ k. not (eqb (get_or s.now k 0) b)) }
+// How many bytes of a name s starts with.
+fn name_bytes(s: &[u8]) -> usize
+    ensures number { result ≡ name_bytes s.now }
+    ensures within { result ≤ length s.now }
 {
-    (s[0] != b)
-        & (s[1] != b)
-        & (s[2] != b)
-        & (s[3] != b)
-        & (s[4] != b)
-        & (s[5] != b)
-        & (s[6] != b)
-        & (s[7] != b)
+    s.iter().take_while(|b| is_name_byte(**b)).count()
 }
 
-// Whether the first eight bytes of s are allowed.
-fn eight_allowed(s: &[u8]) -> bool
-    requires { 8 ≤ length s.now }
-    ensures { result ≡ every 8 (λ k. allowed_of (get_or s.now k 0)) }
+// How many digits s starts with.
+fn digits(s: &[u8]) -> usize
+    ensures number { result ≡ digits s.now }
+    ensures within { result ≤ length s.now }
 {
-    allowed(s[0])
-        & allowed(s[1])
-        & allowed(s[2])
-        & allowed(s[3])
-        & allowed(s[4])
-        & allowed(s[5])
-        & allowed(s[6])
-        & allowed(s[7])
+    s.iter().take_while(|b| b.is_ascii_digit()).count()
 }
 
-// Whether the first eight bytes of s are of a class; asked only of the classes whose runs are long.
-fn eight(class: Class, s: &[u8]) -> bool
-    requires { 8 ≤ length s.now }
-    ensures { result ≡ true → every 8 (λ k. test_of class (get_or s.now k 0)) ≡ true }
+// How many bytes of s stand before the first b; all where it has none.
+pub fn before(b: u8, s: &[u8]) -> usize
+    ensures number { result ≡ run (λ x. not (eqb x b)) s.now }
+    ensures within { result ≤ length s.now }
 {
-    match class {
-        Class::Allowed => eight_allowed(s),
-        Class::Blank => false,
-        Class::Digit => false,
-        Class::Name => false,
-        Class::Code => eight_but(35, s),
-        Class::InLine => eight_but(10, s),
-    }
-}
-
-// How many bytes of a class s starts with, counted by eights as far as that goes.
-fn eights(s: &[u8], class: Class) -> usize
-    ensures { (result ≤ length s.now) × (run_of (test_of class) s.now ≡ result + run_of (test_of class) (drop result s.now)) }
-{
-    let mut i: usize = 0;
-    while 8 <= s.len() - i {
-        if eight(class, &s[i..]) {
-            i += 8;
-        } else {
-            return i;
-        }
-    }
-    i
-}
-
-// How many bytes of a class s starts with.
-pub fn run(s: &[u8], class: Class) -> usize
-    ensures { (result ≡ run_of (test_of class) s.now) × (result ≤ length s.now) }
-{
-    let mut i = eights(s, class);
-    while i < s.len() {
-        if passes(class, s[i]) {
-            i += 1;
-        } else {
-            return i;
-        }
-    }
-    i
-}
-
-// s past its first n bytes; nothing where it has fewer.
-pub fn past(s: &[u8], n: usize) -> &[u8]
-    ensures { result.now ≡ drop n s.now }
-{
-    if n <= s.len() {
-        return &s[n..];
-    }
-    &s[s.len()..]
+    memchr(b, s).unwrap_or(s.len())
 }
 
 // s past the blanks at its start.
 pub fn skip(s: &[u8]) -> &[u8]
     ensures { result.now ≡ skip_of s.now }
 {
-    let n = run(s, Class::Blank);
-    &s[n..]
+    s.split_at(blanks(s)).1
 }
 
 // Whether s holds only blanks.
 pub fn only_blanks(s: &[u8]) -> bool
     ensures { result ≡ only_blanks s.now }
 {
-    run(s, Class::Blank) == s.len()
+    blanks(s) == s.len()
 }
 
 // Whether s is byte b and nothing after it but blanks.
 pub fn ends_with(b: u8, s: &[u8]) -> bool
     ensures { result ≡ ends_with b s.now }
 {
-    (base::byte_at(s, 0) == b) & only_blanks(past(s, 1))
+    base::byte_at(s, 0) == b && only_blanks(s.get(1..).unwrap_or(&[]))
 }
 
-// The first n bytes of s, or as many as there are.
-pub fn front(s: &[u8], n: usize) -> &[u8]
-    ensures { result.now ≡ take n s.now }
+// The name that s starts with, and s past it.
+pub fn name(s: &[u8]) -> (&[u8], &[u8])
+    ensures name { result.0.now ≡ name s.now }
+    ensures rest { result.1.now ≡ past_name s.now }
 {
-    if n <= s.len() {
-        return &s[..n];
-    }
-    &s[..s.len()]
+    s.split_at(name_bytes(s))
 }
 
-// A digit more; 65,536 stands for every number above 65,535.
-fn more(v: u32, b: u8) -> u32
-    requires { (v ≤ 65536) × (48 ≤ b) }
-    ensures { result ≡ min (v * 10 + (b - 48)) 65536 }
-{
-    let next = v * 10 + ((b - 48) as u32);
-    if 65536 < next {
-        return 65536;
-    }
-    next
-}
-
-// The value of the digits at the start of s; 65,536 stands for every number above 65,535.
-pub fn value(s: &[u8]) -> u32
+// The value of digits; 65,536 stands for every number above 65,535.
+fn value(s: &[u8]) -> u32
     ensures { result ≡ min (value_of s.now) 65536 }
 {
     let mut v: u32 = 0;
-    let mut i: usize = 0;
-    while i < s.len() {
-        let b = s[i];
-        if is_digit(b) {
-            v = more(v, b);
-            i += 1;
-        } else {
+    for &b in s {
+        if !b.is_ascii_digit() {
             return v;
         }
+        v = (v * 10 + u32::from(b - b'0')).min(65536);
     }
     v
 }
 
-// Whether s is a number and nothing after it but blanks.
-pub fn is_number(s: &[u8]) -> bool
-    ensures { result ≡ (ltb 0 (digits s.now) && only_blanks (past_digits s.now)) }
+// The value of the digits that s starts with, and s past them; 65,536 stands for every number above 65,535.
+pub fn number(s: &[u8]) -> Result<(u32, &[u8]), Refusal>
+    ensures { MatchResult result (λ r. (0 < digits s.now) × (r.0 ≡ min (value_of s.now) 65536) × (r.1.now ≡ past_digits s.now)) (λ e. (digits s.now ≡ 0) × (e ≡ Malformed)) }
 {
-    let n = run(s, Class::Digit);
-    (0 < n) & only_blanks(past(s, n))
+    let n = digits(s);
+    if n == 0 {
+        return Err(Refusal::Malformed);
+    }
+    Ok((value(s), s.split_at(n).1))
 }
 
-// Whether no byte of a line is forbidden.
+// The value of a number with nothing after it but blanks; 65,536 stands for every number above 65,535.
+pub fn last_number(s: &[u8]) -> Result<u32, Refusal>
+    ensures { result ≡ cond (ltb 0 (digits s.now) && only_blanks (past_digits s.now)) (Ok (min (value_of s.now) 65536)) (Err Malformed) }
+{
+    let (value, rest) = number(s)?;
+    if !only_blanks(rest) {
+        return Err(Refusal::Malformed);
+    }
+    Ok(value)
+}
+
+// Whether no byte of a line is forbidden. All are tested, several at once, which is faster than to leave at the first that is.
 pub fn is_allowed(l: &[u8]) -> bool
     ensures { result ≡ is_allowed l.now }
 {
-    run(l, Class::Allowed) == l.len()
+    l.iter().fold(true, |all, b| all & is_allowed_byte(*b))
 }
 
 // A line up to its comment.
 pub fn uncommented(l: &[u8]) -> &[u8]
     ensures { result.now ≡ uncommented_of l.now }
 {
-    let n = run(l, Class::Code);
-    &l[..n]
+    &l[..before(b'#', l)]
 }

@@ -5,47 +5,18 @@ pub mod cells;
 mod items;
 pub mod statements;
 
-ghost use Rattle.std.specs.Prelude.{◌≡◌, drop};
-ghost use Rattle.text_lines.specs.Characters.{is_in_line, run as run_of};
+ghost use Rattle.std.specs.Prelude.{◌≡◌};
+ghost use Rattle.text_lines.specs.Characters.{is_in_line, run};
 ghost use Rattle.text_lines.specs.Lines.{is_dot as is_dot_of};
-
-// Classes of bytes.
-#[derive(Clone, Copy)]
-pub enum Class {
-    Allowed,
-    Blank,
-    Digit,
-    Name,
-    Code,
-    InLine,
-}
-
-// How a line stands: nothing in it, against the rules, with a number above 65,535, or well formed.
-#[derive(Clone, Copy)]
-pub enum Form {
-    Empty,
-    Malformed,
-    Large,
-    Good,
-}
 
 // A statement as its line gives it; label and target are filled up with 0, and all 0 where there is none.
 #[derive(Clone, Copy)]
 pub struct Stated {
-    pub form: Form,
-    pub label: [u8; 16],
+    pub label: [u8; Stated::LABEL],
     pub number: u8,
     pub mode: u8,
     pub argument: u16,
-    pub target: [u8; 16],
-}
-
-// A map cell as its line gives it.
-#[derive(Clone, Copy)]
-pub struct Cell {
-    pub form: Form,
-    pub address: u16,
-    pub value: u16,
+    pub target: [u8; Stated::LABEL],
 }
 
 impl Stated {
@@ -55,12 +26,13 @@ impl Stated {
 
 // How many bytes the line has that starts a text.
 pub fn line_length(text: &[u8]) -> usize
-    ensures { result ≡ run_of is_in_line text.now }
+    ensures { result ≡ run is_in_line text.now }
 {
-    items::run(text, Class::InLine)
+    items::before(b'\n', text)
 }
 
 // Whether a line holds only "." and blanks.
+#[tactic(auto, unfolding(crate::specs::Lines::is_dot))]
 pub fn is_dot(l: &[u8]) -> bool
     ensures { result ≡ is_dot_of l.now }
 {

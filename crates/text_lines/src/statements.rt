@@ -1,180 +1,162 @@
 // What a thread's line holds: an optional label and ":", a word, and its argument.
-ghost use Rattle.std.specs.Prelude.{◌≡◌, min, ◌<◌, length};
-ghost use Rattle.records.specs.Instructions.{instructions};
-ghost use Rattle.text_lines.specs.Lines.{no_statement, padded as padded_of, is_label, stated as stated_of, numbered as numbered_of, bracketed as bracketed_of, targeted as targeted_of, argued as argued_of, after_word, worded as worded_of, labelled as labelled_of, statement as statement_of, statement_line};
+ghost use Rattle.std.specs.Prelude.{◌≡◌, cond, Ok, Err};
+ghost use Rattle.records.specs.Numbers.{number as number_of};
+ghost use Rattle.records.specs.declared.refusals.Refusal.TheVariants.{Malformed};
+ghost use Rattle.text_lines.specs.Lines.{padded, is_label, stated as stated_of, numbered as numbered_of, bracketed as bracketed_of, targeted as targeted_of, argued as argued_of, after_word, worded as worded_of, labelled as labelled_of, statement as statement_of, statement_line};
 
-use crate::{Class, Form, Stated, items};
-use records::Statement;
+use crate::{Stated, items};
 use records::instructions::{is_bare, is_jump, is_memory};
+use records::{Instruction, Refusal};
 
-// A line that holds no statement.
-fn none(form: Form) -> Stated
-    ensures { result ≡ no_statement form }
+// A name as a label, filled up with 0.
+#[tactic(auto, unfolding(crate::specs::Lines::is_label, crate::specs::Lines::padded, base::specs::Bytes::over))]
+fn label(name: &[u8]) -> Result<[u8; Stated::LABEL], Refusal>
+    ensures { result ≡ cond (is_label name.now) (Ok (padded name.now)) (Err Malformed) }
 {
-    Stated {
-        form,
-        label: [0; Stated::LABEL],
-        number: 0,
-        mode: 0,
-        argument: 0,
-        target: [0; Stated::LABEL],
+    if name.is_empty() || Stated::LABEL < name.len() || name[0].is_ascii_digit() {
+        return Err(Refusal::Malformed);
     }
-}
-
-// A label filled up with 0.
-fn padded(label: &[u8]) -> [u8; 16]
-    requires { length label.now < 17 }
-    ensures { result ≡ padded_of label.now }
-{
     let mut bytes = [0u8; Stated::LABEL];
-    bytes[..label.len()].copy_from_slice(label);
-    bytes
-}
-
-// Whether a name is a label.
-fn is_label(w: &[u8]) -> bool
-    ensures { result ≡ is_label w.now }
-{
-    (0 < w.len()) & (w.len() <= Stated::LABEL) & !items::is_digit(base::byte_at(w, 0))
+    bytes[..name.len()].copy_from_slice(name);
+    Ok(bytes)
 }
 
 // A statement whose argument, if it has one, is a number.
-fn stated(label: [u8; 16], number: u8, mode: u8, argument: u32) -> Stated
+#[tactic(auto, unfolding(crate::specs::Lines::stated))]
+fn stated(
+    label: [u8; Stated::LABEL],
+    number: u8,
+    mode: u8,
+    argument: u32,
+) -> Result<Stated, Refusal>
     ensures { result ≡ stated_of label number mode argument }
 {
-    if 65535 < argument {
-        return none(Form::Large);
-    }
-    Stated {
-        form: Form::Good,
+    let argument = u16::try_from(argument).map_err(|_| Refusal::Number)?;
+    Ok(Stated {
         label,
         number,
         mode,
-        argument: argument as u16,
+        argument,
         target: [0; Stated::LABEL],
-    }
+    })
 }
 
 // Number, and nothing after it.
-fn numbered(label: [u8; 16], number: u8, s: &[u8]) -> Stated
+#[tactic(auto, unfolding(crate::specs::Lines::numbered))]
+fn numbered(label: [u8; Stated::LABEL], number: u8, s: &[u8]) -> Result<Stated, Refusal>
     ensures { result ≡ numbered_of label number s.now }
 {
-    let v = items::value(s);
-    if items::is_number(s) {
-        return stated(label, number, 0, v);
-    }
-    none(Form::Malformed)
+    stated(label, number, 0, items::last_number(s)?)
 }
 
 // Number and "]", and nothing after it.
-fn bracketed(label: [u8; 16], number: u8, s: &[u8]) -> Stated
+#[tactic(auto, unfolding(crate::specs::Lines::bracketed))]
+fn bracketed(label: [u8; Stated::LABEL], number: u8, s: &[u8]) -> Result<Stated, Refusal>
     ensures { result ≡ bracketed_of label number s.now }
 {
-    let n = items::run(s, Class::Digit);
-    let whole = (0 < n) & items::ends_with(b']', items::skip(items::past(s, n)));
-    if whole {
-        return stated(label, number, 1, items::value(s));
+    let (argument, rest) = items::number(s)?;
+    if !items::ends_with(b']', items::skip(rest)) {
+        return Err(Refusal::Malformed);
     }
-    none(Form::Malformed)
+    stated(label, number, 1, argument)
 }
 
 // Label, and nothing after it.
-fn targeted(label: [u8; 16], number: u8, s: &[u8]) -> Stated
-    ensures { result ≡ targeted_of label number s.now }
+#[tactic(auto, unfolding(crate::specs::Lines::targeted))]
+fn targeted(own: [u8; Stated::LABEL], number: u8, s: &[u8]) -> Result<Stated, Refusal>
+    ensures { result ≡ targeted_of own number s.now }
 {
-    let n = items::run(s, Class::Name);
-    let w = items::front(s, n);
-    let whole = is_label(w) & items::only_blanks(items::past(s, n));
-    if whole {
-        return Stated {
-            form: Form::Good,
-            label,
-            number,
-            mode: 0,
-            argument: 0,
-            target: padded(w),
-        };
+    let (name, rest) = items::name(s);
+    let target = label(name)?;
+    if !items::only_blanks(rest) {
+        return Err(Refusal::Malformed);
     }
-    none(Form::Malformed)
+    Ok(Stated {
+        label: own,
+        number,
+        mode: 0,
+        argument: 0,
+        target,
+    })
 }
 
 // The argument, by the class of the word.
-fn argued(label: [u8; 16], number: u8, s: &[u8]) -> Stated
+#[tactic(auto, unfolding(crate::specs::Lines::argued))]
+fn argued(label: [u8; Stated::LABEL], number: u8, s: &[u8]) -> Result<Stated, Refusal>
     ensures { result ≡ argued_of label number s.now }
 {
     let first = base::byte_at(s, 0);
-    let indirect = is_memory(number) & (first == b'[');
-    if indirect {
-        return bracketed(label, number, items::skip(items::past(s, 1)));
+    if is_memory(number) && first == b'[' {
+        return bracketed(label, number, items::skip(&s[1..]));
     }
-    let named = is_jump(number) & !items::is_digit(first);
-    if named {
+    if is_jump(number) && !first.is_ascii_digit() {
         return targeted(label, number, s);
     }
     numbered(label, number, s)
 }
 
 // What follows the word.
-fn after_word(label: [u8; 16], number: u8, s: &[u8]) -> Stated
-    ensures { result ≡ after_word label number s.now }
+#[tactic(auto, unfolding(crate::specs::Lines::after_word), using(crate::proofs::Words::known))]
+fn after_word(
+    label: [u8; Stated::LABEL],
+    instruction: Instruction,
+    s: &[u8],
+) -> Result<Stated, Refusal>
+    ensures { result ≡ after_word label (number_of instruction) s.now }
 {
-    if Statement::INSTRUCTIONS <= number {
-        return none(Form::Malformed);
-    }
+    let number = instruction.number();
     if is_bare(number) {
-        if items::only_blanks(s) {
-            return stated(label, number, 0, 0);
+        if !items::only_blanks(s) {
+            return Err(Refusal::Malformed);
         }
-        return none(Form::Malformed);
+        return stated(label, number, 0, 0);
     }
-    if items::is_blank(base::byte_at(s, 0)) {
-        return argued(label, number, items::skip(s));
+    if !items::is_blank(base::byte_at(s, 0)) {
+        return Err(Refusal::Malformed);
     }
-    none(Form::Malformed)
+    argued(label, number, items::skip(s))
 }
 
 // The word and what follows it.
-fn worded(label: [u8; 16], s: &[u8]) -> Stated
+#[tactic(auto, unfolding(crate::specs::Lines::worded, crate::specs::Lines::after_word))]
+fn worded(label: [u8; Stated::LABEL], s: &[u8]) -> Result<Stated, Refusal>
     ensures { result ≡ worded_of label s.now }
 {
-    let n = items::run(s, Class::Name);
-    let number = records::instructions::number_of(items::front(s, n));
-    after_word(label, number, items::past(s, n))
+    let (word, rest) = items::name(s);
+    let instruction = Instruction::named(word).ok_or(Refusal::Malformed)?;
+    after_word(label, instruction, rest)
 }
 
 // An optional label and ":", and what follows it.
-fn labelled(s: &[u8]) -> Stated
+#[tactic(auto, unfolding(crate::specs::Lines::labelled))]
+fn labelled(s: &[u8]) -> Result<Stated, Refusal>
     ensures { result ≡ labelled_of s.now }
 {
-    let n = items::run(s, Class::Name);
-    let w = items::front(s, n);
-    let rest = items::skip(items::past(s, n));
-    if base::byte_at(rest, 0) == b':' {
-        if is_label(w) {
-            return worded(padded(w), items::skip(items::past(rest, 1)));
-        }
-        return none(Form::Malformed);
+    let (name, rest) = items::name(s);
+    match items::skip(rest) {
+        [b':', rest @ ..] => worded(label(name)?, items::skip(rest)),
+        _ => worded([0; Stated::LABEL], s),
     }
-    worded([0; Stated::LABEL], s)
 }
 
 // A line without its comment.
-fn statement(s: &[u8]) -> Stated
+#[tactic(auto, unfolding(crate::specs::Lines::statement))]
+fn statement(s: &[u8]) -> Result<Option<Stated>, Refusal>
     ensures { result ≡ statement_of s.now }
 {
     if items::only_blanks(s) {
-        return none(Form::Empty);
+        return Ok(None);
     }
-    labelled(items::skip(s))
+    labelled(items::skip(s)).map(Some)
 }
 
-// What a thread's line holds.
-pub fn statement_line(l: &[u8]) -> Stated
+// What a thread's line holds; an empty one holds nothing.
+#[tactic(auto, unfolding(crate::specs::Lines::statement_line))]
+pub fn statement_line(l: &[u8]) -> Result<Option<Stated>, Refusal>
     ensures { result ≡ statement_line l.now }
 {
-    let code = items::uncommented(l);
-    if items::is_allowed(l) {
-        return statement(code);
+    if !items::is_allowed(l) {
+        return Err(Refusal::Malformed);
     }
-    none(Form::Malformed)
+    statement(items::uncommented(l))
 }

@@ -1,28 +1,21 @@
 -- Laws of a text's lines by the places where they start. Assumes nothing.
 use Prim.Native.Nat.{ℕ, suc, ◌+◌, ◌-◌, ◌≤◌, ◌<◌}
-use mathlib.Core.Path.{◌≡◌, refl, ap, ap₂, sym, ◌∙◌}
+use mathlib.Core.Path.{◌≡◌, refl, ap, ap₂, sym, subst, ◌∙◌}
 use mathlib.Core.List.{List, [], ◌∷◌}
 use mathlib.Core.Bool.{Bool, true, false, cond}
 use native.Mathlib.Omega.{arith}
 use native.Mathlib.Decide.{dec_lt}
 use lib.Dec.{leb}
-use lib.ListN.{length, take, drop, length-drop, drop_of_length-le}
-use lib.Seq.{drop-drop}
+use lib.ListN.{length, take, drop, length-drop}
+use lib.Seq.{drop-drop, take_all}
+use native.Mathlib.Nat.{le_of_eq}
+use Rattle.std.specs.List.{slice_range}
+use Rattle.std.proofs.lemmas.List.Folds.{length-prefix_len}
 use borrow.Author.Tests.{le-leb, lt-leb}
 use Rattle.base.proofs.Choice.{chosen, passed}
 use Rattle.text_lines.specs.Characters.{is_in_line, run}
 use Rattle.text_lines.specs.Lines.{lines, extended}
-use Rattle.text_reader.specs.Readers.{line_end, next_start, line_at, lines_from}
-use Rattle.text_reader.specs.declared.Line.{Line}
-
-pub run-below : (test : ℕ → Bool) (s : List ℕ) → run test s ≤ length s
-unfolding run
-run-below test [] = omega arith
-run-below test (b ∷ s) = go (test b) refl (run-below test s)
-  where
-    go : (t : Bool) → test b ≡ t → run test s ≤ length s → cond (test b) (suc (run test s)) 0 ≤ suc (length s)
-    go true e h = rw (chosen (suc (run test s)) 0 e) (omega arith)
-    go false e h = rw (passed (suc (run test s)) 0 e) (omega arith)
+use Rattle.text_reader.specs.Readers.{lines_from}
 
 -- a bound on both sides of a comparison
 leb-suc : (a b : ℕ) → leb (suc a) (suc b) ≡ leb a b
@@ -33,9 +26,12 @@ leb-suc a b = elim (dec_lt b a) [
 
 -- the lines after the first
 pub lines-first : (s : List ℕ) → lines s ≡ take (run is_in_line s) s ∷ lines_from s (run is_in_line s + 1)
-unfolding lines run lines_from
+unfolding lines lines_from
 lines-first [] = refl
-lines-first (b ∷ s) = go (is_in_line b) refl (lines-first s)
+lines-first (b ∷ s) =
+    let one : suc (run is_in_line s) ≡ 1 + run is_in_line s = omega arith in
+    subst (λ (k : ℕ). lines (b ∷ s) ≡ take (cond (is_in_line b) k 0) (b ∷ s) ∷ lines_from (b ∷ s) (cond (is_in_line b) k 0 + 1)) one
+    (go (is_in_line b) refl (lines-first s))
   where
     go : (t : Bool) → is_in_line b ≡ t → lines s ≡ take (run is_in_line s) s ∷ cond (leb (run is_in_line s + 1) (length s)) (lines (drop (run is_in_line s + 1) s)) [] →
         cond (is_in_line b) (extended b (lines s)) ([] ∷ lines s)
@@ -63,42 +59,23 @@ from-rest s i k h =
       | no l ↦ le-leb k n (omega arith) ∙ sym (le-leb (i + k) (length s) (omega arith))
     ]
 
--- what stands at index i: a line of n bytes, or nothing past the text
-pub line-here : (s : List ℕ) (i n : ℕ) → i ≤ length s → n ≡ run is_in_line (drop i s) → line_at s i ≡ record { end = i + n; next = i + n + 1 }
-unfolding line_end next_start
-line-here s i n h e =
-    ap (λ (m : ℕ). record { end = i + run is_in_line (drop i s); next = m }) (chosen _ _ (le-leb i (length s) h))
-    ∙ ap (λ (m : ℕ). record { end = i + m; next = i + m + 1 }) (sym e)
-
-pub line-past : (s : List ℕ) (i : ℕ) → length s < i → line_at s i ≡ record { end = i; next = i }
-unfolding line_end next_start run
-line-past s i h =
-    let n : run is_in_line (drop i s) ≡ 0 = ap (run is_in_line) (drop_of_length-le s (let k : length s ≤ i = omega arith in k)) in
-    let e : i + run is_in_line (drop i s) ≡ i = omega (arith, n) in
-    ap₂ (λ (m k : ℕ). record { end = m; next = k }) e (passed _ _ (lt-leb i (length s) h))
-
--- a line that starts at index i ends in the text, and the next one starts past its LF
-abbrev pub Bounds : List ℕ → ℕ → Line → Type 0
-Bounds s i l = (i ≤ l.end) × (l.end ≤ length s) × (l.next ≡ l.end + 1)
-
-pub line_bounds : (s : List ℕ) (i : ℕ) (l : Line) → i ≤ length s → l ≡ line_at s i → Bounds s i l
-unfolding line_end next_start
-line_bounds s i l h e =
-    let b = run-below is_in_line (drop i s) in
-    let n : l.end ≡ i + run is_in_line (drop i s) = ap (λ (x : Line). x.end) e in
-    let m : l.next ≡ i + run is_in_line (drop i s) + 1 = ap (λ (x : Line). x.next) e ∙ chosen _ _ (le-leb i (length s) h) in
-    (omega (arith, n), omega (arith, n, b, length-drop i s), omega (arith, n, m))
-
 -- the line that starts at index i, and the lines after it
-pub lines_next : (s : List ℕ) (i : ℕ) (l : Line) → i ≤ length s → l ≡ line_at s i → lines_from s i ≡ take (l.end - i) (drop i s) ∷ lines_from s l.next
-unfolding lines_from line_end
-lines_next s i l h e =
+pub lines_next : (s : List ℕ) (i : ℕ) → i ≤ length s → lines_from s i ≡ take (run is_in_line (drop i s)) (drop i s) ∷ lines_from s (i + (run is_in_line (drop i s) + 1))
+unfolding lines_from
+lines_next s i h =
     let n = run is_in_line (drop i s) in
-    let at : l.end ≡ i + n = ap (λ (x : Line). x.end) e in
-    let w : n ≡ l.end - i = omega (arith, at) in
-    let k : i + (n + 1) ≡ l.next = omega (arith, at, (line_bounds s i l h e).2) in
     chosen _ _ (le-leb i (length s) h) ∙ lines-first (drop i s)
-    ∙ ap₂ (λ (m : ℕ) (ls : List (List ℕ)). take m (drop i s) ∷ ls) w (from-rest s i (n + 1) h ∙ ap (lines_from s) k)
+    ∙ ap (λ (ls : List (List ℕ)). take n (drop i s) ∷ ls) (from-rest s i (n + 1) h)
+
+-- the same, of a line that was cut out
+pub lines-given : (s : List ℕ) (i n : ℕ) (rest : List ℕ) → i ≤ length s → rest ≡ slice_range s i (length s) → n ≡ run is_in_line rest →
+    lines_from s i ≡ take n rest ∷ lines_from s (i + (length (take n rest) + 1))
+lines-given s i n rest h e f =
+    let cut : rest ≡ drop i s = e ∙ take_all (length s - i) (drop i s) (le_of_eq (length-drop i s)) in
+    let k : n ≡ run is_in_line (drop i s) = f ∙ ap (run is_in_line) cut in
+    let long : length (take n rest) ≡ run is_in_line (drop i s) = ap₂ (λ (m : ℕ) (r : List ℕ). length (take m r)) k cut ∙ length-prefix_len is_in_line (drop i s) in
+    lines_next s i h
+    ∙ ap₂ (λ (l : List ℕ) (m : ℕ). l ∷ lines_from s (i + (m + 1))) (sym (ap₂ (λ (m : ℕ) (r : List ℕ). take m r) k cut)) (sym long)
 
 pub lines_start : (s : List ℕ) → lines_from s 0 ≡ lines s
 unfolding lines_from

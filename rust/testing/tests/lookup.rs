@@ -7,20 +7,37 @@ use std::collections::{BTreeMap, BTreeSet};
 use testing::functions::{crates, functions_of, sorted, Function};
 use testing::sources::{listed, repository, text};
 
-/// What is called in Rattle itself: a slice's length.
-const BUILT_IN: [&str; 1] = ["len"];
+/// What is called in Rattle itself: methods of its library, and variants that hold a value. A closure that one is given calls what
+/// stands in it, and that is read with the function around it.
+const BUILT_IN: [&str; 14] = [
+    "binary_search_by_key",
+    "copied",
+    "from",
+    "from_le_bytes",
+    "get",
+    "iter",
+    "len",
+    "position",
+    "to_le_bytes",
+    "unwrap",
+    "unwrap_or",
+    "Err",
+    "Ok",
+    "Some",
+];
 
 /// The functions that the look-up is known to have.
-const LOOK_UP: [&str; 9] = [
+const LOOK_UP: [&str; 10] = [
     "base::byte_at",
     "base::word_at",
     "decoding::cell_of",
     "evaluation::behind",
     "evaluation::first",
     "evaluation::formula",
-    "evaluation::operand",
     "evaluation::search",
     "evaluation::value",
+    "table::formula_at",
+    "table::record",
 ];
 
 /// Each crate with itself and those that crates.txt lists for it: only their functions can be called.

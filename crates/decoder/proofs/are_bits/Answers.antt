@@ -1,20 +1,19 @@
 -- `decoder::are_bits` meets its contract. Assumes nothing.
-use Rattle.std.proofs.Common.{refl, arith, get_or, le-ltb, lt-ltb, ltb, rules, sym, ◌≡◌}
+use Rattle.std.proofs.Common.{◌≡◌, ◌<◌, ◌≤◌, ℕ, Bool, true, false, List, length, get_or, arith, rules, ltb, lt-ltb, le-ltb, sym}
+use Rattle.std.specs.Bool.{MatchBool}
+use Rattle.std.specs.List.{HoldsAt, AllWithin}
+use borrow.Author.Tests.{tests}
+use Rattle.std.proofs.lemmas.Iterator.{cases_from_all, YieldsList-from_slice}
 use Rattle.base.specs.Below.{every}
-use Rattle.base.proofs.Below.{every_more, every-not}
+use Rattle.base.proofs.Below.{every-all, every-not}
 use Rattle.decoder.proofs.are_bits.Goals as goal
 
-pub loop-i-init : goal.loop-i-init
-unfolding every
-loop-i-init c = (search rules, refl)
-
-pub returns-then-model-i-ge2 : goal.returns-then-model-i-ge2
-returns-then-model-i-ge2 c = let a = c.args in
-    sym (every-not (λ j. ltb (get_or a.model.now j 0) 2) a.n c.loop-i.i c.loop-i-test.true (le-ltb _ _ c.if-model-i-ge2.true))
-
-pub loop-i-preserved : goal.loop-i-preserved
-loop-i-preserved c = let a = c.args in
-    (search rules, every_more (λ j. ltb (get_or a.model.now j 0) 2) c.loop-i.i c.loop-i.invariant.1 (lt-ltb _ _ c.if-model-i-ge2.false))
+by_cases : (r : Bool) (xs : List ℕ) → MatchBool r (AllWithin (λ x. x < 2) xs 0 (length xs)) ((k : ℕ) × (k < length xs) × HoldsAt (λ x. 2 ≤ x) xs k) →
+    r ≡ every (length xs) (λ i. ltb (get_or xs i 0) 2)
+by_cases true xs h = sym (every-all (λ i. ltb (get_or xs i 0) 2) (length xs) (λ i l. lt-ltb _ _ (h i 0 (omega arith) l)))
+by_cases false xs h = sym (every-not (λ i. ltb (get_or xs i 0) 2) (length xs) h.0 h.1 (le-ltb _ _ (h.2 0)))
 
 pub returns : goal.returns
-returns c = let e : c.loop-i.i ≡ c.args.n = omega arith in sym (rw e at c.loop-i.invariant.1)
+returns c =
+    let xs = c.args.bytes.now in
+    by_cases _ xs (cases_from_all _ _ _ (λ x. x < 2) (λ x. 2 ≤ x) c.all.ensures.ran (YieldsList-from_slice xs cc) (λ x q k. search (rules, tests)) (λ x q k. search (rules, tests)))

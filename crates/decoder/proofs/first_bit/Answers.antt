@@ -1,21 +1,25 @@
 -- `decoder::first_bit` meets its contract. Assumes nothing.
-use Rattle.std.proofs.Common.{refl, arith, eq-eqb, eqb, get_or, ne_eqb, rules, sym, ◌+◌, ◌∙◌, ◌≡◌}
+use Rattle.std.proofs.Common.{◌≡◌, ◌+◌, ◌<◌, ◌≤◌, ℕ, Bool, Option, Some, None, true, false, eqb, get_or, arith, rules, sym, ap, ◌∙◌, lt-ltb, le-ltb}
+use Rattle.std.specs.Option.{MatchOption}
+use borrow.Author.Tests.{tests}
+use Rattle.std.proofs.lemmas.Iterator.{first_from_Range}
 use Rattle.base.specs.Below.{least}
-use Rattle.base.proofs.Below.{least_more, least-hit}
+use Rattle.base.proofs.Below.{least-hit, least-none}
+use Rattle.base.proofs.Choice.{chosen, passed}
+use Rattle.decoding.specs.Lookups.{first_of}
 use Rattle.decoder.proofs.first_bit.Goals as goal
 
-pub loop-j-init : goal.loop-j-init
-unfolding least
-loop-j-init c = (search rules, refl)
-
-pub returns-then-byte_at-eq1 : goal.returns-then-byte_at-eq1
-returns-then-byte_at-eq1 c = let a = c.args in let l = c.loop-j in
-    sym (least-hit (λ i. eqb (get_or a.model.now (a.at + i) 0) 1) a.n l.j l.invariant.1 (eq-eqb _ _ (sym c.byte_at.ensures ∙ c.if-byte_at-eq1.true)) c.loop-j-test.true)
-
-pub loop-j-preserved : goal.loop-j-preserved
-loop-j-preserved c = let a = c.args in let l = c.loop-j in
-    (search rules, least_more (λ i. eqb (get_or a.model.now (a.at + i) 0) 1) l.j l.invariant.1 (ne_eqb _ _ (λ e. c.if-byte_at-eq1.false (c.byte_at.ensures ∙ e))))
+by_cases : (test : ℕ → Bool) (n : ℕ) (r : Option ℕ) →
+    MatchOption r ((k : ℕ) → 0 ≤ k → k < n → test k ≡ false) (λ i. (0 ≤ i) × (i < n) × (test i ≡ true) × ((k : ℕ) → 0 ≤ k → k < i → test k ≡ false)) → r ≡ first_of n test
+by_cases test n None h =
+    let e = least-none test n (λ k l. h k (omega arith) l) in
+    sym (passed _ _ (le-ltb (least n test) n (omega (arith, e))))
+by_cases test n (Some i) h =
+    let e = least-hit test n i (least-none test i (λ k l. h.3 k (omega arith) l)) h.2 h.1 in
+    ap Some (sym e) ∙ sym (chosen _ _ (lt-ltb (least n test) n (omega (arith, e, h.1))))
 
 pub returns : goal.returns
-returns c = let a = c.args in let l = c.loop-j in let e : l.j ≡ a.n = omega arith in
-    sym (rw e at l.invariant.1)
+returns c =
+    let a = c.args in
+    by_cases (λ j. eqb (get_or a.model.now (a.at + j) 0) 1) a.n c.find.result
+    (first_from_Range _ _ _ c.find.result (λ j. eqb (get_or a.model.now (a.at + j) 0) 1 ≡ true) (λ j. eqb (get_or a.model.now (a.at + j) 0) 1 ≡ false) c.find.ensures.ran (λ x q k. search (rules, tests)) (λ x q k. search (rules, tests)))

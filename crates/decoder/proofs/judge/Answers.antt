@@ -1,5 +1,8 @@
 -- `decoder::judge` meets its contract. Assumes nothing.
-use Rattle.std.proofs.Common.{le-ltb, length, lt-ltb, refl, rules, sym, ◌∙◌, ◌≤◌}
+use Rattle.std.proofs.Common.{Err, le-ltb, length, lt-ltb, refl, rules, sym, ◌∙◌, ◌≡◌, ◌≤◌}
+use mathlib.Core.Path.{subst⁻¹}
+use Rattle.records.specs.declared.refusals.Refused.{Refused}
+use Rattle.decoder.specs.Answers.{model_answer, work_after}
 use Rattle.decoder.proofs.Judged.{unfit, short, decided}
 use Rattle.decoder.proofs.Sized.{sized}
 use Rattle.base.proofs.Choice.{chosen, passed}
@@ -10,10 +13,12 @@ overflow_cast-bound c = let a = c.args in let p : a.bound ≤ 64 = (sized a.set.
 
 pub returns-then-not-model_fits : goal.returns-then-not-model_fits
 returns-then-not-model_fits c = let a = c.args in
+    subst⁻¹ (λ (r : Refused). (Err r ≡ model_answer a.set.now a.map.now a.bound a.model.now (length a.work.now)) × (a.work.now ≡ work_after {A = Unit {0}} (Err r) a.work.now)) c.into.ensures
     (unfit a.set.now a.map.now a.bound a.n c.requires.0 a.model.now a.threads c.requires.1 (length a.work.now) (sym c.model_fits.ensures ∙ c.if-not-model_fits.true), refl)
 
 pub returns-then-work-n : goal.returns-then-work-n
 returns-then-work-n c = let a = c.args in
+    subst⁻¹ (λ (r : Refused). (Err r ≡ model_answer a.set.now a.map.now a.bound a.model.now (length a.work.now)) × (a.work.now ≡ work_after {A = Unit {0}} (Err r) a.work.now)) c.into-then-work-n.ensures
     (short a.set.now a.map.now a.bound a.n c.requires.0 a.model.now a.threads c.requires.1 (length a.work.now) (sym c.model_fits.ensures ∙ c.if-not-model_fits.false) c.if-work-n.true, refl)
 
 pub false_record-index-requires : goal.false_record-index-requires

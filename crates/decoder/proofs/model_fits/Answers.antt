@@ -1,27 +1,41 @@
 -- `decoder::model_fits` meets its contract. Assumes nothing.
-use Rattle.std.proofs.Common.{Bool, ap, arith, drop, le-leb, leb, length, length-drop, rules, sym, take_all, ◌&&◌, ◌*◌, ◌-◌, ◌<◌, ◌∙◌}
-use Rattle.decoding.specs.Models.{model_fits, bits}
+use Rattle.std.proofs.Common.{◌≡◌, ◌≤◌, ◌<◌, ◌&&◌, ℕ, Bool, zero, suc, true, false, List, length, get_or, take, drop, ltb, leb, ap, ap₂, sym, ◌∙◌, refl, subst, arith, length-take-le, le-leb}
+use Rattle.std.proofs.lemmas.List.{get_or-take}
+use Rattle.base.specs.Below.{every}
 use Rattle.records.specs.Maps.{map_accepted, run_cells}
-use Rattle.base.proofs.Factors.{product_below}
-use Rattle.base.proofs.Choice.{and_true, and_false, and_right_false}
-use borrow.Author.Tests.{lt-leb}
+use Rattle.decoding.specs.Models.{bits, model_fits}
 use Rattle.decoder.proofs.model_fits.Goals as goal
 
-pub overflow_mul-bits-2 : goal.overflow_mul-bits-2
-overflow_mul-bits-2 c = let a = c.args in let p : 2 * a.threads * a.bound < 4294967296 = product_below 16 {a = 2 * a.threads} {b = a.bound} (search rules) (search rules) in search rules
+every_ext : (f g : ℕ → Bool) (n : ℕ) → ((k : ℕ) → k < n → f k ≡ g k) → every n f ≡ every n g
+unfolding every
+every_ext f g zero e = refl
+every_ext f g (suc n) e = ap₂ (λ (a b : Bool). a && b) (every_ext f g n (λ k h. e k (omega arith))) (e n (omega arith))
 
-pub returns-then-model-bits : goal.returns-then-model-bits
+-- the first n bytes are bits, by themselves and in the whole
+bits-there : (model : List ℕ) (n : ℕ) → n ≤ length model → every (length (take n model)) (λ i. ltb (get_or (take n model) i 0) 2) ≡ every n (λ i. ltb (get_or model i 0) 2)
+bits-there model n h =
+    ap (λ (m : ℕ). every m (λ i. ltb (get_or (take n model) i 0) 2)) (length-take-le n model h)
+    ∙ every_ext (λ i. ltb (get_or (take n model) i 0) 2) (λ i. ltb (get_or model i 0) 2) n (λ i l. ap (λ (v : ℕ). ltb v 2) (get_or-take n model i 0 l))
+
+-- the test by its two parts
+fits_by : (threads bound : ℕ) (model : List ℕ) (n : ℕ) (front back : List ℕ) (t : Bool) → n ≡ bits threads bound → n ≤ length model →
+    front ≡ take n model → back ≡ drop n model → t ≡ every (length front) (λ i. ltb (get_or front i 0) 2) →
+    (t && map_accepted run_cells back) ≡ model_fits threads bound model
 unfolding model_fits
-returns-then-model-bits c = sym (and_false _ (and_false _ (lt-leb _ _ c.if-model-bits.true)))
+fits_by threads bound model n front back t e l f b q =
+    let there : t ≡ every (bits threads bound) (λ i. ltb (get_or model i 0) 2)
+    = q ∙ ap (λ (xs : List ℕ). every (length xs) (λ i. ltb (get_or xs i 0) 2)) f ∙ bits-there model n l ∙ ap (λ (m : ℕ). every m (λ i. ltb (get_or model i 0) 2)) e in
+    let long : true ≡ leb (bits threads bound) (length model) = sym (le-leb _ _ (subst (λ (m : ℕ). m ≤ length model) e l)) in
+    ap₂ (λ (x : Bool) (xs : List ℕ). x && map_accepted run_cells xs) (ap₂ (λ (x y : Bool). x && y) long there) (b ∙ ap (λ (m : ℕ). drop m model) e)
 
 pub returns-then-are_bits : goal.returns-then-are_bits
-unfolding model_fits
-returns-then-are_bits c = let a = c.args in let s = a.model.now in let n = bits a.threads a.bound in
-    c.map_accepted.ensures
-    ∙ (ap (map_accepted run_cells) (take_all (length s - n) (drop n s) (let e = length-drop n s in omega arith))
-    ∙ sym (ap (λ (b : Bool). b && map_accepted run_cells (drop n s)) (and_true (le-leb _ _ c.if-model-bits.false) (sym c.are_bits.ensures ∙ c.if-are_bits.true))))
+returns-then-are_bits c =
+    let a = c.args in
+    let h = c.in-Some.ensures.cases in
+    c.map_accepted.ensures ∙ fits_by a.threads a.bound a.model.now _ _ _ true c.bits.ensures h.0 h.1 h.2 (sym c.if-are_bits.true ∙ c.are_bits.ensures)
 
-pub returns : goal.returns
-unfolding model_fits
-returns c = let a = c.args in
-    sym (and_false _ (and_right_false (leb (bits a.threads a.bound) (length a.model.now)) (sym c.are_bits.ensures ∙ c.if-are_bits.false)))
+pub returns-else-are_bits : goal.returns-else-are_bits
+returns-else-are_bits c =
+    let a = c.args in
+    let h = c.in-Some.ensures.cases in
+    c.if-are_bits.false ∙ fits_by a.threads a.bound a.model.now _ _ _ false c.bits.ensures h.0 h.1 h.2 (sym c.if-are_bits.false ∙ c.are_bits.ensures)

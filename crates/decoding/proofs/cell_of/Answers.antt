@@ -1,29 +1,25 @@
 -- `decoding::cell_of` meets its contract. Assumes nothing.
-use Rattle.std.proofs.Common.{refl, ap, arith, ne_eqb, rules, sym, true, ℕ, ◌∙◌}
-use Rattle.base.specs.Below.{least}
-use Rattle.base.proofs.Below.{least_more}
-use Rattle.decoding.specs.declared.Known.{Known}
-use Rattle.decoding.proofs.Lookups.{found-cell, no_cell_lem}
+use Rattle.std.proofs.Common.{◌≡◌, List, [], ℕ, Some, None, eqb, get_or, ap, ◌∙◌, rules, subst}
+use borrow.Author.Tests.{tests}
+use Rattle.std.proofs.lemmas.Iterator.{YieldsList-from_slice}
+use Rattle.std.proofs.lemmas.Iterator.Search.{position_from_yields_List}
+use Rattle.base.specs.Bytes.{word_at}
+use Rattle.decoding.specs.Lookups.{cell_of}
+use Rattle.decoding.proofs.Chunks.{chunks, SaysCell, cell_found}
 use Rattle.decoding.proofs.cell_of.Goals as goal
 
-pub loop-k-init : goal.loop-k-init
-unfolding least
-loop-k-init c = (omega arith, search rules, refl)
-
-pub returns-then-word_at-a : goal.returns-then-word_at-a
-returns-then-word_at-a c =
-    let l = c.loop-k in
+pub returns-in_err-k : goal.returns-in_err-k
+returns-in_err-k c =
     let a = c.args in
-    ap {B = Known} (λ (v : ℕ). record { known = true; value = v }) c.word_at-value.ensures
-    ∙ found-cell a.map.now a.a l.k l.invariant.2 c.loop-k-test.true (sym c.word_at.ensures ∙ c.if-word_at-a.true)
-
-pub loop-k-preserved : goal.loop-k-preserved
-loop-k-preserved c =
-    let l = c.loop-k in
-    (search rules, l.invariant.1, least_more _ _ l.invariant.2 (ne_eqb _ _ (λ e. c.if-word_at-a.false (c.word_at.ensures ∙ e))))
+    let m = a.map.now in
+    let found = position_from_yields_List (λ (c : List ℕ). eqb (word_at c 0) a.a) _ _ c.position.result c.position.ensures.ran (YieldsList-from_slice (chunks m) cc) (λ x b q k. search (rules, tests)) in
+    let none : None ≡ cell_of m a.a = subst (SaysCell m a.a) c.in_err-k.was (cell_found m a.a _ found) in
+    cc
 
 pub returns : goal.returns
 returns c =
-    let l = c.loop-k in
     let a = c.args in
-    no_cell_lem a.map.now a.a l.k l.invariant.2 (omega (arith, l.invariant.0, l.invariant.1, c.loop-k-test.false))
+    let m = a.map.now in
+    let found = position_from_yields_List (λ (c : List ℕ). eqb (word_at c 0) a.a) _ _ c.position.result c.position.ensures.ran (YieldsList-from_slice (chunks m) cc) (λ x b q k. search (rules, tests)) in
+    let some : Some (word_at (get_or (chunks m) c.in_ok-k.k []) 2) ≡ cell_of m a.a = subst (SaysCell m a.a) c.in_ok-k.was (cell_found m a.a _ found) in
+    ap Some c.word_at.ensures ∙ ap (λ (cells : List (List ℕ)). Some (word_at (get_or cells c.in_ok-k.k []) 2)) c.as_chunks.ensures.front ∙ some

@@ -1,5 +1,5 @@
 -- `encoder::all_steps` meets its contract. Assumes nothing.
-use Rattle.std.proofs.Common.{arith, refl}
+use Rattle.std.proofs.Common.{arith, refl, rules, ◌≡◌}
 use Rattle.records.specs.Sets.{set_by}
 use Rattle.table.specs.Programs.{upto}
 use Rattle.encoding.specs.Slots.{code}
@@ -17,8 +17,9 @@ later_steps-requires c =
     let S = set_by a.set.now a.layout in
     let cs = listed a.points in
     let start = place_of a.slots.now in
-    let f = c.few_steps-second in
-    let w = f.ensures.0 in
+    let f = c.few_steps-own in
+    let two : c.min.result ≡ 2 = search rules in
+    let w = rw two at f.ensures.0 in
     let few = f.ensures.1 in
     let next = w.stepped.next in
     let below = program-below (upto (step S cs) 2) start a.first p.0.below in (
@@ -31,9 +32,17 @@ later_steps-requires c =
       (let e = w.word_zero_is in let l = below word0 in omega arith),
     )
 
-pub returns : goal.returns
-returns c =
+pub returns-then-bound-le2 : goal.returns-then-bound-le2
+returns-then-bound-le2 c =
+    let all : c.min.result ≡ c.args.bound = search rules in
+    let f = c.few_steps-own in
+    let few = f.ensures.1 in
+    (rw all at f.ensures.0, omega arith)
+
+pub returns-else-bound-le2 : goal.returns-else-bound-le2
+returns-else-bound-le2 c =
     let a = c.args in
     let p = c.requires in
     let l = c.later_steps.ensures in
-    (l.0 (set_by a.set.now a.layout) (listed a.points) (place_of a.slots.now) a.out.now refl p.0.below p.3 c.few_steps-second.ensures.0, l.1)
+    let two : c.min.result ≡ 2 = search rules in
+    (l.0 (set_by a.set.now a.layout) (listed a.points) (place_of a.slots.now) a.out.now refl p.0.below p.3 (rw two at c.few_steps-own.ensures.0), l.1)

@@ -8,11 +8,6 @@ use Rattle.set_index.specs.Points.{listed}
 use Rattle.encoder_slots.proofs.Pieces.{writes-++}
 use Rattle.encoder.proofs.before_steps.Goals as goal
 
-pub demands-requires : goal.demands-requires
-demands-requires c =
-    let most = c.shared-all.ensures.1 in
-    (omega arith, c.requires)
-
 pub returns : goal.returns
 returns c =
     let a = c.args in

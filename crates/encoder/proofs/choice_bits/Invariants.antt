@@ -10,7 +10,4 @@ bit threads step j = leaf_formula (cond (ltb j threads) (choice_bit step 0 j) (c
 
 abbrev pub invariant-loop-j : goal.invariant-loop-j
 invariant-loop-j l =
-    (l.j ≤ l.count) × (l.count ≤ 8) × (length l.out ≡ length l.initial.out) × (l.out ≡ written_at l.initial.out l.n (upto (λ i. bit l.threads l.step i ∷ []) l.j))
-
-abbrev pub decreases-loop-j : goal.decreases-loop-j
-decreases-loop-j l = l.count - l.j
+    (l.j-end ≤ 8) × (length l.out ≡ length l.initial.out) × (l.out ≡ written_at l.initial.out l.n (upto (λ i. bit l.threads l.step i ∷ []) l.j))

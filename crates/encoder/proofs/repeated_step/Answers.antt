@@ -7,4 +7,4 @@ pub returns : goal.returns
 returns c S cs start begun s late room w =
     let a = c.args in
     repeated-next S cs start a.threads a.first a.stride s a.k late begun a.out.now _ _ a.n w
-    c.choice_bits.ensures c.repeat.ensures room (omega arith)
+    c.choice_bits.ensures (rw c.from-bits.ensures at c.repeat.ensures) room (omega arith)

@@ -1,14 +1,12 @@
 -- `encoder::steps` meets its contract. Assumes nothing.
-use Rattle.std.proofs.Common.{arith, refl, rules, subst, ℕ, ◌+◌, ◌≡◌, ◌≤◌}
+use Rattle.std.proofs.Common.{arith, refl, rules, ◌+◌, ◌≤◌}
 use Rattle.set_index.specs.Points.{listed}
 use Rattle.encoder_slots.proofs.Idle.{idle-step}
 use Rattle.encoding.specs.Steps.{step}
-use Rattle.table.specs.Programs.{upto}
 use Rattle.records.specs.Sets.{set_by}
 use Rattle.encoder_step.specs.Entries.{step_room}
 use Rattle.encoder_slots.proofs.Ready.{ready-after}
 use Rattle.encoder_slots.proofs.Pieces.{writes-row, writes_more}
-use Rattle.encoder_slots.specs.Pieces.{Writes}
 use Rattle.table.specs.Repeats.{last_index}
 use Rattle.encoder.proofs.steps.Goals as goal
 
@@ -16,7 +14,7 @@ pub loop-k-init : goal.loop-k-init
 loop-k-init c =
     let a = c.args in
     let l = c.requires.0 in
-    (omega arith, omega arith, omega arith, refl, refl, l, writes-row (step (set_by a.set.now a.layout) (listed a.points)) a.out.now a.slots.now a.n)
+    (omega arith, omega arith, refl, refl, l, writes-row (step (set_by a.set.now a.layout) (listed a.points)) a.out.now a.slots.now a.n)
 
 pub loop-k-preserved : goal.loop-k-preserved
 loop-k-preserved c =
@@ -26,25 +24,15 @@ loop-k-preserved c =
     let f = step (set_by a.set.now a.layout) (listed a.points) in
     let q = c.requires in
     let little = q.1 in
-    let most = l.invariant.1 in
-    let so_far = l.invariant.2 in
+    let most = l.invariant.0 in
+    let so_far = l.invariant.1 in
     let room : l.next + step_room ≤ last_index = omega arith in
     let more = r.ensures.1 in
-    let w = r.ensures.0 l.invariant.5 room in (
-      omega arith,
-      l.invariant.1,
+    let w = r.ensures.0 l.invariant.4 room in (
+      l.invariant.0,
       omega arith,
       search rules,
       search rules,
-      ready-after (f l.k) (idle-step (set_by a.set.now a.layout) (listed a.points) l.k) w l.invariant.5,
-      writes_more f l.k a.out.now a.slots.now a.n _ _ _ _ _ _ l.invariant.6 w,
-    )
-
-pub returns : goal.returns
-returns c =
-    let a = c.args in
-    let l = c.loop-k in
-    let k-is : l.k ≡ a.bound = omega arith in (
-      subst (λ (j : ℕ). Writes (upto (step (set_by a.set.now a.layout) (listed a.points)) j) a.out.now a.slots.now a.n l.out l.slots l.next) k-is l.invariant.6,
-      omega arith,
+      ready-after (f l.k) (idle-step (set_by a.set.now a.layout) (listed a.points) l.k) w l.invariant.4,
+      writes_more f l.k a.out.now a.slots.now a.n _ _ _ _ _ _ l.invariant.5 w,
     )

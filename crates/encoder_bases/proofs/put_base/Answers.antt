@@ -1,209 +1,200 @@
 -- `encoder_bases::put_base` meets its contract. Assumes nothing.
-use Rattle.std.proofs.Common.{ap, refl, ◌∙◌}
+use Rattle.std.proofs.Common.{ap, refl}
+use Rattle.encoder_slots.specs.Kinds.{number_of}
 use Rattle.encoder_slots.specs.Places.{place_of}
-use Rattle.encoding.specs.Steps.{base as base_of}
-use Rattle.encoding.specs.Slots.{Kind, kinds, choice, shut, flush_to, write_to, flush_value, write_value, raised, exits, codes, val, adr, mem, accu, halted, mark, halts, ended, code, bit_zero, bit_one, word_zero, kind_number, barred, full, held, may_execute, none, one_permitted, opening, permitted_first, shared_memory, waits, word_one}
+use Rattle.encoding.specs.Slots.{kinds, slot, choice, shut, flush_to, write_to, flush_value, write_value, raised, exits, codes, val, adr, mem, accu, halted, mark, halts, ended, code, bit_zero, bit_one, word_zero, kind_number, barred, full, held, may_execute, none, one_permitted, opening, permitted_first, shared_memory, waits, word_one}
 use Rattle.table.specs.Programs.{and2, or2}
-use Rattle.encoder_bases.proofs.Given.{with_threads, puts_as, puts_base, kind_past, kind_other}
+use Rattle.encoder_bases.proofs.Given.{puts_base}
 use Rattle.encoder_bases.proofs.put_base.Goals as goal
 
-pub returns-in-0 : goal.returns-in-0
+pub returns-in-Choice : goal.returns-in-Choice
 unfolding kinds
-returns-in-0 c =
+returns-in-Choice c =
     let a = c.args in
-    (λ S cs same other flagless h. puts_base S cs a.threads a.step a.a a.b a.kind (kind_number choice) same c.in-0.is (c.put_choice.ensures.0 (place_of a.slots.now)), c.put_choice.ensures.1)
+    (λ S cs same other flagless h. puts_base S cs a.threads a.step a.a a.b (number_of a.kind) (kind_number choice) same (ap number_of c.in-Choice.is) (c.put_choice.ensures.0 (place_of a.slots.now)), c.put_choice.ensures.1)
 
-pub returns-in-2 : goal.returns-in-2
+pub returns-in-Opening : goal.returns-in-Opening
 unfolding kinds
-returns-in-2 c =
+returns-in-Opening c =
     let a = c.args in
-    (λ S cs same other flagless h. puts_base S cs a.threads a.step a.a a.b a.kind (kind_number opening) same c.in-2.is (c.put_none.ensures.0 a.n bit_one a.out.now refl refl), c.put_none.ensures.1)
+    (λ S cs same other flagless h. puts_base S cs a.threads a.step a.a a.b (number_of a.kind) (kind_number opening) same (ap number_of c.in-Opening.is) (c.put_none.ensures.0 a.n bit_one a.out.now refl refl), c.put_none.ensures.1)
 
-pub returns-in-3 : goal.returns-in-3
+pub returns-in-Shut : goal.returns-in-Shut
 unfolding kinds
-returns-in-3 c =
+returns-in-Shut c =
     let a = c.args in
-    (λ S cs same other flagless h. puts_base S cs a.threads a.step a.a a.b a.kind (kind_number shut) same c.in-3.is c.put_shut.ensures.0, c.put_shut.ensures.1)
+    (λ S cs same other flagless h. puts_base S cs a.threads a.step a.a a.b (number_of a.kind) (kind_number shut) same (ap number_of c.in-Shut.is) c.put_shut.ensures.0, c.put_shut.ensures.1)
 
-pub returns-in-4 : goal.returns-in-4
+pub returns-in-Barred : goal.returns-in-Barred
 unfolding kinds
-returns-in-4 c =
+returns-in-Barred c =
     let a = c.args in
-    (λ S cs same other flagless h. puts_base S cs a.threads a.step a.a a.b a.kind (kind_number barred) same c.in-4.is (c.put_none-in-4.ensures.0 a.n bit_zero a.out.now refl refl), c.put_none-in-4.ensures.1)
+    (λ S cs same other flagless h. puts_base S cs a.threads a.step a.a a.b (number_of a.kind) (kind_number barred) same (ap number_of c.in-Barred.is) (c.put_none-in-Barred.ensures.0 a.n bit_zero a.out.now refl refl), c.put_none-in-Barred.ensures.1)
 
-pub returns-in-5 : goal.returns-in-5
+pub returns-in-Held : goal.returns-in-Held
 unfolding kinds
-returns-in-5 c =
+returns-in-Held c =
     let a = c.args in
-    (λ S cs same other flagless h. puts_base S cs a.threads a.step a.a a.b a.kind (kind_number held) same c.in-5.is (c.put_joined.ensures.0 and2 mark shut refl refl refl refl refl refl), c.put_joined.ensures.1)
+    (λ S cs same other flagless h. puts_base S cs a.threads a.step a.a a.b (number_of a.kind) (kind_number held) same (ap number_of c.in-Held.is) (c.put_binary.ensures.0 (place_of a.slots.now) and2 (slot mark a.a a.b) (slot shut 0 a.b) refl refl c.place-mark.ensures c.place-shut.ensures), c.put_binary.ensures.1)
 
-pub returns-in-6 : goal.returns-in-6
+pub returns-in-Waits : goal.returns-in-Waits
 unfolding kinds
-returns-in-6 c =
+returns-in-Waits c =
     let a = c.args in
-    (λ S cs same other flagless h. puts_base S cs a.threads a.step a.a a.b a.kind (kind_number waits) same c.in-6.is (c.put_none-in-6.ensures.0 a.n halted a.out.now refl refl), c.put_none-in-6.ensures.1)
+    (λ S cs same other flagless h. puts_base S cs a.threads a.step a.a a.b (number_of a.kind) (kind_number waits) same (ap number_of c.in-Waits.is) (c.put_none-in-Waits.ensures.0 a.n halted a.out.now refl refl), c.put_none-in-Waits.ensures.1)
 
-pub returns-in-7 : goal.returns-in-7
+pub returns-in-MayExecute : goal.returns-in-MayExecute
 unfolding kinds
-returns-in-7 c =
+returns-in-MayExecute c =
     let a = c.args in
-    (λ S cs same other flagless h. puts_base S cs a.threads a.step a.a a.b a.kind (kind_number may_execute) same c.in-7.is (c.put_may_execute.ensures.0 h), c.put_may_execute.ensures.1)
+    (λ S cs same other flagless h. puts_base S cs a.threads a.step a.a a.b (number_of a.kind) (kind_number may_execute) same (ap number_of c.in-MayExecute.is) (c.put_may_execute.ensures.0 h), c.put_may_execute.ensures.1)
 
-pub returns-in-8 : goal.returns-in-8
+pub returns-in-None : goal.returns-in-None
 unfolding kinds
-returns-in-8 c =
+returns-in-None c =
     let a = c.args in
-    (λ S cs same other flagless h. puts_base S cs a.threads a.step a.a a.b a.kind (kind_number none) same c.in-8.is c.put_none_before.ensures.0, c.put_none_before.ensures.1)
+    (λ S cs same other flagless h. puts_base S cs a.threads a.step a.a a.b (number_of a.kind) (kind_number none) same (ap number_of c.in-None.is) c.put_none_before.ensures.0, c.put_none_before.ensures.1)
 
-pub returns-in-9 : goal.returns-in-9
+pub returns-in-PermittedFirst : goal.returns-in-PermittedFirst
 unfolding kinds
-returns-in-9 c =
+returns-in-PermittedFirst c =
     let a = c.args in
-    (λ S cs same other flagless h. puts_base S cs a.threads a.step a.a a.b a.kind (kind_number permitted_first) same c.in-9.is c.put_permitted_first.ensures.0, c.put_permitted_first.ensures.1)
+    (λ S cs same other flagless h. puts_base S cs a.threads a.step a.a a.b (number_of a.kind) (kind_number permitted_first) same (ap number_of c.in-PermittedFirst.is) c.put_permitted_first.ensures.0, c.put_permitted_first.ensures.1)
 
-pub returns-in-10 : goal.returns-in-10
+pub returns-in-OnePermitted : goal.returns-in-OnePermitted
 unfolding kinds
-returns-in-10 c =
+returns-in-OnePermitted c =
     let a = c.args in
-    (λ S cs same other flagless h. puts_base S cs a.threads a.step a.a a.b a.kind (kind_number one_permitted) same c.in-10.is (c.put_none-in-10.ensures.0 a.n bit_zero a.out.now refl refl), c.put_none-in-10.ensures.1)
+    (λ S cs same other flagless h. puts_base S cs a.threads a.step a.a a.b (number_of a.kind) (kind_number one_permitted) same (ap number_of c.in-OnePermitted.is) (c.put_none-in-OnePermitted.ensures.0 a.n bit_zero a.out.now refl refl), c.put_none-in-OnePermitted.ensures.1)
 
-pub returns-in-17 : goal.returns-in-17
+pub returns-in-FlushTo : goal.returns-in-FlushTo
 unfolding kinds
-returns-in-17 c =
+returns-in-FlushTo c =
     let a = c.args in
-    (λ S cs same other flagless h. puts_base S cs a.threads a.step a.a a.b a.kind (kind_number flush_to) same c.in-17.is (c.put_none-in-17.ensures.0 a.n word_zero a.out.now refl refl), c.put_none-in-17.ensures.1)
+    (λ S cs same other flagless h. puts_base S cs a.threads a.step a.a a.b (number_of a.kind) (kind_number flush_to) same (ap number_of c.in-FlushTo.is) (c.put_none-in-FlushTo.ensures.0 a.n word_zero a.out.now refl refl), c.put_none-in-FlushTo.ensures.1)
 
-pub returns-in-18 : goal.returns-in-18
+pub returns-in-WriteTo : goal.returns-in-WriteTo
 unfolding kinds
-returns-in-18 c =
+returns-in-WriteTo c =
     let a = c.args in
-    (λ S cs same other flagless h. puts_base S cs a.threads a.step a.a a.b a.kind (kind_number write_to) same c.in-18.is (c.put_previous.ensures.0 a.n write_to flush_to a.out.now refl refl refl refl), c.put_previous.ensures.1)
+    (λ S cs same other flagless h. puts_base S cs a.threads a.step a.a a.b (number_of a.kind) (kind_number write_to) same (ap number_of c.in-WriteTo.is) (c.put_previous.ensures.0 a.n write_to flush_to a.out.now refl refl refl refl), c.put_previous.ensures.1)
 
-pub returns-in-19 : goal.returns-in-19
+pub returns-in-FlushValue : goal.returns-in-FlushValue
 unfolding kinds
-returns-in-19 c =
+returns-in-FlushValue c =
     let a = c.args in
-    (λ S cs same other flagless h. puts_base S cs a.threads a.step a.a a.b a.kind (kind_number flush_value) same c.in-19.is c.put_flush_value.ensures.0, c.put_flush_value.ensures.1)
+    (λ S cs same other flagless h. puts_base S cs a.threads a.step a.a a.b (number_of a.kind) (kind_number flush_value) same (ap number_of c.in-FlushValue.is) c.put_flush_value.ensures.0, c.put_flush_value.ensures.1)
 
-pub returns-in-20 : goal.returns-in-20
+pub returns-in-WriteValue : goal.returns-in-WriteValue
 unfolding kinds
-returns-in-20 c =
+returns-in-WriteValue c =
     let a = c.args in
-    (λ S cs same other flagless h. puts_base S cs a.threads a.step a.a a.b a.kind (kind_number write_value) same c.in-20.is (c.put_previous-in-20.ensures.0 a.n write_value flush_value a.out.now refl refl refl refl), c.put_previous-in-20.ensures.1)
+    (λ S cs same other flagless h. puts_base S cs a.threads a.step a.a a.b (number_of a.kind) (kind_number write_value) same (ap number_of c.in-WriteValue.is) (c.put_previous-in-WriteValue.ensures.0 a.n write_value flush_value a.out.now refl refl refl refl), c.put_previous-in-WriteValue.ensures.1)
 
-pub returns-in-21 : goal.returns-in-21
+pub returns-in-Raised : goal.returns-in-Raised
 unfolding kinds
-returns-in-21 c =
+returns-in-Raised c =
     let a = c.args in
-    (λ S cs same other flagless h. puts_base S cs a.threads a.step a.a a.b a.kind (kind_number raised) same c.in-21.is (c.put_none-in-21.ensures.0 a.n bit_zero a.out.now refl refl), c.put_none-in-21.ensures.1)
+    (λ S cs same other flagless h. puts_base S cs a.threads a.step a.a a.b (number_of a.kind) (kind_number raised) same (ap number_of c.in-Raised.is) (c.put_none-in-Raised.ensures.0 a.n bit_zero a.out.now refl refl), c.put_none-in-Raised.ensures.1)
 
-pub returns-in-22 : goal.returns-in-22
+pub returns-in-Exits : goal.returns-in-Exits
 unfolding kinds
-returns-in-22 c =
+returns-in-Exits c =
     let a = c.args in
-    (λ S cs same other flagless h. puts_base S cs a.threads a.step a.a a.b a.kind (kind_number exits) same c.in-22.is (c.put_previous-in-22.ensures.0 a.n exits ended a.out.now refl refl refl refl), c.put_previous-in-22.ensures.1)
+    (λ S cs same other flagless h. puts_base S cs a.threads a.step a.a a.b (number_of a.kind) (kind_number exits) same (ap number_of c.in-Exits.is) (c.put_previous-in-Exits.ensures.0 a.n exits ended a.out.now refl refl refl refl), c.put_previous-in-Exits.ensures.1)
 
-pub returns-in-23 : goal.returns-in-23
+pub returns-in-Codes : goal.returns-in-Codes
 unfolding kinds
-returns-in-23 c =
+returns-in-Codes c =
     let a = c.args in
-    (λ S cs same other flagless h. puts_base S cs a.threads a.step a.a a.b a.kind (kind_number codes) same c.in-23.is (c.put_previous-in-23.ensures.0 a.n codes code a.out.now refl refl refl refl), c.put_previous-in-23.ensures.1)
+    (λ S cs same other flagless h. puts_base S cs a.threads a.step a.a a.b (number_of a.kind) (kind_number codes) same (ap number_of c.in-Codes.is) (c.put_previous-in-Codes.ensures.0 a.n codes code a.out.now refl refl refl refl), c.put_previous-in-Codes.ensures.1)
 
-pub returns-in-24 : goal.returns-in-24
+pub returns-in-SharedMemory : goal.returns-in-SharedMemory
 unfolding kinds
-returns-in-24 c =
+returns-in-SharedMemory c =
     let a = c.args in
-    (λ S cs same other flagless h. puts_base S cs a.threads a.step a.a a.b a.kind (kind_number shared_memory) same c.in-24.is c.put_memory.ensures.0, c.put_memory.ensures.1)
+    (λ S cs same other flagless h. puts_base S cs a.threads a.step a.a a.b (number_of a.kind) (kind_number shared_memory) same (ap number_of c.in-SharedMemory.is) c.put_memory.ensures.0, c.put_memory.ensures.1)
 
-pub returns-in-25 : goal.returns-in-25
+pub returns-in-Val : goal.returns-in-Val
 unfolding kinds
-returns-in-25 c =
+returns-in-Val c =
     let a = c.args in
-    (λ S cs same other flagless h. puts_base S cs a.threads a.step a.a a.b a.kind (kind_number val) same c.in-25.is (c.put_none-in-25.ensures.0 a.n val a.out.now refl refl), c.put_none-in-25.ensures.1)
+    (λ S cs same other flagless h. puts_base S cs a.threads a.step a.a a.b (number_of a.kind) (kind_number val) same (ap number_of c.in-Val.is) (c.put_none-in-Val.ensures.0 a.n val a.out.now refl refl), c.put_none-in-Val.ensures.1)
 
-pub returns-in-26 : goal.returns-in-26
+pub returns-in-Adr : goal.returns-in-Adr
 unfolding kinds
-returns-in-26 c =
+returns-in-Adr c =
     let a = c.args in
-    (λ S cs same other flagless h. puts_base S cs a.threads a.step a.a a.b a.kind (kind_number adr) same c.in-26.is (c.put_none-in-26.ensures.0 a.n adr a.out.now refl refl), c.put_none-in-26.ensures.1)
+    (λ S cs same other flagless h. puts_base S cs a.threads a.step a.a a.b (number_of a.kind) (kind_number adr) same (ap number_of c.in-Adr.is) (c.put_none-in-Adr.ensures.0 a.n adr a.out.now refl refl), c.put_none-in-Adr.ensures.1)
 
-pub returns-in-27 : goal.returns-in-27
+pub returns-in-Mem : goal.returns-in-Mem
 unfolding kinds
-returns-in-27 c =
+returns-in-Mem c =
     let a = c.args in
-    (λ S cs same other flagless h. puts_base S cs a.threads a.step a.a a.b a.kind (kind_number mem) same c.in-27.is (c.put_none-in-27.ensures.0 a.n mem a.out.now refl refl), c.put_none-in-27.ensures.1)
+    (λ S cs same other flagless h. puts_base S cs a.threads a.step a.a a.b (number_of a.kind) (kind_number mem) same (ap number_of c.in-Mem.is) (c.put_none-in-Mem.ensures.0 a.n mem a.out.now refl refl), c.put_none-in-Mem.ensures.1)
 
-pub returns-in-28 : goal.returns-in-28
+pub returns-in-Accu : goal.returns-in-Accu
 unfolding kinds
-returns-in-28 c =
+returns-in-Accu c =
     let a = c.args in
-    (λ S cs same other flagless h. puts_base S cs a.threads a.step a.a a.b a.kind (kind_number accu) same c.in-28.is (c.put_none-in-28.ensures.0 a.n accu a.out.now refl refl), c.put_none-in-28.ensures.1)
+    (λ S cs same other flagless h. puts_base S cs a.threads a.step a.a a.b (number_of a.kind) (kind_number accu) same (ap number_of c.in-Accu.is) (c.put_none-in-Accu.ensures.0 a.n accu a.out.now refl refl), c.put_none-in-Accu.ensures.1)
 
-pub returns-in-29 : goal.returns-in-29
+pub returns-in-Full : goal.returns-in-Full
 unfolding kinds
-returns-in-29 c =
+returns-in-Full c =
     let a = c.args in
-    (λ S cs same other flagless h. puts_base S cs a.threads a.step a.a a.b a.kind (kind_number full) same c.in-29.is c.put_full.ensures.0, c.put_full.ensures.1)
+    (λ S cs same other flagless h. puts_base S cs a.threads a.step a.a a.b (number_of a.kind) (kind_number full) same (ap number_of c.in-Full.is) c.put_full.ensures.0, c.put_full.ensures.1)
 
-pub returns-in-30 : goal.returns-in-30
+pub returns-in-Halted : goal.returns-in-Halted
 unfolding kinds
-returns-in-30 c =
+returns-in-Halted c =
     let a = c.args in
-    (λ S cs same other flagless h. puts_base S cs a.threads a.step a.a a.b a.kind (kind_number halted) same c.in-30.is (c.put_none-in-30.ensures.0 a.n halted a.out.now refl refl), c.put_none-in-30.ensures.1)
+    (λ S cs same other flagless h. puts_base S cs a.threads a.step a.a a.b (number_of a.kind) (kind_number halted) same (ap number_of c.in-Halted.is) (c.put_none-in-Halted.ensures.0 a.n halted a.out.now refl refl), c.put_none-in-Halted.ensures.1)
 
-pub returns-in-32 : goal.returns-in-32
+pub returns-in-Mark : goal.returns-in-Mark
 unfolding kinds
-returns-in-32 c =
+returns-in-Mark c =
     let a = c.args in
-    (λ S cs same other flagless h. puts_base S cs a.threads a.step a.a a.b a.kind (kind_number mark) same c.in-32.is (c.put_joined-in-32.ensures.0 or2 held raised refl refl refl refl refl refl), c.put_joined-in-32.ensures.1)
+    (λ S cs same other flagless h. puts_base S cs a.threads a.step a.a a.b (number_of a.kind) (kind_number mark) same (ap number_of c.in-Mark.is) (c.put_binary-in-Mark.ensures.0 (place_of a.slots.now) or2 (slot held a.a a.b) (slot raised a.a a.b) refl refl c.place-held.ensures c.place-raised.ensures), c.put_binary-in-Mark.ensures.1)
 
-pub returns-in-33 : goal.returns-in-33
+pub returns-in-Halts : goal.returns-in-Halts
 unfolding kinds
-returns-in-33 c =
+returns-in-Halts c =
     let a = c.args in
-    (λ S cs same other flagless h. puts_base S cs a.threads a.step a.a a.b a.kind (kind_number halts) same c.in-33.is (c.put_none-in-33.ensures.0 a.n bit_one a.out.now refl refl), c.put_none-in-33.ensures.1)
+    (λ S cs same other flagless h. puts_base S cs a.threads a.step a.a a.b (number_of a.kind) (kind_number halts) same (ap number_of c.in-Halts.is) (c.put_none-in-Halts.ensures.0 a.n bit_one a.out.now refl refl), c.put_none-in-Halts.ensures.1)
 
-pub returns-in-34 : goal.returns-in-34
+pub returns-in-Ended : goal.returns-in-Ended
 unfolding kinds
-returns-in-34 c =
+returns-in-Ended c =
     let a = c.args in
-    (λ S cs same other flagless h. puts_base S cs a.threads a.step a.a a.b a.kind (kind_number ended) same c.in-34.is (c.put_joined-in-34.ensures.0 or2 halts exits refl refl refl refl refl refl), c.put_joined-in-34.ensures.1)
+    (λ S cs same other flagless h. puts_base S cs a.threads a.step a.a a.b (number_of a.kind) (kind_number ended) same (ap number_of c.in-Ended.is) (c.put_binary-in-Ended.ensures.0 (place_of a.slots.now) or2 (slot halts 0 0) (slot exits 0 a.threads) refl refl c.place-halts.ensures (rw c.from.ensures at c.place-exits.ensures)), c.put_binary-in-Ended.ensures.1)
 
-pub returns-in-35 : goal.returns-in-35
+pub returns-in-Code : goal.returns-in-Code
 unfolding kinds
-returns-in-35 c =
+returns-in-Code c =
     let a = c.args in
-    (λ S cs same other flagless h. puts_base S cs a.threads a.step a.a a.b a.kind (kind_number code) same c.in-35.is (c.put_none-in-35.ensures.0 a.n codes a.out.now refl refl), c.put_none-in-35.ensures.1)
+    (λ S cs same other flagless h. puts_base S cs a.threads a.step a.a a.b (number_of a.kind) (kind_number code) same (ap number_of c.in-Code.is) ((rw c.from-in-Code.ensures at c.put_none-in-Code.ensures.0) a.n codes a.out.now refl refl), c.put_none-in-Code.ensures.1)
 
-pub returns-in-36 : goal.returns-in-36
+pub returns-in-BitZero : goal.returns-in-BitZero
 unfolding kinds
-returns-in-36 c =
+returns-in-BitZero c =
     let a = c.args in
-    (λ S cs same other flagless h. puts_base S cs a.threads a.step a.a a.b a.kind (kind_number bit_zero) same c.in-36.is (c.put_none-in-36.ensures.0 a.n bit_zero a.out.now refl refl), c.put_none-in-36.ensures.1)
+    (λ S cs same other flagless h. puts_base S cs a.threads a.step a.a a.b (number_of a.kind) (kind_number bit_zero) same (ap number_of c.in-BitZero.is) (c.put_none-in-BitZero.ensures.0 a.n bit_zero a.out.now refl refl), c.put_none-in-BitZero.ensures.1)
 
-pub returns-in-37 : goal.returns-in-37
+pub returns-in-BitOne : goal.returns-in-BitOne
 unfolding kinds
-returns-in-37 c =
+returns-in-BitOne c =
     let a = c.args in
-    (λ S cs same other flagless h. puts_base S cs a.threads a.step a.a a.b a.kind (kind_number bit_one) same c.in-37.is (c.put_none-in-37.ensures.0 a.n bit_one a.out.now refl refl), c.put_none-in-37.ensures.1)
+    (λ S cs same other flagless h. puts_base S cs a.threads a.step a.a a.b (number_of a.kind) (kind_number bit_one) same (ap number_of c.in-BitOne.is) (c.put_none-in-BitOne.ensures.0 a.n bit_one a.out.now refl refl), c.put_none-in-BitOne.ensures.1)
 
-pub returns-in-38 : goal.returns-in-38
+pub returns-in-WordZero : goal.returns-in-WordZero
 unfolding kinds
-returns-in-38 c =
+returns-in-WordZero c =
     let a = c.args in
-    (λ S cs same other flagless h. puts_base S cs a.threads a.step a.a a.b a.kind (kind_number word_zero) same c.in-38.is (c.put_none-in-38.ensures.0 a.n word_zero a.out.now refl refl), c.put_none-in-38.ensures.1)
+    (λ S cs same other flagless h. puts_base S cs a.threads a.step a.a a.b (number_of a.kind) (kind_number word_zero) same (ap number_of c.in-WordZero.is) (c.put_none-in-WordZero.ensures.0 a.n word_zero a.out.now refl refl), c.put_none-in-WordZero.ensures.1)
 
-pub returns-in-39 : goal.returns-in-39
+pub returns-in-WordOne : goal.returns-in-WordOne
 unfolding kinds
-returns-in-39 c =
+returns-in-WordOne c =
     let a = c.args in
-    (λ S cs same other flagless h. puts_base S cs a.threads a.step a.a a.b a.kind (kind_number word_one) same c.in-39.is (c.put_constant.ensures.0 (place_of a.slots.now)), c.put_constant.ensures.1)
-
-pub returns-in_default : goal.returns-in_default
-returns-in_default c =
-    let a = c.args in (
-      λ S cs same other flagless h. puts_as (ap (λ (k : Kind). base_of S cs a.step k a.a a.b) (kind_past a.kind (kind_other a.kind c.in_default.in_default-own.rest other flagless))
-          ∙ (λ z. base_of (with_threads S (same z)) cs a.step choice a.a a.b))
-          (c.put_choice-in_default.ensures.0 (place_of a.slots.now)),
-      c.put_choice-in_default.ensures.1,
-    )
+    (λ S cs same other flagless h. puts_base S cs a.threads a.step a.a a.b (number_of a.kind) (kind_number word_one) same (ap number_of c.in-WordOne.is) (c.put_constant.ensures.0 (place_of a.slots.now)), c.put_constant.ensures.1)

@@ -15,18 +15,10 @@ pub loop-j-init : goal.loop-j-init
 loop-j-init c =
     let a = c.args in (
       omega arith,
-      omega arith,
       refl,
       refl,
       λ (S : Set) (cs members : List ℕ) (k : ℕ) row stands ready. (writes-row (entry S cs k flag a.t) a.out.now a.slots.now a.n, ready),
     )
-
-pub flag-next-requires : goal.flag-next-requires
-flag-next-requires c =
-    let q = c.requires in
-    let few = q.1 in
-    let small = q.3 in
-    (q.0, q.1, omega arith, q.2, omega arith)
 
 pub loop-j-preserved : goal.loop-j-preserved
 loop-j-preserved c =
@@ -37,15 +29,14 @@ loop-j-preserved c =
     let no_place = c.place-zero in
     let more = r.ensures.1 in (
       omega arith,
-      omega arith,
       search rules,
       search rules,
       λ (S : Set) (cs members : List ℕ) (k : ℕ) row stands ready.
           let f = entry S cs k flag a.t in
-          let so_far = l.invariant.4 S cs members k row stands ready in
+          let so_far = l.invariant.3 S cs members k row stands ready in
           let kept : (other : Kind) (x y : ℕ) → eqb (kind_number other) (kind_number flag) ≡ false → place_of a.slots.now (slot other x y) ≡ place_of l.slots (slot other x y) =
           λ other x y apart. sym (row-others S cs k flag a.t other x y apart l.j a.out.now a.slots.now a.n l.out l.slots l.next so_far.0) in
-          let w = r.ensures.0 S cs members k row stands so_far.1 (choice-place.ensures ∙ kept choice 0 a.t refl) (no_place.ensures ∙ kept bit_zero 0 0 refl) in
+          let w = r.ensures.0 S cs members k row stands so_far.1 ((rw c.from.ensures at choice-place.ensures) ∙ kept choice 0 a.t refl) (no_place.ensures ∙ kept bit_zero 0 0 refl) in
           (writes_more f l.j a.out.now a.slots.now a.n _ _ _ _ _ _ so_far.0 w, ready-entry k flag a.t l.j w so_far.1),
     )
 
@@ -57,6 +48,6 @@ returns c =
     let j-is : l.j ≡ a.count = omega arith in (
       λ (S : Set) (cs members : List ℕ) (k : ℕ) row stands ready.
           subst (λ (i : ℕ). Writes (upto (entry S cs k flag a.t) i) a.out.now a.slots.now a.n l.out l.slots l.next)
-          (j-is ∙ sym stands.count_is) (l.invariant.4 S cs members k row stands ready).0,
+          (j-is ∙ sym stands.count_is) (l.invariant.3 S cs members k row stands ready).0,
       omega arith,
     )

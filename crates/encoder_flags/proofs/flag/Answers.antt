@@ -10,6 +10,7 @@ use Rattle.encoding.specs.Slots.{kinds, flag}
 use Rattle.encoder_slots.proofs.Ready.{ready-root}
 use Rattle.records.specs.Sets.{Set}
 use Rattle.table.specs.Repeats.{last_index}
+use Rattle.encoder_flags.proofs.Lists.{read_on}
 use Rattle.encoder_flags.proofs.flag.Goals as goal
 
 pub returns : goal.returns
@@ -27,7 +28,7 @@ returns c =
     let links = r.ensures.1 in (
       λ (S : Set) (cs members : List ℕ) (k : ℕ) row stands ready executes-is no-is.
           let places = place_of a.slots.now in
-          let put = g.ensures.0 S cs k (s.ensures ∙ sym (stands.statement_is a.j (omega arith))) executes-is no-is room in
+          let put = g.ensures.0 S cs k (read_on a.set.now a.first s.ensures c.from.ensures ∙ sym (stands.statement_is a.j (omega arith))) executes-is no-is room in
           let w : WritesTree places (tree_of S cs k flag a.t a.j) a.out.now a.n _ r.result.next r.result.at =
           flag-chained S cs k a.t a.j a.count (sym stands.count_is) places a.out.now a.n _ r.result.next r.result.at
           (r.ensures.0 S cs members (base S cs k flag a.t a.j) a.out.now a.n row stands ready

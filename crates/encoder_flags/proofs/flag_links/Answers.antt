@@ -10,12 +10,8 @@ use Rattle.encoding.specs.Slots.{Term}
 use Rattle.records.specs.declared.Statement.{Statement}
 use Rattle.records.specs.Sets.{Set}
 use Rattle.table.specs.Repeats.{last_index}
+use Rattle.encoder_flags.proofs.Lists.{read_on}
 use Rattle.encoder_flags.proofs.flag_links.Goals as goal
-
-pub returns-then-first-lt-NONE : goal.returns-then-first-lt-NONE
-returns-then-first-lt-NONE c =
-    let r = c.jump_links.ensures in
-    (λ S cs members tree start m row stands ready w. r.0 S cs members tree start m row stands ready w, r.1)
 
 pub returns-then-j-gt0 : goal.returns-then-j-gt0
 returns-then-j-gt0 c =
@@ -37,7 +33,7 @@ returns-then-j-gt0 c =
           before-leads places S a.t a.j a.count within unnamed tree start m (a.j - 1) (omega arith)
           a.out.now a.n a.base _ _ _
           (p.ensures.0 places (links (a.j - 1)) (chain links (a.j - 1) tree) start m room
-          (c.follows-link.ensures S a.j (ap (λ (x : Statement). x.number) (s.ensures ∙ sym (stands.statement_is (a.j - 1) (omega arith)))) (omega arith)
+          (c.follows-link.ensures S a.j (ap (λ (x : Statement). x.number) (read_on a.set.now a.first s.ensures c.from.ensures ∙ sym (stands.statement_is (a.j - 1) (omega arith)))) (omega arith)
           (unnamed (a.j - 1) (omega arith)))) w,
       omega arith,
     )

@@ -10,6 +10,7 @@ use Rattle.set_index.specs.ListTables.{JumpsOf}
 use Rattle.encoder_flags.specs.Named.{NamedFirst}
 use Rattle.encoder_flags.proofs.Lists.{named_past, past_ahead}
 use Rattle.table.specs.Repeats.{last_index}
+use Rattle.encoder_flags.proofs.Lists.{read_on}
 use Rattle.encoder_flags.proofs.jump_links.Goals as goal
 
 pub returns-then-j-eq0 : goal.returns-then-j-eq0
@@ -31,21 +32,6 @@ returns-then-j-eq0 c =
           (chain-none (place_of a.slots.now) (leads S [] 0 a.t a.j) tree start m a.out.now a.n a.base w)).0,
       omega arith,
     )
-
-pub named_links-later-requires : goal.named_links-later-requires
-named_links-later-requires c =
-    let q = c.requires in
-    let few = q.1 in
-    let inside = q.2 in
-    let small = q.3 in
-    let j = c.args.j in
-    let earlier = c.named_links-earlier in
-    let due = earlier.ensures.1 in
-    let most = earlier.ensures.2 in
-    let one = c.put_link-tree.ensures.1 in
-    let g = c.past-next in
-    let ahead = past_ahead (j - 1) earlier.result.hit g.result _ (omega arith) g.ensures.0 g.ensures.1 in
-    (q.0, q.1, omega arith, q.4)
 
 pub returns : goal.returns
 returns c =
@@ -82,6 +68,6 @@ returns c =
           (named_past S a.t a.count a.j (omega arith) few a.lists.now listed earlier.result.hit (a.j - 1) g.result (omega arith) due g.ensures.0 g.ensures.1 before.1)
           (chain_more places links tree start m _ _ _ (a.j - 1)
           (p.ensures.0 places (links (a.j - 1)) (chain links (a.j - 1) tree) start m room
-          (link.ensures S (s.ensures ∙ sym (stands.statement_is (a.j - 1) (omega arith)))) before.0))).0,
+          (link.ensures S (read_on a.set.now a.first s.ensures c.from.ensures ∙ sym (stands.statement_is (a.j - 1) (omega arith)))) before.0))).0,
       omega arith,
     )

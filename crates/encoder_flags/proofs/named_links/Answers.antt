@@ -1,5 +1,5 @@
 -- `encoder_flags::named_links` meets its contract. Assumes nothing.
-use Rattle.std.proofs.Common.{List, [], ap, arith, refl, subst, sym, true, ℕ, ◌<◌, ◌∙◌, ◌≡◌, ◌≤◌}
+use Rattle.std.proofs.Common.{List, [], ap, arith, subst, sym, true, ℕ, ◌<◌, ◌∙◌, ◌≡◌, ◌≤◌}
 use Rattle.set_index.specs.Members.{names_target}
 use Rattle.encoder_slots.specs.Places.{place_of}
 use Rattle.encoder_slots.proofs.Ready.{ready-jumps}
@@ -10,32 +10,8 @@ use Rattle.records.specs.Sets.{Set}
 use Rattle.set_index.proofs.Making.{onward-after}
 use Rattle.encoder_flags.proofs.Written.{reached-more, reached-all}
 use Rattle.table.specs.Repeats.{last_index}
+use Rattle.encoder_flags.proofs.Lists.{read_on}
 use Rattle.encoder_flags.proofs.named_links.Goals as goal
-
-pub loop-i-init : goal.loop-i-init
-loop-i-init c =
-    let a = c.args in (
-      omega arith,
-      λ more. omega arith,
-      omega arith,
-      refl,
-      λ (S : Set) (cs members : List ℕ) (tree : Term) (start : List ℕ) (m j count from : ℕ) small due within inside apart row stands ready soonest w. record {
-        low = from;
-        since = omega arith;
-        within = within;
-        due = due;
-        soonest = soonest;
-        written = w;
-      },
-    )
-
-pub loop-i-smaller : goal.loop-i-smaller
-loop-i-smaller c =
-    let few = c.requires.1 in
-    let l = c.loop-i in
-    let going = c.loop-i-test.true in
-    let greater : l.i < c.following-i.result = subst (λ (x : ℕ). l.i < x) (sym c.following-i.ensures) (onward-after l.i _ (omega arith)) in
-    omega arith
 
 pub loop-i-preserved : goal.loop-i-preserved
 loop-i-preserved c =
@@ -66,7 +42,7 @@ loop-i-preserved c =
           reached-more places S a.t j small count from a.end inside apart tree start m l.i l.out l.tree.next l.tree.at r going names
           a.lists.now (ready-jumps ready row stands) f.result greater f.ensures _ _ _
           (p.ensures.0 places (links l.i) (chain links l.i tree) start m room
-          (link.ensures S j (ap (λ (x : Statement). x.number) (s.ensures ∙ sym (stands.statement_is l.i (omega arith)))) names (apart l.i after going))),
+          (link.ensures S j (ap (λ (x : Statement). x.number) (read_on a.set.now a.first s.ensures c.from.ensures ∙ sym (stands.statement_is l.i (omega arith)))) names (apart l.i after going))),
     )
 
 pub returns : goal.returns

@@ -1,5 +1,6 @@
 -- `encoder_marks::line` meets its contract. Assumes nothing.
-use Rattle.std.proofs.Common.{List, length, true, ℕ, ◌*◌, ◌+◌, ◌-◌, ◌<◌, ◌≡◌, ◌≤◌}
+use Rattle.std.proofs.Common.{List, length, true, ℕ, ◌*◌, ◌+◌, ◌<◌, ◌≡◌, ◌≤◌}
+use Rattle.encoder_slots.specs.Kinds.{number_of}
 use Rattle.encoder_slots.specs.Pieces.{Writes, Ready, entry_room}
 use Rattle.encoder_marks.specs.Marked.{marked}
 use Rattle.encoding.specs.Steps.{entry}
@@ -10,9 +11,6 @@ use Rattle.encoder_marks.proofs.line.Given as goal
 
 abbrev pub invariant-loop-p : goal.invariant-loop-p
 invariant-loop-p l =
-    (l.p ≤ l.count) × (l.next ≤ l.n + entry_room * l.p) × (length l.out ≡ length l.initial.out) × (length l.slots ≡ length l.initial.slots)
-    × ((S : Set) (cs members : List ℕ) → S.threads ≡ l.threads → length cs ≡ l.count → marked l.kind ≡ true → l.t < S.threads → Ready S cs members l.table l.initial.slots l.n
-    → (Ready S cs members l.table l.slots l.next) × (Writes (upto (entry S cs l.step (kind_at l.kind) l.t) l.p) l.initial.out l.initial.slots l.n l.out l.slots l.next))
-
-abbrev pub decreases-loop-p : goal.decreases-loop-p
-decreases-loop-p l = l.count - l.p
+    (l.next ≤ l.n + entry_room * l.p) × (length l.out ≡ length l.initial.out) × (length l.slots ≡ length l.initial.slots)
+    × ((S : Set) (cs members : List ℕ) → S.threads ≡ l.threads → length cs ≡ l.count → marked (number_of l.kind) ≡ true → l.t < S.threads → Ready S cs members l.table l.initial.slots l.n
+    → (Ready S cs members l.table l.slots l.next) × (Writes (upto (entry S cs l.step (kind_at (number_of l.kind)) l.t) l.p) l.initial.out l.initial.slots l.n l.out l.slots l.next))

@@ -7,11 +7,11 @@ use Rattle.set_index.specs.Points.{listed}
 use Rattle.base.proofs.Choice.{chosen, passed, and_false}
 use Rattle.encoder_size.proofs.raises.Goals as goal
 
-pub returns-then-n-eq-CHECK : goal.returns-then-n-eq-CHECK
+pub returns-then-n : goal.returns-then-n
 unfolding check_records
-returns-then-n-eq-CHECK c =
+returns-then-n c =
     let a = c.args in
-    let here = eq-eqb _ _ c.if-n-eq-CHECK.true in
+    let here = eq-eqb _ _ c.if-n.true in
     let w = c.checks.ensures in (
       w.0 ∙ sym (chosen _ _ here),
       w.1,
@@ -23,5 +23,5 @@ returns-then-n-eq-CHECK c =
 pub returns : goal.returns
 unfolding check_records
 returns c =
-    let other = ne_eqb _ _ c.if-n-eq-CHECK.false in
+    let other = ne_eqb _ _ c.if-n.false in
     (sym (passed _ _ other), omega arith, refl, notes_nothing _ _ _ (λ p. and_false _ other))

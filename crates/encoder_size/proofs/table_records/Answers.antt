@@ -7,21 +7,6 @@ use Rattle.set_index.specs.Points.{listed}
 use Rattle.records.specs.Sets.{set_by}
 use Rattle.encoder_size.proofs.table_records.Goals as goal
 
-pub overflow_mul-result : goal.overflow_mul-result
-overflow_mul-result c =
-    let steps : c.args.bound * c.step_records-step.result ≤ 255 * 401086198 = let low : c.args.bound ≤ 255 = omega arith in mul-le-mul low c.step_records-step.ensures.2 in
-    let f = steps in omega arith
-
-pub overflow_add-result : goal.overflow_add-result
-overflow_add-result c =
-    let steps : c.args.bound * c.step_records-step.result ≤ 255 * 401086198 = let low : c.args.bound ≤ 255 = omega arith in mul-le-mul low c.step_records-step.ensures.2 in
-    let f = steps in omega arith
-
-pub overflow_add-result-2 : goal.overflow_add-result-2
-overflow_add-result-2 c =
-    let steps : c.args.bound * c.step_records-step.result ≤ 255 * 401086198 = let low : c.args.bound ≤ 255 = omega arith in mul-le-mul low c.step_records-step.ensures.2 in
-    let f = steps in omega arith
-
 pub returns : goal.returns
 unfolding table_records
 returns c =
@@ -29,6 +14,7 @@ returns c =
     let S = set_by a.set.now a.layout in
     let cs = listed a.points in
     let map = a.map.now in
+    let b = ap (λ (n : ℕ). n * c.step_records-step.result) c.from.ensures in
     let r = c.step_records-step.result in
     let s : r ≡ step_records S cs = let e = c.step_records-step.ensures.0 0 0 in let f = step-size S cs 0 0 in omega arith in
     let product = ap (λ (n : ℕ). a.bound * n) s in

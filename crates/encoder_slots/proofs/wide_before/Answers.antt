@@ -2,49 +2,62 @@
 use Rattle.std.proofs.Common.{arith, le-leb, sym, ◌∙◌}
 use borrow.Author.Tests.{lt-leb}
 use Rattle.base.proofs.Choice.{chosen, passed}
+use Rattle.encoder_slots.specs.Kinds.{number_of}
+use Rattle.encoder_slots.proofs.Numbers.{number-below, tag-number}
 use Rattle.encoder_slots.proofs.Rows.{number-counted}
 use Rattle.encoder_slots.proofs.wide_before.Goals as goal
 
-pub returns-then-kind-le-ACTIVE : goal.returns-then-kind-le-ACTIVE
-returns-then-kind-le-ACTIVE c = let k = c.args.kind in
+pub returns-then-at : goal.returns-then-at
+returns-then-at c =
+    let kind = c.args.kind in
+    let k = number_of kind in
+    let small = number-below kind in
+    let is = tag-number kind in
     sym (number-counted k (omega arith)
-    ∙ chosen _ _ (le-leb k 1 c.if-kind-le-ACTIVE.true))
+    ∙ chosen _ _ (le-leb k 1 (rw is at c.if-at.true)))
 
-pub returns-then-kind-le-ADDRESS : goal.returns-then-kind-le-ADDRESS
-returns-then-kind-le-ADDRESS c = let k = c.args.kind in
+pub returns-then-at-2 : goal.returns-then-at-2
+returns-then-at-2 c =
+    let kind = c.args.kind in
+    let k = number_of kind in
+    let small = number-below kind in
+    let is = tag-number kind in
     sym (number-counted k (omega arith)
-    ∙ passed _ _ (lt-leb k 1 c.if-kind-le-ACTIVE.false)
-    ∙ chosen _ _ (le-leb k 11 c.if-kind-le-ADDRESS.true))
+    ∙ passed _ _ (lt-leb k 1 (rw is at c.if-at.false))
+    ∙ chosen _ _ (le-leb k 11 (rw is at c.if-at-2.true)))
 
-pub returns-then-kind-le-FLUSH_TO : goal.returns-then-kind-le-FLUSH_TO
-returns-then-kind-le-FLUSH_TO c = let k = c.args.kind in
-    sym (number-counted k (omega arith)
-    ∙ passed _ _ (lt-leb k 1 c.if-kind-le-ACTIVE.false)
-    ∙ passed _ _ (lt-leb k 11 c.if-kind-le-ADDRESS.false)
-    ∙ chosen _ _ (le-leb k 17 c.if-kind-le-FLUSH_TO.true))
+pub returns-then-at-3 : goal.returns-then-at-3
+returns-then-at-3 c =
+    let kind = c.args.kind in
+    let k = number_of kind in
+    let small = number-below kind in
+    let is = tag-number kind in
+    rw is (sym (number-counted k (omega arith)
+    ∙ passed _ _ (lt-leb k 1 (rw is at c.if-at.false))
+    ∙ passed _ _ (lt-leb k 11 (rw is at c.if-at-2.false))
+    ∙ chosen _ _ (le-leb k 17 (rw is at c.if-at-3.true))))
 
-pub returns-then-kind-le-FLAG : goal.returns-then-kind-le-FLAG
-returns-then-kind-le-FLAG c = let k = c.args.kind in
+pub returns-then-at-4 : goal.returns-then-at-4
+returns-then-at-4 c =
+    let kind = c.args.kind in
+    let k = number_of kind in
+    let small = number-below kind in
+    let is = tag-number kind in
     sym (number-counted k (omega arith)
-    ∙ passed _ _ (lt-leb k 1 c.if-kind-le-ACTIVE.false)
-    ∙ passed _ _ (lt-leb k 11 c.if-kind-le-ADDRESS.false)
-    ∙ passed _ _ (lt-leb k 17 c.if-kind-le-FLUSH_TO.false)
-    ∙ chosen _ _ (le-leb k 31 c.if-kind-le-FLAG.true))
-
-pub returns-then-kind-le-ARGUMENT : goal.returns-then-kind-le-ARGUMENT
-returns-then-kind-le-ARGUMENT c = let k = c.args.kind in
-    sym (number-counted k (omega arith)
-    ∙ passed _ _ (lt-leb k 1 c.if-kind-le-ACTIVE.false)
-    ∙ passed _ _ (lt-leb k 11 c.if-kind-le-ADDRESS.false)
-    ∙ passed _ _ (lt-leb k 17 c.if-kind-le-FLUSH_TO.false)
-    ∙ passed _ _ (lt-leb k 31 c.if-kind-le-FLAG.false)
-    ∙ chosen _ _ (le-leb k 40 c.if-kind-le-ARGUMENT.true))
+    ∙ passed _ _ (lt-leb k 1 (rw is at c.if-at.false))
+    ∙ passed _ _ (lt-leb k 11 (rw is at c.if-at-2.false))
+    ∙ passed _ _ (lt-leb k 17 (rw is at c.if-at-3.false))
+    ∙ chosen _ _ (le-leb k 31 (rw is at c.if-at-4.true)))
 
 pub returns : goal.returns
-returns c = let k = c.args.kind in
+returns c =
+    let kind = c.args.kind in
+    let k = number_of kind in
+    let small = number-below kind in
+    let is = tag-number kind in
     sym (number-counted k (omega arith)
-    ∙ passed _ _ (lt-leb k 1 c.if-kind-le-ACTIVE.false)
-    ∙ passed _ _ (lt-leb k 11 c.if-kind-le-ADDRESS.false)
-    ∙ passed _ _ (lt-leb k 17 c.if-kind-le-FLUSH_TO.false)
-    ∙ passed _ _ (lt-leb k 31 c.if-kind-le-FLAG.false)
-    ∙ passed _ _ (lt-leb k 40 c.if-kind-le-ARGUMENT.false))
+    ∙ passed _ _ (lt-leb k 1 (rw is at c.if-at.false))
+    ∙ passed _ _ (lt-leb k 11 (rw is at c.if-at-2.false))
+    ∙ passed _ _ (lt-leb k 17 (rw is at c.if-at-3.false))
+    ∙ passed _ _ (lt-leb k 31 (rw is at c.if-at-4.false))
+    ∙ chosen _ _ (le-leb k 40 (omega arith)))

@@ -8,7 +8,7 @@ use Rattle.encoder_statements.proofs.actives.Goals as goal
 pub loop-i-init : goal.loop-i-init
 loop-i-init c =
     let a = c.args in
-    (omega arith, omega arith, refl, refl, row-none (kind_number active) a.set.now a.first a.count a.t a.out.now a.slots.now a.n)
+    (omega arith, refl, refl, row-none (kind_number active) a.set.now a.first a.count a.t a.out.now a.slots.now a.n)
 
 pub loop-i-preserved : goal.loop-i-preserved
 unfolding kinds
@@ -16,17 +16,16 @@ loop-i-preserved c =
     let a = c.args in
     let q = c.requires in
     let l = c.loop-i in
-    let lies = c.place-executes.ensures in
+    let lies = rw c.from.ensures at c.place-executes.ensures in
     let put = c.put_active-tree in
     let settled = c.settle-next in
     let small : l.i < 32 = let few = q.0 in omega arith in
-    let room : l.next ≤ last_index = let few = q.0 in let h = q.2 in let m = l.invariant.1 in omega arith in (
-      omega arith,
-      (let m = settled.ensures.2 in let h = l.invariant.1 in omega arith),
+    let room : l.next ≤ last_index = let few = q.0 in let h = q.2 in let m = l.invariant.0 in omega arith in (
+      (let m = settled.ensures.2 in let h = l.invariant.0 in omega arith),
       search rules,
       search rules,
-      row_more (kind_number active) a.set.now a.first a.count a.t a.out.now a.slots.now a.n l.i l.out l.slots l.next _ _ _ l.invariant.4
-          (λ S cs k stands below others. settled.ensures.0 S cs k l.out _ (omega arith) refl q.1 small (l.invariant.3 ∙ q.3) below
+      row_more (kind_number active) a.set.now a.first a.count a.t a.out.now a.slots.now a.n l.i l.out l.slots l.next _ _ _ l.invariant.3
+          (λ S cs k stands below others. settled.ensures.0 S cs k l.out _ (omega arith) refl q.1 small (l.invariant.2 ∙ q.3) below
           (put.ensures.0 (lies ∙ others choice 0 a.t refl) room)),
     )
 
@@ -37,6 +36,6 @@ returns c =
     let few = c.requires.0 in
     let l = c.loop-i in
     let all : l.i ≡ a.count = omega arith in (
-      row_line (kind_number active) a.set.now a.first a.count a.t a.out.now a.slots.now a.n (omega arith) refl l.i all l.out l.slots l.next l.invariant.4,
-      (let m = l.invariant.1 in omega arith),
+      row_line (kind_number active) a.set.now a.first a.count a.t a.out.now a.slots.now a.n (omega arith) refl l.i all l.out l.slots l.next l.invariant.3,
+      (let m = l.invariant.0 in omega arith),
     )

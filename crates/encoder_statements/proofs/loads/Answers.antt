@@ -1,6 +1,7 @@
 -- `encoder_statements::loads` meets its contract. Assumes nothing.
 use Rattle.std.proofs.Common.{arith, refl, rules, sym, ◌∙◌, ◌≤◌}
 use Rattle.encoding.specs.Slots.{kinds, full, adr, val, shared_memory, word_zero, kind_number, loaded}
+use Rattle.encoder_statements.proofs.Values.{read_as}
 use Rattle.encoder_statements.proofs.Listed.{some-none, some_more, some-line, rests-load}
 use Rattle.set_index.specs.Members.{load_class}
 use Rattle.table.specs.Repeats.{last_index}
@@ -10,10 +11,7 @@ pub loop-j-init : goal.loop-j-init
 loop-j-init c =
     let a = c.args in
     let q = c.requires in
-    (omega arith, omega arith, refl, refl, some-none (kind_number loaded) load_class rests-load a.set.now a.members.now a.first a.t q.0 a.out.now a.slots.now a.n)
-
-pub settle-next-requires : goal.settle-next-requires
-settle-next-requires c = let few = c.count_of-loading.ensures.1 in let h = c.requires.1 in search rules
+    (omega arith, refl, refl, some-none (kind_number loaded) load_class rests-load a.set.now a.members.now a.first a.t q.0 a.out.now a.slots.now a.n)
 
 pub loop-j-preserved : goal.loop-j-preserved
 unfolding kinds
@@ -25,19 +23,18 @@ loop-j-preserved c =
     let counted = c.count_of-loading.ensures in
     let l = c.loop-j in
     let named = c.member-i.ensures in
-    let read = c.statement_at-statement.ensures in
+    let read = read_as a.set.now c.statement_at-statement.ensures c.from.ensures c.from-in-loop-j.ensures in
     let put = c.put_loaded-tree in
     let settled = c.settle-next in
-    let room : l.next ≤ last_index = let few = counted.1 in let h = q.1 in let m = l.invariant.1 in omega arith in (
-      omega arith,
-      (let m = settled.ensures.2 in let h = l.invariant.1 in omega arith),
+    let room : l.next ≤ last_index = let few = counted.1 in let h = q.1 in let m = l.invariant.0 in omega arith in (
+      (let m = settled.ensures.2 in let h = l.invariant.0 in omega arith),
       search rules,
       search rules,
       some_more (kind_number loaded) load_class rests-load a.set.now a.members.now a.first a.t q.0 a.out.now a.slots.now a.n l.j _ l.out l.slots l.next _ _ _
           (λ S listed. let e = counted.0 S listed (omega arith) q.0 in omega arith)
           (λ S listed. named S listed (omega arith) q.0 (let e = counted.0 S listed (omega arith) q.0 in omega arith))
-          l.invariant.4
-          (λ S cs k count stands less small mine below others. settled.ensures.0 S cs k l.out _ (omega arith) refl q.0 small (l.invariant.3 ∙ q.2) below
+          l.invariant.3
+          (λ S cs k count stands less small mine below others. settled.ensures.0 S cs k l.out _ (omega arith) refl q.0 small (l.invariant.2 ∙ q.2) below
           (put.ensures.0 S cs k (read ∙ sym (stands.statement_is _ less)) (found ∙ (λ z. record { full = others full a.t 0 refl z; adr = others adr a.t 0 refl z; val = others val a.t 0 refl z; memory = others shared_memory 0 0 refl z })) (lies ∙ others word_zero 0 0 refl) room)),
     )
 
@@ -49,6 +46,6 @@ returns c =
     let counted = c.count_of-loading.ensures in
     let l = c.loop-j in (
       some-line (kind_number loaded) load_class rests-load a.set.now a.members.now a.first a.t q.0 a.out.now a.slots.now a.n (omega arith) refl l.j
-          (λ S listed. let e = counted.0 S listed (omega arith) q.0 in omega arith) l.out l.slots l.next l.invariant.4,
-      (let few = counted.1 in let m = l.invariant.1 in omega arith),
+          (λ S listed. let e = counted.0 S listed (omega arith) q.0 in omega arith) l.out l.slots l.next l.invariant.3,
+      (let few = counted.1 in let m = l.invariant.0 in omega arith),
     )

@@ -1,5 +1,5 @@
 -- `encoder_statements::swaps` meets its contract. Assumes nothing.
-use Rattle.std.proofs.Common.{length, ◌*◌, ◌+◌, ◌-◌, ◌≡◌, ◌≤◌}
+use Rattle.std.proofs.Common.{length, ◌*◌, ◌+◌, ◌≡◌, ◌≤◌}
 use Rattle.encoding.specs.Slots.{kind_number, swaps}
 use Rattle.encoder_statements.proofs.Listed.{Some}
 use Rattle.set_index.specs.Members.{cas_class}
@@ -7,8 +7,5 @@ use Rattle.encoder_statements.proofs.swaps.Given as goal
 
 abbrev pub invariant-loop-j : goal.invariant-loop-j
 invariant-loop-j l =
-    (l.j ≤ l.swapping) × (l.next ≤ l.n + 4 * l.j) × (length l.out ≡ length l.initial.out) × (length l.slots ≡ length l.initial.slots)
+    (l.next ≤ l.n + 4 * l.j) × (length l.out ≡ length l.initial.out) × (length l.slots ≡ length l.initial.slots)
     × (Some (kind_number swaps) cas_class l.set l.members l.first l.t l.j l.initial.out l.initial.slots l.n l.out l.slots l.next)
-
-abbrev pub decreases-loop-j : goal.decreases-loop-j
-decreases-loop-j l = l.swapping - l.j

@@ -3,6 +3,7 @@ use Rattle.std.proofs.Common.{List, arith, refl, rules, ℕ, ◌∙◌, ◌≡�
 use Rattle.records.specs.Sets.{Set}
 use Rattle.encoding.specs.Slots.{kind_at}
 use Rattle.encoding.specs.Steps.{entry}
+use Rattle.encoder_slots.specs.Kinds.{number_of}
 use Rattle.encoder_slots.proofs.Ready.{ready-entry}
 use Rattle.encoder_slots.proofs.Pieces.{writes-row, writes_more}
 use Rattle.encoder_step.proofs.Loops.{one_line}
@@ -12,20 +13,10 @@ pub loop-b-init : goal.loop-b-init
 loop-b-init c =
     let a = c.args in (
       omega arith,
-      omega arith,
       refl,
       refl,
-      λ (S : Set) (cs members lists : List ℕ) threads bare ready. (writes-row (entry S cs a.step (kind_at a.kind) 0) a.out.now a.slots.now a.n, ready),
+      λ (S : Set) (cs members lists : List ℕ) threads bare ready. (writes-row (entry S cs a.step (kind_at (number_of a.kind)) 0) a.out.now a.slots.now a.n, ready),
     )
-
-pub bare_entry-next-requires : goal.bare_entry-next-requires
-bare_entry-next-requires c =
-    let q = c.requires in
-    let l = c.loop-b in
-    let room = q.0 in
-    let few = q.1 in
-    let so_far = l.invariant.1 in
-    (omega arith, omega arith, omega arith)
 
 pub loop-b-preserved : goal.loop-b-preserved
 loop-b-preserved c =
@@ -33,16 +24,15 @@ loop-b-preserved c =
     let l = c.loop-b in
     let r = c.bare_entry-next in
     let more = r.ensures.1 in
-    let so_far = l.invariant.1 in (
-      omega arith,
+    let so_far = l.invariant.0 in (
       omega arith,
       search rules,
       search rules,
       λ (S : Set) (cs members lists : List ℕ) threads bare ready.
-          let f = entry S cs a.step (kind_at a.kind) 0 in
-          let done = l.invariant.4 S cs members lists threads bare ready in
+          let f = entry S cs a.step (kind_at (number_of a.kind)) 0 in
+          let done = l.invariant.3 S cs members lists threads bare ready in
           let w = r.ensures.0 S cs members lists threads (bare l.b) done.1 in
-          (writes_more f l.b a.out.now a.slots.now a.n _ _ _ _ _ _ done.0 w, ready-entry a.step (kind_at a.kind) 0 l.b w done.1),
+          (writes_more f l.b a.out.now a.slots.now a.n _ _ _ _ _ _ done.0 w, ready-entry a.step (kind_at (number_of a.kind)) 0 l.b w done.1),
     )
 
 pub returns : goal.returns
@@ -51,9 +41,9 @@ returns c =
     let q = c.requires in
     let l = c.loop-b in
     let few = q.1 in
-    let so_far = l.invariant.1 in
+    let so_far = l.invariant.0 in
     let b-is : l.b ≡ a.columns = omega arith in (
       λ (S : Set) (cs members lists : List ℕ) threads bare row columns ready.
-          one_line S cs a.step a.kind _ _ _ _ _ _ row l.b (b-is ∙ columns) (l.invariant.4 S cs members lists threads bare ready).0,
+          one_line S cs a.step (number_of a.kind) _ _ _ _ _ _ row l.b (b-is ∙ columns) (l.invariant.3 S cs members lists threads bare ready).0,
       omega arith,
     )

@@ -1,5 +1,5 @@
 -- `encoder_step::choice_kinds` meets its contract. Assumes nothing.
-use Rattle.std.proofs.Common.{arith, length, refl, sym, ℕ, ◌+◌, ◌∙◌, ◌≡◌, ◌≤◌}
+use Rattle.std.proofs.Common.{arith, refl, sym, ℕ, ◌+◌, ◌≤◌}
 use Rattle.records.specs.Sets.{set_by}
 use Rattle.encoding.specs.Slots.{kinds, kind_number, choice, active, opening, shut}
 use Rattle.set_index.specs.Points.{listed}
@@ -10,57 +10,6 @@ use Rattle.encoder_step.proofs.Sequence.{five}
 use Rattle.encoder_slots.specs.Pieces.{block_room}
 use Rattle.table.specs.Repeats.{last_index}
 use Rattle.encoder_step.proofs.choice_kinds.Goals as goal
-
-pub bare_line-shut-requires : goal.bare_line-shut-requires
-bare_line-shut-requires c =
-    let q = c.requires in
-    let p0 = q.0 in
-    let p1 = q.1 in
-    let p2 = q.2 in
-    let m1 = c.bare_line-taken.ensures.1 in
-    let m2 = c.statement_block-active.ensures.1 in
-    let m3 = c.openings-open.ensures.1 in
-    let many = c.points_count-checkpoints.ensures in
-    (omega arith, omega arith)
-
-pub register_block-requires : goal.register_block-requires
-register_block-requires c =
-    let q = c.requires in
-    let p0 = q.0 in
-    let p1 = q.1 in
-    let m1 = c.bare_line-taken.ensures.1 in
-    let m2 = c.statement_block-active.ensures.1 in
-    let m3 = c.openings-open.ensures.1 in
-    let m4 = c.bare_line-shut.ensures.1 in
-    (omega arith, omega arith)
-
-pub shape_of-slots : goal.shape_of-slots
-shape_of-slots c =
-    let r1 = c.bare_line-taken in
-    let r2 = c.statement_block-active in
-    let r3 = c.openings-open in
-    let r4 = c.bare_line-shut in
-    let r5 = c.register_block in
-    let e1 : length r1.new.slots ≡ length c.args.slots.now = r1.auto.slots in
-    let e2 : length r2.new.slots ≡ length r1.new.slots = r2.auto.slots in
-    let e3 : length r3.new.slots ≡ length r2.new.slots = r3.auto.slots in
-    let e4 : length r4.new.slots ≡ length r3.new.slots = r4.auto.slots in
-    let e5 : length r5.new.slots ≡ length r4.new.slots = r5.auto.slots in
-    e5 ∙ (e4 ∙ (e3 ∙ (e2 ∙ (e1))))
-
-pub shape_of-out : goal.shape_of-out
-shape_of-out c =
-    let r1 = c.bare_line-taken in
-    let r2 = c.statement_block-active in
-    let r3 = c.openings-open in
-    let r4 = c.bare_line-shut in
-    let r5 = c.register_block in
-    let e1 : length r1.new.out ≡ length c.args.out.now = r1.auto.out in
-    let e2 : length r2.new.out ≡ length r1.new.out = r2.auto.out in
-    let e3 : length r3.new.out ≡ length r2.new.out = r3.auto.out in
-    let e4 : length r4.new.out ≡ length r3.new.out = r4.auto.out in
-    let e5 : length r5.new.out ≡ length r4.new.out = r5.auto.out in
-    e5 ∙ (e4 ∙ (e3 ∙ (e2 ∙ (e1))))
 
 pub returns : goal.returns
 unfolding kinds

@@ -16,7 +16,6 @@ loop-t-init c =
     let most = c.requires.1 in (
       omega arith,
       omega arith,
-      omega arith,
       refl,
       refl,
       λ (cs members : List ℕ) (step : ℕ) ready. (writes-row (line (set_by a.set.now a.layout) cs step flag) a.out.now a.slots.now a.n, ready),
@@ -32,14 +31,13 @@ loop-t-preserved c =
     let little = q.0 in
     let few : l.next + line_room ≤ last_index = omega arith in
     let last = r.ensures.1 in (
-      omega arith,
-      l.invariant.1,
+      l.invariant.0,
       omega arith,
       search rules,
       search rules,
       λ (cs members : List ℕ) (step : ℕ) ready.
           let f = line S cs step flag in
-          let done = l.invariant.5 cs members step ready in
+          let done = l.invariant.4 cs members step ready in
           let w = r.ensures.0 cs members step (omega arith) few done.1 in
           (writes_more f l.t a.out.now a.slots.now a.n _ _ _ _ _ _ done.0 w, ready-line step flag l.t w done.1),
     )
@@ -53,6 +51,6 @@ returns c =
     let t-is : l.t ≡ a.layout.threads = omega arith in (
       λ (cs members : List ℕ) (step : ℕ) ready.
           subst (λ (j : ℕ). Writes (upto (line S cs step flag) j) a.out.now a.slots.now a.n l.out l.slots l.next)
-          t-is (l.invariant.5 cs members step ready).0,
+          t-is (l.invariant.4 cs members step ready).0,
       omega arith,
     )

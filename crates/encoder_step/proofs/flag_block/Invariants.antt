@@ -1,5 +1,5 @@
 -- `encoder_step::flag_block` meets its contract. Assumes nothing.
-use Rattle.std.proofs.Common.{List, length, ℕ, ◌*◌, ◌+◌, ◌-◌, ◌≡◌, ◌≤◌}
+use Rattle.std.proofs.Common.{List, length, ℕ, ◌*◌, ◌+◌, ◌≡◌, ◌≤◌}
 use Rattle.encoding.specs.Steps.{line}
 use Rattle.encoding.specs.Slots.{flag}
 use Rattle.table.specs.Programs.{upto}
@@ -9,9 +9,6 @@ use Rattle.encoder_step.proofs.flag_block.Given as goal
 
 abbrev pub invariant-loop-t : goal.invariant-loop-t
 invariant-loop-t l =
-    (l.t ≤ l.threads) × (l.threads ≤ most_threads) × (l.next ≤ l.n + line_room * l.t) × (length l.out ≡ length l.initial.out) × (length l.slots ≡ length l.initial.slots)
+    (l.threads ≤ most_threads) × (l.next ≤ l.n + line_room * l.t) × (length l.out ≡ length l.initial.out) × (length l.slots ≡ length l.initial.slots)
     × ((cs members : List ℕ) (step : ℕ) → Ready (set_by l.set l.layout) cs members l.lists l.initial.slots l.n
     → (Writes (upto (line (set_by l.set l.layout) cs step flag) l.t) l.initial.out l.initial.slots l.n l.out l.slots l.next) × (Ready (set_by l.set l.layout) cs members l.lists l.slots l.next))
-
-abbrev pub decreases-loop-t : goal.decreases-loop-t
-decreases-loop-t l = l.threads - l.t

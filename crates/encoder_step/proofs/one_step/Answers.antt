@@ -1,39 +1,13 @@
 -- `encoder_step::one_step` meets its contract. Assumes nothing.
-use Rattle.std.proofs.Common.{[], arith, length, rules, ◌+◌, ◌∷◌, ◌≡◌, ◌≤◌}
-use Rattle.records.specs.Sets.{set_by, most_checkpoints}
+use Rattle.std.proofs.Common.{[], arith, ◌∷◌}
+use Rattle.records.specs.Sets.{set_by}
 use Rattle.table.specs.Programs.{needs as demanded}
 use Rattle.encoding.specs.Steps.{blocks, ruled, step}
 use Rattle.set_index.specs.Points.{listed}
 use Rattle.encoder_slots.proofs.Pieces.{writes-++}
 use Rattle.encoder_slots.proofs.Idle.{idle-none, idle-needs}
-use Rattle.set_index.proofs.Counted.{listed-most}
 use Rattle.encoder_slots.proofs.Ready.{ready-after, ready-blocks}
-use Rattle.encoder_step.specs.Entries.{step_room}
-use Rattle.table.specs.Repeats.{last_index}
 use Rattle.encoder_step.proofs.one_step.Goals as goal
-
-pub returns-then-slots-ne-SIZE : goal.returns-then-slots-ne-SIZE
-returns-then-slots-ne-SIZE c =
-    let a = c.args in
-    (λ ready room. absurd (c.if-slots-ne-SIZE.true ready.all_places), omega arith)
-
-pub returns-then-n-gt-LIMIT : goal.returns-then-n-gt-LIMIT
-returns-then-n-gt-LIMIT c =
-    let a = c.args in
-    let past = c.if-n-gt-LIMIT.true in
-    (λ ready (room : a.n + step_room ≤ last_index). absurd (omega arith), omega arith)
-
-pub returns-then-layout-gt-THREADS : goal.returns-then-layout-gt-THREADS
-returns-then-layout-gt-THREADS c =
-    let a = c.args in
-    let past = c.if-layout-gt-THREADS.true in
-    (λ ready room. absurd (let four = ready.by_name.four_threads in omega arith), omega arith)
-
-pub deciding_kinds-decided-requires : goal.deciding_kinds-decided-requires
-deciding_kinds-decided-requires c =
-    let a = c.args in
-    let eight : length a.points.numbers ≡ most_checkpoints = search rules in
-    (omega arith, omega arith, listed-most a.points eight)
 
 pub returns : goal.returns
 unfolding step

@@ -1,18 +1,16 @@
 -- `encoder_step::register_block` meets its contract. Assumes nothing.
-use Rattle.std.proofs.Common.{List, length, ℕ, ◌*◌, ◌+◌, ◌-◌, ◌≡◌, ◌≤◌}
+use Rattle.std.proofs.Common.{List, length, ℕ, ◌*◌, ◌+◌, ◌≡◌, ◌≤◌}
 use Rattle.records.specs.Sets.{Set}
 use Rattle.table.specs.Programs.{upto}
 use Rattle.encoding.specs.Slots.{kind_at}
 use Rattle.encoding.specs.Steps.{line}
+use Rattle.encoder_slots.specs.Kinds.{number_of}
 use Rattle.encoder_slots.specs.Pieces.{Writes, Ready, entry_room}
 use Rattle.encoder_step.specs.Entries.{ByThread}
 use Rattle.encoder_step.proofs.register_block.Given as goal
 
 abbrev pub invariant-loop-t : goal.invariant-loop-t
 invariant-loop-t l =
-    (l.t ≤ l.threads) × (l.next ≤ l.n + entry_room * l.t) × (length l.out ≡ length l.initial.out) × (length l.slots ≡ length l.initial.slots)
-    × ((S : Set) (cs lists : List ℕ) → S.threads ≡ l.threads → ByThread S cs l.kind → Ready S cs l.members lists l.initial.slots l.n
-    → (Writes (upto (line S cs l.step (kind_at l.kind)) l.t) l.initial.out l.initial.slots l.n l.out l.slots l.next) × (Ready S cs l.members lists l.slots l.next))
-
-abbrev pub decreases-loop-t : goal.decreases-loop-t
-decreases-loop-t l = l.threads - l.t
+    (l.next ≤ l.n + entry_room * l.t) × (length l.out ≡ length l.initial.out) × (length l.slots ≡ length l.initial.slots)
+    × ((S : Set) (cs lists : List ℕ) → S.threads ≡ l.threads → ByThread S cs (number_of l.kind) → Ready S cs l.members lists l.initial.slots l.n
+    → (Writes (upto (line S cs l.step (kind_at (number_of l.kind))) l.t) l.initial.out l.initial.slots l.n l.out l.slots l.next) × (Ready S cs l.members lists l.slots l.next))

@@ -12,11 +12,11 @@ use Rattle.encoder_step.proofs.rule.Goals as goal
 pub returns : goal.returns
 returns c =
     let a = c.args in
-    let twice : 2 * a.layout.threads ≡ a.layout.threads + a.layout.threads = omega arith in (
+    let twice : 2 * c.from-choices.result ≡ a.layout.threads + a.layout.threads = let e = c.from-choices.ensures in omega arith in (
       λ (bytes cs : List ℕ) (step : ℕ). rule-writes a.out.now a.slots.now a.n (set_by bytes a.layout) cs step _
-          (c.put-2.ensures ∙ ap (record_at (a.n + 1) (constraint a.n))
-          (c.put.ensures
-          ∙ λ i. record_at a.n (ternary_formula (if3 bit_sort) (c.place.ensures i)
-          ((c.place-2.ensures ∙ ap (λ (b : ℕ). place_from a.slots.now (kind_number none) 0 b 0) twice) i) (c.place-3.ensures i)) a.out.now)),
+          ((rw (c.new-constraint.ensures, c.from.ensures) at c.put-2.ensures) ∙ ap (record_at (a.n + 1) (constraint a.n))
+          ((rw c.new-test.ensures at c.put.ensures)
+          ∙ λ i. record_at a.n (ternary_formula (if3 bit_sort) (c.place-ended.ensures i)
+          ((c.place-none.ensures ∙ ap (λ (b : ℕ). place_from a.slots.now (kind_number none) 0 b 0) twice) i) (c.place-one.ensures i)) a.out.now)),
       refl,
     )

@@ -1,26 +1,12 @@
 -- `encoder_step::shared` meets its contract. Assumes nothing.
-use Rattle.std.proofs.Common.{arith, refl, ◌+◌, ◌≤◌}
+use Rattle.std.proofs.Common.{arith, refl}
 use Rattle.records.specs.Sets.{set_by}
 use Rattle.encoding.specs.Slots.{kinds, word_one, argument, kind_number}
 use Rattle.encoding.specs.Steps.{block}
 use Rattle.encoder_slots.proofs.Pieces.{writes-++}
 use Rattle.encoder_step.proofs.Loops.{lone-at, one_value}
 use Rattle.encoder_slots.proofs.Ready.{ready-block}
-use Rattle.encoder_step.specs.Entries.{step_room}
-use Rattle.table.specs.Repeats.{last_index}
 use Rattle.encoder_step.proofs.shared.Goals as goal
-
-pub returns-then-n-gt-LIMIT : goal.returns-then-n-gt-LIMIT
-returns-then-n-gt-LIMIT c =
-    let a = c.args in
-    let past = c.if-n-gt-LIMIT.true in
-    (λ cs lists ready (room : a.n + step_room ≤ last_index). absurd (omega arith), omega arith)
-
-pub returns-then-layout-gt-THREADS : goal.returns-then-layout-gt-THREADS
-returns-then-layout-gt-THREADS c =
-    let a = c.args in
-    let past = c.if-layout-gt-THREADS.true in
-    (λ cs lists ready room. absurd (let four = ready.by_name.four_threads in omega arith), omega arith)
 
 pub returns : goal.returns
 unfolding kinds

@@ -1,49 +1,10 @@
 -- `encoder_step::statement_kinds` meets its contract. Assumes nothing.
-use Rattle.std.proofs.Common.{arith, length, refl, ◌∙◌, ◌≡◌}
+use Rattle.std.proofs.Common.{arith}
 use Rattle.records.specs.Sets.{set_by}
 use Rattle.encoding.specs.Slots.{kinds, address, loaded, swaps, result}
 use Rattle.encoder_slots.proofs.Ready.{ready-block}
 use Rattle.encoder_step.proofs.Sequence.{five}
 use Rattle.encoder_step.proofs.statement_kinds.Goals as goal
-
-pub statement_block-requires : goal.statement_block-requires
-statement_block-requires c =
-    let q = c.requires in
-    let p0 = q.0 in
-    let p1 = q.1 in
-    let m1 = c.statement_block-addresses.ensures.1 in
-    let m2 = c.statement_block-loaded.ensures.1 in
-    let m3 = c.statement_block-swaps.ensures.1 in
-    let m4 = c.statement_block-results.ensures.1 in
-    (omega arith, omega arith, omega arith, refl)
-
-pub shape_of-slots : goal.shape_of-slots
-shape_of-slots c =
-    let r1 = c.statement_block-addresses in
-    let r2 = c.statement_block-loaded in
-    let r3 = c.statement_block-swaps in
-    let r4 = c.statement_block-results in
-    let r5 = c.statement_block in
-    let e1 : length r1.new.slots ≡ length c.args.slots.now = r1.auto.slots in
-    let e2 : length r2.new.slots ≡ length r1.new.slots = r2.auto.slots in
-    let e3 : length r3.new.slots ≡ length r2.new.slots = r3.auto.slots in
-    let e4 : length r4.new.slots ≡ length r3.new.slots = r4.auto.slots in
-    let e5 : length r5.new.slots ≡ length r4.new.slots = r5.auto.slots in
-    e5 ∙ (e4 ∙ (e3 ∙ (e2 ∙ (e1))))
-
-pub shape_of-out : goal.shape_of-out
-shape_of-out c =
-    let r1 = c.statement_block-addresses in
-    let r2 = c.statement_block-loaded in
-    let r3 = c.statement_block-swaps in
-    let r4 = c.statement_block-results in
-    let r5 = c.statement_block in
-    let e1 : length r1.new.out ≡ length c.args.out.now = r1.auto.out in
-    let e2 : length r2.new.out ≡ length r1.new.out = r2.auto.out in
-    let e3 : length r3.new.out ≡ length r2.new.out = r3.auto.out in
-    let e4 : length r4.new.out ≡ length r3.new.out = r4.auto.out in
-    let e5 : length r5.new.out ≡ length r4.new.out = r5.auto.out in
-    e5 ∙ (e4 ∙ (e3 ∙ (e2 ∙ (e1))))
 
 pub returns : goal.returns
 unfolding kinds

@@ -1,53 +1,50 @@
 -- `evaluation::evaluate` meets its contract. Assumes nothing.
-use Rattle.std.proofs.Common.{ap, arith, le-ltb, length, length-set, lt-ltb, refl, rules, set, sym, ℕ, ◌%◌, ◌*◌, ◌+◌, ◌-◌, ◌/◌, ◌∙◌, ◌≡◌}
+use Rattle.std.proofs.Common.{ap, arith, le-ltb, length, length-set, refl, set, sym, ℕ, ◌%◌, ◌*◌, ◌+◌, ◌-◌, ◌/◌, ◌∙◌, ◌≡◌}
 use Rattle.evaluation.proofs.Turns.{false-here, false-later, turned-next}
-use Rattle.evaluation.specs.Evaluations.{given_by, turned, false_from, false_in}
-use Rattle.base.proofs.Choice.{chosen, passed}
+use Rattle.evaluation.specs.Evaluations.{formula_in, given_by, turned, false_from, false_in}
+use Rattle.base.proofs.Choice.{passed}
 use Rattle.evaluation.proofs.evaluate.Goals as goal
-
-pub returns-then-work-n : goal.returns-then-work-n
-unfolding false_in
-returns-then-work-n c = sym (chosen _ _ (lt-ltb _ _ c.if-work-n.true))
 
 pub loop-i-init : goal.loop-i-init
 unfolding turned
-loop-i-init c = let a = c.args in let e : a.n ≡ a.n - 0 = omega arith in
-    (search rules, (search rules, (refl, (ap (λ (k : ℕ). false_from (given_by a.threads a.bound a.model.now a.cells.now) a.n 0 k a.work.now) e, refl))))
+loop-i-init c =
+    let a = c.args in
+    let all : a.n ≡ a.n - 0 = omega arith in
+    record {
+      long = refl;
+      found = ap (λ (k : ℕ). false_from (given_by a.threads a.bound a.model.now a.cells.now) a.n 0 k a.work.now) all;
+      turn = refl;
+    }
 
 pub returns-then-is_false : goal.returns-then-is_false
 unfolding false_in
-returns-then-is_false c = let a = c.args in
-    sym (passed _ _ (le-ltb _ _ c.if-work-n.false) ∙ (c.loop-i.invariant.1.1.1.0
-    ∙ false-here (given_by a.threads a.bound a.model.now a.cells.now) a.n c.loop-i.i c.loop-i.work c.formula-f.result c.formula-f.ensures c.loop-i-test.true (sym c.is_false.ensures ∙ c.if-is_false.true)))
-
-pub word_of-value-requires : goal.word_of-value-requires
-word_of-value-requires c = (search rules, λ e. sym c.map_accepted-ordered.ensures ∙ e)
+returns-then-is_false c =
+    let a = c.args in
+    let l = c.loop-i in
+    let here = c.formula-f.ensures ∙ ap (formula_in l.work a.n) c.from.ensures in
+    sym (passed _ _ (le-ltb _ _ c.if-work-n.false) ∙ l.invariant.found
+    ∙ false-here (given_by a.threads a.bound a.model.now a.cells.now) a.n l.i l.work c.formula-f.result here c.loop-i-test.true (sym c.is_false.ensures ∙ c.if-is_false.true))
 
 pub loop-i-preserved : goal.loop-i-preserved
-loop-i-preserved c = let a = c.args in
-    let at = 16 * a.n + 2 * c.loop-i.i in
-    let w = c.word_of-value.result in
+loop-i-preserved c =
+    let a = c.args in
+    let l = c.loop-i in
+    let g = given_by a.threads a.bound a.model.now a.cells.now in
+    let at = 16 * a.n + 2 * l.i in
+    let w = c.word_of-word.result in
     let k = c.store.ensures in
-    let n = length-set c.loop-i.work at (w % 256) in
-    let m = length-set (set c.loop-i.work at (w % 256)) (at + 1) (w / 256) in
-    let q = c.loop-i.invariant in
-    let p = ap length k in (
-      search rules,
-      (
-        omega arith,
-        (
-          omega arith,
-          (
-            q.1.1.1.0 ∙ false-later (given_by a.threads a.bound a.model.now a.cells.now) a.n c.loop-i.i c.loop-i.work c.formula-f.result c.formula-f.ensures c.loop-i-test.true w _ (sym c.is_false.ensures ∙ c.if-is_false.false) c.word_of-value.ensures k,
-            turned-next (given_by a.threads a.bound a.model.now a.cells.now) a.n c.loop-i.i a.work.now c.loop-i.work c.formula-f.result w _ q.1.1.1.1 c.formula-f.ensures c.word_of-value.ensures k,
-          ),
-        ),
-      ),
-    )
+    let here = c.formula-f.ensures ∙ ap (formula_in l.work a.n) c.from.ensures in
+    record {
+      long = ap length k ∙ length-set (set l.work at (w % 256)) (at + 1) (w / 256) ∙ length-set l.work at (w % 256) ∙ l.invariant.long;
+      found = l.invariant.found ∙ false-later g a.n l.i l.work c.formula-f.result here c.loop-i-test.true w _ (sym c.is_false.ensures ∙ c.if-is_false.false) c.word_of-word.ensures k;
+      turn = turned-next g a.n l.i a.work.now l.work c.formula-f.result w _ l.invariant.turn here c.word_of-word.ensures k;
+    }
 
 pub returns : goal.returns
 unfolding false_in false_from
-returns c = let a = c.args in
-    let e : a.n - c.loop-i.i ≡ 0 = omega arith in
-    let d : c.loop-i.i ≡ a.n = omega (arith, c.loop-i.invariant.0) in
-    sym (passed _ _ (le-ltb _ _ c.if-work-n.false) ∙ (c.loop-i.invariant.1.1.1.0 ∙ (ap (λ (k : ℕ). false_from (given_by a.threads a.bound a.model.now a.cells.now) a.n c.loop-i.i k c.loop-i.work) e ∙ d)))
+returns c =
+    let a = c.args in
+    let l = c.loop-i in
+    let e : a.n - l.i ≡ 0 = omega arith in
+    let d : l.i ≡ a.n = omega arith in
+    sym (passed _ _ (le-ltb _ _ c.if-work-n.false) ∙ l.invariant.found ∙ ap (λ (k : ℕ). false_from (given_by a.threads a.bound a.model.now a.cells.now) a.n l.i k l.work) e ∙ d)

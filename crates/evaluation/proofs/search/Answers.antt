@@ -1,33 +1,22 @@
 -- `evaluation::search` meets its contract. Assumes nothing.
-use Rattle.std.proofs.Common.{arith, rules, sym, ◌+◌, ◌-◌, ◌/◌, ◌<◌, ◌∙◌}
-use Rattle.evaluation.proofs.Halves.{missing, found, lower, higher}
-use Rattle.records.specs.Maps.{address_at}
-use native.Mathlib.Decide.{dec_lt}
+use Rattle.std.proofs.Common.{List, [], ℕ, Some, Ok, Err, get_or, ap, ◌∙◌, arith, rules, subst}
+use Rattle.std.specs.List.Sorted.{IsBinarySearchResult}
+use Rattle.std.proofs.lemmas.List.Sorted.{answers_always}
+use Rattle.base.specs.Bytes.{word_at}
+use Rattle.evaluation.proofs.Halves.{order, searched}
 use Rattle.evaluation.proofs.search.Goals as goal
 
-pub loop-low-init : goal.loop-low-init
-loop-low-init c = (search rules, (search rules, (λ j h. absurd (omega arith), λ j h k. absurd (omega arith))))
+pub returns-in-Ok : goal.returns-in-Ok
+returns-in-Ok c =
+    let m = c.args.cells.now in
+    let says = c.in-Ok.ensures.position (λ (y : List ℕ). word_at y 0) (answers_always _ _ _ (λ f a r g called. search rules)) in
+    let f = c.as_chunks.ensures.front in
+    let some = searched m c.args.x c.requires (Ok c.in-Ok.k) (subst (λ (cs : List (List ℕ)). IsBinarySearchResult (order c.args.x) cs (Ok c.in-Ok.k)) f says) (omega (arith, c.as_chunks.ensures.front_len, c.in-Ok.ensures.bound)) in
+    ap Some c.word_at.ensures ∙ ap (λ (cells : List (List ℕ)). Some (word_at (get_or cells c.in-Ok.k []) 2)) f ∙ some
 
-pub returns-then-address-x : goal.returns-then-address-x
-returns-then-address-x c = let a = c.args in
-    c.word_at.ensures ∙ sym (found a.cells.now a.x c.requires (c.loop-low.low + (c.loop-low.high - c.loop-low.low) / 2) (omega arith) (sym c.word_at-address.ensures ∙ c.if-address-x.true))
-
-pub loop-low-preserved-then-address-x-2 : goal.loop-low-preserved-then-address-x-2
-loop-low-preserved-then-address-x-2 c = let a = c.args in let v = c.loop-low.invariant in
-    let middle = c.loop-low.low + (c.loop-low.high - c.loop-low.low) / 2 in
-    let e : address_at a.cells.now middle < a.x = omega (arith, c.word_at-address.ensures, c.if-address-x-2.true) in
-    (search rules, (v.1.0, (lower a.cells.now a.x c.requires middle (omega arith) e, v.1.1.1)))
-
-pub loop-low-preserved : goal.loop-low-preserved
-loop-low-preserved c = let a = c.args in let v = c.loop-low.invariant in
-    let middle = c.loop-low.low + (c.loop-low.high - c.loop-low.low) / 2 in
-    let e : a.x < address_at a.cells.now middle = omega (arith, c.word_at-address.ensures, c.if-address-x.false, c.if-address-x-2.false) in
-    (search rules, (search rules, (v.1.1.0, higher a.cells.now a.x c.requires middle (omega arith) e)))
-
-pub returns : goal.returns
-returns c = let a = c.args in let v = c.loop-low.invariant in
-    let low = c.loop-low.low in
-    sym (missing a.cells.now a.x (λ j h e. elim (dec_lt j low) [
-      | yes p ↦ omega (arith, v.1.1.0 j p, e)
-      | no p ↦ omega (arith, v.1.1.1 j (omega arith) h, e)
-    ]))
+pub returns-in-Err : goal.returns-in-Err
+returns-in-Err c =
+    let m = c.args.cells.now in
+    let says = c.in-Err.ensures.position (λ (y : List ℕ). word_at y 0) (answers_always _ _ _ (λ f a r g called. search rules)) in
+    let f = c.as_chunks.ensures.front in
+    searched m c.args.x c.requires (Err c.in-Err.field-0) (subst (λ (cs : List (List ℕ)). IsBinarySearchResult (order c.args.x) cs (Err c.in-Err.field-0)) f says)

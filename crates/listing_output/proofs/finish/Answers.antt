@@ -1,13 +1,14 @@
 -- `listing_output::finish` meets its contract: simulation's answer is told by its cases. Assumes nothing.
-use Rattle.std.proofs.Common.{ap, sym, ◌∙◌}
+use Rattle.std.proofs.Common.{ap, ◌∙◌}
+use Rattle.listing_output.specs.Listings.{refused_line}
 use Rattle.listing_output.specs.Outputs.{last_of}
 use Rattle.listing_output.proofs.Texts.{prints_as}
 use Rattle.listing_output.proofs.finish.Goals as goal
 
-pub returns-in-Ran : goal.returns-in-Ran
+pub returns-in-Ok : goal.returns-in-Ok
 unfolding last_of
-returns-in-Ran c = prints_as (ap last_of (sym c.in-Ran.is ∙ c.simulate-answer.ensures.0)) c.last.ensures
+returns-in-Ok c = prints_as (ap last_of c.in-Ok.ensures.0) c.last.ensures
 
-pub returns-in-Refused : goal.returns-in-Refused
+pub returns-in-Err : goal.returns-in-Err
 unfolding last_of
-returns-in-Refused c = prints_as (ap last_of (sym c.in-Refused.is ∙ c.simulate-answer.ensures.0)) c.refusal.ensures
+returns-in-Err c = prints_as (ap refused_line c.number.ensures ∙ ap last_of c.in-Err.ensures.0) c.refusal.ensures

@@ -1,5 +1,5 @@
 -- `listing_output::run` meets its contract. The loop's invariant: the first k bytes of the schedule are a run of lowest choices, and its lines stand in the output. Assumes nothing.
-use Rattle.std.proofs.Common.{length, take, true, ◌-◌, ◌≡◌, ◌≤◌}
+use Rattle.std.proofs.Common.{length, take, true, ◌-◌, ◌≡◌}
 use Rattle.records.specs.Sets.{set_of}
 use Rattle.machine.specs.Machine.{no_write}
 use Rattle.machine.specs.Maps.{begin}
@@ -14,9 +14,6 @@ use Rattle.listing_output.proofs.run.Given as goal
 
 abbrev pub invariant-loop-k : goal.invariant-loop-k
 invariant-loop-k l =
-    (accepts l.set l.map ≡ true) × (l.k ≤ 64) × (length l.schedule ≡ 64) × (length l.trace ≡ longest_trace) × (length l.out ≡ length l.initial.out)
+    (accepts l.set l.map ≡ true) × (length l.schedule ≡ 64) × (length l.trace ≡ longest_trace)
     × Follows (set_of l.set) (begin l.map) (listing_from (set_of l.set) (begin l.map) no_write 64) (choices (take l.k l.schedule)) (64 - l.k)
     × Stands (lines_of (set_of l.set) (begin l.map) no_write (choices (take l.k l.schedule))) l.initial.out l.at l.out
-
-abbrev pub decreases-loop-k : goal.decreases-loop-k
-decreases-loop-k l = 64 - l.k

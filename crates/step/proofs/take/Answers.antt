@@ -1,5 +1,5 @@
 -- `step::take` meets its contract. Assumes nothing.
-use Rattle.std.proofs.Common.{Bool, List, ap, arith, cond, get_or, length, ltb, not, refl, rules, set, subst, sym, ℕ, ◌%◌, ◌&&◌, ◌∙◌, ◌≡◌, ◌≤◌}
+use Rattle.std.proofs.Common.{Bool, List, ap, arith, cond, get_or, length, ltb, not, refl, rules, set, subst, sym, ℕ, ◌%◌, ◌&&◌, ◌∙◌, ◌≡◌, ◌≤◌, Option}
 use borrow.Author.Tests.{lt-leb}
 use Rattle.base.proofs.Choice.{passed, and_false}
 use Rattle.records.specs.Sets.{Set, set_by}
@@ -9,7 +9,6 @@ use Rattle.machine.specs.Machine.{actor, unmarked}
 use Rattle.machine.specs.Maps.{Held, outcome, advanced}
 use Rattle.machine.specs.declared.Choice.{Choice}
 use Rattle.machine.specs.declared.Machine.{Machine}
-use Rattle.machine.specs.declared.Mark.{Mark}
 use Rattle.machine.specs.declared.Outcome.{Outcome}
 use Rattle.machine.specs.declared.Outcome.TheVariants.{NotPermitted}
 use Rattle.step.specs.Acting.{marks_settled}
@@ -59,7 +58,7 @@ returns-then-not-quiet c =
       came = came;
       holds = (loud_held set_of_lem m memory_of_lem known_of_lem choice_of few told roomed t n
           (ap (λ (k : ℕ). set m.threads (k % 4) c.advance-s.result.thread) u.ensures) four-threads
-          (marks.ensures ∙ ap {B = ℕ → Mark} (λ (k : ℕ). cond (ltb k 4) (marks_settled set_of_lem (λ v. get_or m.marks v unmarked) k c.advance-s.result.statement) (λ v. get_or m.marks v unmarked)) u.ensures)
+          (marks.ensures ∙ ap {B = ℕ → Option ℕ} (λ (k : ℕ). cond (ltb k 4) (marks_settled set_of_lem (λ v. get_or m.marks v unmarked) k c.advance-s.result.statement) (λ v. get_or m.marks v unmarked)) u.ensures)
           c.ended_after.ensures
           c.code_after.ensures) ∙ taken_holds;
       more = c.advance-s.ensures.more;

@@ -10,6 +10,6 @@ returns c =
     let a = c.args in (
       λ h. c.put_three.ensures.0 (place_of a.slots.now) _ h
           (gives_may (place_of a.slots.now) a.n _ (slot full a.t 0) (slot barred a.t 0) (slot waits a.t 0) (refl, (refl, (refl, (refl, refl))))
-          c.formula-first.ensures c.formula-second.ensures c.formula-third.ensures c.place-full.ensures c.place-barred.ensures c.place-waits.ensures),
+          c.new-first.ensures (rw c.from-k.ensures at c.new-second.ensures) (rw c.from-k.ensures at c.new-third.ensures) c.place-full.ensures c.place-barred.ensures c.place-waits.ensures),
       c.put_three.ensures.1,
     )

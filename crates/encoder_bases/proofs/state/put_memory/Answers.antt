@@ -10,6 +10,6 @@ pub returns : goal.returns
 returns c =
     let a = c.args in (
       c.put_one.ensures.0 (place_of a.slots.now) _
-          (gives_ternary (place_of a.slots.now) a.n _ write3 (slot shared_memory 0 0) (slot write_to 0 a.threads) (slot write_value 0 a.threads) (refl, (refl, refl)) c.place-memory.ensures c.place-address.ensures c.place-value.ensures),
+          (gives_ternary (place_of a.slots.now) a.n _ write3 (slot shared_memory 0 0) (slot write_to 0 a.threads) (slot write_value 0 a.threads) (refl, (refl, refl)) c.place-memory.ensures (rw c.from.ensures at c.place-address.ensures) (rw c.from-2.ensures at c.place-value.ensures)),
       c.put_one.ensures.1,
     )

@@ -2,6 +2,9 @@
 use Rattle.std.proofs.Common.{List, ap, sym, ℕ, ◌+◌, ◌∙◌, ◌≡◌}
 use Rattle.encoder_chains.proofs.Chained.{chained-last}
 use Rattle.encoder_chains.specs.Placed.{placed_link, if_link}
+use Rattle.encoder_slots.specs.Kinds.{number_of}
+use Rattle.encoder_slots.specs.declared.kinds.Kind.TheVariants.{OnePermitted, FlushTo, FlushValue}
+use Rattle.encoder_slots.proofs.Numbers.{same-number}
 use Rattle.encoder_slots.specs.Places.{place_of, place_from}
 use Rattle.encoding.specs.Steps.{link}
 use Rattle.encoding.specs.Slots.{kinds, kind_at, kind_number, choice, one_permitted, flush_to, flush_value, adr, val, halts}
@@ -22,19 +25,28 @@ flush : (effect threads i : ℕ) (slots : List ℕ) (S : Set) → S.threads ≡ 
 flush effect threads i slots S e =
     sym (ap (λ (x : ℕ). if_link word_sort (place_from slots (kind_number choice) 0 (x + i) 0) (place_from slots effect i 0 2)) e)
 
-pub returns-in-10 : goal.returns-in-10
+pub returns-in-OnePermitted : goal.returns-in-OnePermitted
 unfolding kinds
-returns-in-10 c = λ (S : Set) (cs : List ℕ) e single. c.one_permitted.ensures ∙ arm (kind_number one_permitted) c.args.kind c.args.i c.args.slots.now c.in-10.is S cs
+returns-in-OnePermitted c = λ (S : Set) (cs : List ℕ) e single.
+    c.one_permitted.ensures ∙ arm (kind_number one_permitted) (number_of c.args.kind) c.args.i c.args.slots.now (ap number_of c.in-OnePermitted.is) S cs
 
-pub returns-in-17 : goal.returns-in-17
+pub returns-in-FlushTo : goal.returns-in-FlushTo
 unfolding kinds
-returns-in-17 c = λ (S : Set) (cs : List ℕ) e single. c.flushed.ensures ∙ (flush (kind_number adr) c.args.threads c.args.i c.args.slots.now S e ∙ arm (kind_number flush_to) c.args.kind c.args.i c.args.slots.now c.in-17.is S cs)
+returns-in-FlushTo c = λ (S : Set) (cs : List ℕ) e single.
+    c.flushed.ensures
+    ∙ (flush (kind_number adr) c.args.threads c.args.i c.args.slots.now S e ∙ arm (kind_number flush_to) (number_of c.args.kind) c.args.i c.args.slots.now (ap number_of c.in-FlushTo.is) S cs)
 
-pub returns-in-19 : goal.returns-in-19
+pub returns-in-FlushValue : goal.returns-in-FlushValue
 unfolding kinds
-returns-in-19 c = λ (S : Set) (cs : List ℕ) e single. c.flushed-in-19.ensures ∙ (flush (kind_number val) c.args.threads c.args.i c.args.slots.now S e ∙ arm (kind_number flush_value) c.args.kind c.args.i c.args.slots.now c.in-19.is S cs)
+returns-in-FlushValue c = λ (S : Set) (cs : List ℕ) e single.
+    c.flushed-in-FlushValue.ensures
+    ∙ (flush (kind_number val) c.args.threads c.args.i c.args.slots.now S e ∙ arm (kind_number flush_value) (number_of c.args.kind) c.args.i c.args.slots.now (ap number_of c.in-FlushValue.is) S cs)
 
 pub returns-in_default : goal.returns-in_default
 unfolding kinds
 returns-in_default c = λ (S : Set) (cs : List ℕ) e single.
-    c.halts.ensures ∙ arm (kind_number halts) c.args.kind c.args.i c.args.slots.now (chained-last c.args.kind single c.in_default.in_default-own.rest) S cs
+    let k = c.args.kind in
+    let other = c.in_default in
+    c.halts.ensures
+    ∙ arm (kind_number halts) (number_of k) c.args.i c.args.slots.now
+    (chained-last (number_of k) single (λ p. other.not-OnePermitted (same-number k OnePermitted p)) (λ p. other.not-FlushTo (same-number k FlushTo p)) (λ p. other.not-FlushValue (same-number k FlushValue p))) S cs

@@ -1,53 +1,35 @@
 -- `encoder_chains::given::given_chain` meets its contract. Assumes nothing.
-use Rattle.std.proofs.Common.{List, subst, ℕ}
+use Rattle.std.proofs.Common.{List, arith, subst, ℕ}
 use Rattle.records.specs.Sets.{Set}
 use Rattle.encoding.specs.Slots.{Term}
+use Rattle.encoder_slots.specs.Kinds.{number_of}
 use Rattle.encoder_slots.specs.Pieces.{WritesTree}
 use Rattle.encoder_slots.specs.Places.{place_of}
-use Rattle.encoder_chains.proofs.Givers.{gives_own, gives_bit, gives_accu, gives_chain}
+use Rattle.encoder_chains.specs.Given.{given_by}
+use Rattle.encoder_chains.proofs.Givers.{gives_chain}
+use Rattle.encoder_chains.proofs.Trees.{chain-none, chain-to}
 use Rattle.encoder_chains.proofs.given.given_chain.Goals as goal
 
-pub returns-then-giver : goal.returns-then-giver
-returns-then-giver c =
+pub returns-in-Some : goal.returns-in-Some
+returns-in-Some c =
     let a = c.args in
-    let giver = c.giver_of-giver in
-    let gives = giver.ensures in
-    let put = c.own_links in (
-      (λ (S : Set) (cs lists : List ℕ) (tree : Term) (start : List ℕ) (m : ℕ) row few ready w.
+    let giver = c.in-Some.giver in
+    let gives = c.in-Some.ensures in
+    let put = c.giver_links in (
+      λ (S : Set) (cs lists : List ℕ) (tree : Term) (start : List ℕ) (m : ℕ) row few ready w.
           subst (λ (x : Term). WritesTree (place_of a.slots.now) x start m put.new.out put.result.next put.result.at)
-          (gives_chain a.kind giver.result gives a.t S tree (S.count a.t))
-          (put.ensures.0 S cs lists (gives.link a.t) tree start m gives.small.0 gives.small.1 row few ready
-          (λ h i. gives_own a.kind giver.result gives a.t a.slots.now h i c.if-giver.true)
-          w)),
+          (gives_chain (number_of a.kind) giver gives a.t S tree (S.count a.t))
+          (put.ensures.0 S cs lists (gives.link a.t) tree start m row few ready (gives.places a.slots.now a.t) w),
       put.ensures.1,
     )
 
-pub returns-then-giver-eq-BIT : goal.returns-then-giver-eq-BIT
-returns-then-giver-eq-BIT c =
-    let a = c.args in
-    let giver = c.giver_of-giver in
-    let gives = giver.ensures in
-    let put = c.fixed_links in (
-      (λ (S : Set) (cs lists : List ℕ) (tree : Term) (start : List ℕ) (m : ℕ) row few ready w.
-          subst (λ (x : Term). WritesTree (place_of a.slots.now) x start m put.new.out put.result.next put.result.at)
-          (gives_chain a.kind giver.result gives a.t S tree (S.count a.t))
-          (put.ensures.0 S cs lists (gives.link a.t) tree start m gives.small.0 row few ready
-          (λ h i. gives_bit a.kind giver.result gives a.t a.slots.now h i _ c.place-one.ensures c.if-giver.false c.if-giver-eq-BIT.true)
-          w)),
-      put.ensures.1,
-    )
-
-pub returns : goal.returns
-returns c =
-    let a = c.args in
-    let giver = c.giver_of-giver in
-    let gives = giver.ensures in
-    let put = c.fixed_links-2 in (
-      (λ (S : Set) (cs lists : List ℕ) (tree : Term) (start : List ℕ) (m : ℕ) row few ready w.
-          subst (λ (x : Term). WritesTree (place_of a.slots.now) x start m put.new.out put.result.next put.result.at)
-          (gives_chain a.kind giver.result gives a.t S tree (S.count a.t))
-          (put.ensures.0 S cs lists (gives.link a.t) tree start m gives.small.0 row few ready
-          (λ h i. gives_accu a.kind giver.result gives a.t a.slots.now h i _ c.place-accu.ensures c.if-giver.false c.if-giver-eq-BIT.false)
-          w)),
-      put.ensures.1,
+pub returns-in-None : goal.returns-in-None
+returns-in-None c =
+    let a = c.args in (
+      λ (S : Set) (cs lists : List ℕ) (tree : Term) (start : List ℕ) (m : ℕ) row few ready w.
+          let links = given_by S (number_of a.kind) a.t in
+          chain-to (place_of a.slots.now) links tree start m a.out.now a.n a.base 0 (S.count a.t) (omega arith)
+          (λ (x : ℕ) p q. c.in-None.ensures a.t x (S.statement a.t x).number)
+          (chain-none (place_of a.slots.now) links tree start m a.out.now a.n a.base w),
+      omega arith,
     )

@@ -1,5 +1,5 @@
 -- `listing_output::lines::act` meets its contract: its items stand one after the other. Assumes nothing.
-use Rattle.std.proofs.Common.{ap, append_assoc, get_or, ℕ, ◌≡◌}
+use Rattle.std.proofs.Common.{ap, append_assoc, get_or, ℕ, ◌≡◌, ◌∙◌}
 use Rattle.base.specs.Bytes.{word_at}
 use Rattle.records.specs.declared.Statement.{Statement}
 use Rattle.listing_output.specs.Listings.{item, name, argument}
@@ -19,5 +19,5 @@ returns c =
     (prints_as same c.argument-next.ensures _ xs
     (prints_as (ap (λ (n : ℕ). item (name n)) number) c.word-named.ensures _ xs
     (prints_item c.word_at-2.ensures c.item-pc.ensures _ xs
-    (prints_item c.byte_at-2.ensures c.item-thread.ensures before xs s)))))
+    (prints_item (c.from.ensures ∙ c.byte_at-2.ensures) c.item-thread.ensures before xs s)))))
     (simp append_assoc)

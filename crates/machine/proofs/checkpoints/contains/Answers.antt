@@ -1,5 +1,5 @@
 -- `machine::checkpoints::contains` meets its contract. Assumes nothing.
-use Rattle.std.proofs.Common.{List, ap, arith, eqb, get_or, refl, rules, sym, ℕ, ◌&&◌, ◌<◌, ◌∙◌, ◌≡◌}
+use Rattle.std.proofs.Common.{List, ap, arith, eqb, get_or, refl, sym, ℕ, ◌&&◌, ◌<◌, ◌∙◌, ◌≡◌}
 use Rattle.machine.proofs.Groups.{some_same}
 use Rattle.base.specs.Below.{some}
 use Rattle.base.proofs.Below.{some_more, some_at}
@@ -20,13 +20,13 @@ checked-is set layout t c first q e l =
 
 pub loop-p-init : goal.loop-p-init
 unfolding some
-loop-p-init c = (search rules, omega (arith, c.count-n.type_inv), omega (arith, c.first-first.ensures.1), refl)
+loop-p-init c = refl
 
 pub returns-then-checks : goal.returns-then-checks
 unfolding contains
 returns-then-checks c =
     let found : let a = c.args in c.checks.result ≡ checked a.set.now c.first-first.result a.c c.loop-p.p = let a = c.args in
-    c.checks.ensures ∙ ap (λ (i : Statement). eqb i.number CHECK && eqb i.argument a.c) c.statement_at-i.ensures in
+    c.checks.ensures ∙ ap (λ (i : Statement). eqb i.number CHECK && eqb i.argument a.c) c.statement_at-i.ensures ∙ ap (checked a.set.now c.first-first.result a.c) c.from.ensures in
     let l = c.loop-p in
     let a = c.args in
     let n = c.count-n.ensures in
@@ -36,10 +36,10 @@ returns-then-checks c =
 pub loop-p-preserved : goal.loop-p-preserved
 loop-p-preserved c =
     let found : let a = c.args in c.checks.result ≡ checked a.set.now c.first-first.result a.c c.loop-p.p = let a = c.args in
-    c.checks.ensures ∙ ap (λ (i : Statement). eqb i.number CHECK && eqb i.argument a.c) c.statement_at-i.ensures in
+    c.checks.ensures ∙ ap (λ (i : Statement). eqb i.number CHECK && eqb i.argument a.c) c.statement_at-i.ensures ∙ ap (checked a.set.now c.first-first.result a.c) c.from.ensures in
     let l = c.loop-p in
     let a = c.args in
-    (search rules, search rules, search rules, some_more (λ q. checked a.set.now _ a.c q) l.p l.invariant.3 (sym found ∙ c.if-checks.false))
+    some_more (λ q. checked a.set.now _ a.c q) l.p l.invariant (sym found ∙ c.if-checks.false)
 
 pub returns : goal.returns
 unfolding contains
@@ -47,7 +47,7 @@ returns c =
     let l = c.loop-p in
     let a = c.args in
     let n = c.count-n.ensures in
-    let e : l.p ≡ get_or a.layout.counts a.t 0 = omega (arith, n, c.loop-p-test.false, l.invariant.0) in
-    sym l.invariant.3 ∙ some_same _ (is_check (set_by a.set.now a.layout) a.t a.c) l.p
+    let e : l.p ≡ get_or a.layout.counts a.t 0 = omega (arith, n, c.loop-p-test.false, l.auto.p-end) in
+    sym l.invariant ∙ some_same _ (is_check (set_by a.set.now a.layout) a.t a.c) l.p
     (λ k h. checked-is a.set.now a.layout a.t a.c _ k c.first-first.ensures.0 (omega (arith, e, h)))
     ∙ ap (λ (k : ℕ). some k (is_check (set_by a.set.now a.layout) a.t a.c)) e

@@ -1,6 +1,5 @@
 -- `machine::checkpoints::opened` meets its contract. Assumes nothing.
-use Rattle.std.proofs.Common.{refl, ap, arith, not, rules, sym, ℕ, ◌||◌, ◌∙◌, ◌≡◌}
-use Rattle.machine.specs.declared.Mark.{Mark}
+use Rattle.std.proofs.Common.{refl, ap, arith, not, rules, sym, ℕ, ◌||◌, ◌∙◌, ◌≡◌, Option}
 use Rattle.records.specs.Sets.{set_by}
 use Rattle.machine.specs.Machine.{contains, marked_at, opened}
 use Rattle.base.proofs.Below.{every_more, every-not}
@@ -12,7 +11,7 @@ pub returns-then-shuts : goal.returns-then-shuts
 unfolding opened
 returns-then-shuts c =
     let judged : let a = c.args in passes (set_by a.set.now a.layout) a.marks a.c c.loop-t.t ≡ not c.shuts.result = let a = c.args in
-    sym (c.shuts.ensures ∙ ap (λ (m : Mark). not (contains (set_by a.set.now a.layout) c.loop-t.t a.c) || marked_at m a.c) c.mark_of.ensures) in
+    sym (c.shuts.ensures ∙ ap (λ (m : Option ℕ). not (contains (set_by a.set.now a.layout) c.loop-t.t a.c) || marked_at m a.c) c.mark_of.ensures) in
     let l = c.loop-t in
     let a = c.args in
     sym (every-not (passes (set_by a.set.now a.layout) a.marks a.c) _ l.t (search rules) (judged ∙ ap not c.if-shuts.true))
@@ -20,19 +19,19 @@ returns-then-shuts c =
 pub loop-t-preserved : goal.loop-t-preserved
 loop-t-preserved c =
     let judged : let a = c.args in passes (set_by a.set.now a.layout) a.marks a.c c.loop-t.t ≡ not c.shuts.result = let a = c.args in
-    sym (c.shuts.ensures ∙ ap (λ (m : Mark). not (contains (set_by a.set.now a.layout) c.loop-t.t a.c) || marked_at m a.c) c.mark_of.ensures) in
+    sym (c.shuts.ensures ∙ ap (λ (m : Option ℕ). not (contains (set_by a.set.now a.layout) c.loop-t.t a.c) || marked_at m a.c) c.mark_of.ensures) in
     let l = c.loop-t in
     let a = c.args in
-    (search rules, every_more (passes (set_by a.set.now a.layout) a.marks a.c) l.t l.invariant.1 (judged ∙ ap not c.if-shuts.false))
+    every_more (passes (set_by a.set.now a.layout) a.marks a.c) l.t l.invariant (judged ∙ ap not c.if-shuts.false)
 
 pub returns : goal.returns
 unfolding opened
 returns c =
     let l = c.loop-t in
     let a = c.args in
-    let e : l.t ≡ a.layout.threads = omega arith in
-    sym (ap (λ (n : ℕ). every n (passes (set_by a.set.now a.layout) a.marks a.c)) (sym e) ∙ l.invariant.1)
+    let e : l.t ≡ a.layout.threads = omega (arith, c.loop-t-test.false, l.auto.t-end) in
+    sym (ap (λ (n : ℕ). every n (passes (set_by a.set.now a.layout) a.marks a.c)) (sym e) ∙ l.invariant)
 
 pub loop-t-init : goal.loop-t-init
 unfolding every
-loop-t-init c = (search rules, refl)
+loop-t-init c = refl

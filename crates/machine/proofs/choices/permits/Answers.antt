@@ -1,6 +1,5 @@
 -- `machine::choices::permits` meets its contract. Assumes nothing.
-use Rattle.std.proofs.Common.{Bool, ap, arith, get_or, le-leb, leb, sym, ℕ, ◌≤◌, ◌&&◌, ◌∙◌, ◌≡◌}
-use Rattle.machine.specs.declared.Mark.{Mark}
+use Rattle.std.proofs.Common.{Bool, ap, arith, get_or, le-leb, leb, sym, ℕ, ◌≤◌, ◌&&◌, ◌∙◌, ◌≡◌, Option}
 use borrow.Author.Tests.{lt-leb}
 use Rattle.machine.specs.Machine.{fresh, unmarked, permitted, waiting}
 use Rattle.machine.specs.Held.{state_of, permitted_by}
@@ -31,8 +30,9 @@ returns c =
     let a = c.args in
     let S = set_by a.set.now a.layout in
     let t = c.actor-t in
-    let marks : ℕ → Mark = λ u. get_or a.m.marks u unmarked in
+    let marks : ℕ → Option ℕ = λ u. get_or a.m.marks u unmarked in
     λ memory. c.may.ensures
-    ∙ ap (λ (i : Statement). permitted_by a.choice i (get_or a.m.threads t.result fresh) (waiting S marks t.result)) c.fetch-i.ensures
+    ∙ ap (λ (i : Statement). permitted_by a.choice i (get_or a.m.threads c.from-at.result fresh) (waiting S marks c.from-at.result)) c.fetch-i.ensures
+    ∙ ap (λ (u : ℕ). permitted_by a.choice (S.statement t.result (get_or a.m.threads u fresh).pc) (get_or a.m.threads u fresh) (waiting S marks u)) c.from-at.ensures
     ∙ ap (λ (u : ℕ). permitted_by a.choice (S.statement u (get_or a.m.threads u fresh).pc) (get_or a.m.threads u fresh) (waiting S marks u)) t.ensures
     ∙ sym (few _ _ c.if-layout-gt-THREADS.false ∙ thread_may S (state_of a.m memory) a.choice (omega (arith, t.ensures, c.if-layout-t.false)))

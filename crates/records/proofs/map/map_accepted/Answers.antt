@@ -1,5 +1,5 @@
 -- `records::map::map_accepted` meets its contract. Every cell below k ascends. Assumes nothing.
-use Rattle.std.proofs.Common.{refl, arith, eq-eqb, eqb, le-leb, leb, length, ne_eqb, rules, sym, true, ◌%◌, ◌&&◌, ◌-◌, ◌/◌, ◌∙◌, ◌≡◌}
+use Rattle.std.proofs.Common.{refl, arith, eq-eqb, eqb, le-leb, leb, length, ne_eqb, sym, ◌%◌, ◌&&◌, ◌/◌, ◌∙◌, ◌≡◌}
 use borrow.Author.Tests.{lt-leb}
 use Rattle.base.proofs.Choice.{and_true, and_false, and_right_false}
 use Rattle.base.proofs.Below.{every_more, every-not}
@@ -26,14 +26,14 @@ returns-then-not-ascends c =
     sym (and_right_false (eqb (length m % 4) 0 && leb (cells m) a.limit) (every-not (ascends_at m) (cells m) _ c.loop-k-test.true e))
 
 pub loop-k-preserved : goal.loop-k-preserved
-loop-k-preserved c = (search rules, every_more (ascends_at c.args.map.now) _ c.loop-k.invariant.1 (sym c.ascends.ensures ∙ c.if-not-ascends.false))
+loop-k-preserved c = every_more (ascends_at c.args.map.now) _ c.loop-k.invariant (sym c.ascends.ensures ∙ c.if-not-ascends.false)
 
 pub returns : goal.returns
 unfolding map_accepted
 returns c =
     let e : c.loop-k.k ≡ length c.args.map.now / 4 = omega arith in
-    sym (and_true (and_true (eq-eqb _ _ c.if-map-ne0.false) (le-leb _ _ c.if-limit-n.false)) (rw e at c.loop-k.invariant.1))
+    sym (and_true (and_true (eq-eqb _ _ c.if-map-ne0.false) (le-leb _ _ c.if-limit-n.false)) (rw e at c.loop-k.invariant))
 
 pub loop-k-init : goal.loop-k-init
 unfolding every
-loop-k-init c = (search rules, refl)
+loop-k-init c = refl

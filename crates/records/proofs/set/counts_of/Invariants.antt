@@ -1,7 +1,7 @@
 -- `records::set::counts_of` meets its contract. Each counter is the number of its thread's records below k. Assumes nothing.
-use Rattle.std.proofs.Common.{List, eqb, ℕ, ◌-◌, ◌≡◌, ◌≤◌}
+use Rattle.std.proofs.Common.{List, eqb, ℕ, ◌≡◌}
 use Rattle.base.specs.Below.{number}
-use Rattle.records.specs.Sets.{records, thread_at}
+use Rattle.records.specs.Sets.{thread_at}
 use Rattle.records.proofs.set.counts_of.Given as goal
 
 -- the counters after k records
@@ -11,7 +11,4 @@ Counted set first second third fourth k =
     × (third ≡ number k (λ j. eqb (thread_at set j) 2)) × (fourth ≡ number k (λ j. eqb (thread_at set j) 3))
 
 abbrev pub invariant-loop-k : goal.invariant-loop-k
-invariant-loop-k l = (l.k ≤ l.n) × Counted l.set l.first l.second l.third l.fourth l.k
-
-abbrev pub decreases-loop-k : goal.decreases-loop-k
-decreases-loop-k l = l.n - l.k
+invariant-loop-k l = Counted l.set l.first l.second l.third l.fourth l.k

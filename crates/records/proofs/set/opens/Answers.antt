@@ -5,9 +5,9 @@ use Rattle.base.specs.Below.{some}
 use Rattle.records.specs.Sets.{argument_at, checks_at, opens_at}
 use Rattle.records.proofs.set.opens.Goals as goal
 
-pub returns-then-set-at-ne-CHECK : goal.returns-then-set-at-ne-CHECK
+pub returns-then-set-at : goal.returns-then-set-at
 unfolding opens_at
-returns-then-set-at-ne-CHECK c = sym (and_false _ (ne_eqb _ _ c.if-set-at-ne-CHECK.true))
+returns-then-set-at c = sym (and_false _ (ne_eqb _ _ c.if-set-at.true))
 
 pub returns : goal.returns
 unfolding opens_at
@@ -15,4 +15,4 @@ returns c =
     let a = c.args in
     let s = a.set.now in
     ap not (c.checked_before.ensures ∙ ap (λ x. some a.k (checks_at s x)) c.word.ensures)
-    ∙ sym (ap (λ b. b && not (some a.k (checks_at s (argument_at s a.k)))) (eq-eqb _ _ c.if-set-at-ne-CHECK.false))
+    ∙ sym (ap (λ b. b && not (some a.k (checks_at s (argument_at s a.k)))) (eq-eqb _ _ c.if-set-at.false))

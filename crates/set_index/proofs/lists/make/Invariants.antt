@@ -1,5 +1,5 @@
 -- `set_index::lists::make` meets its contract. Assumes nothing.
-use Rattle.std.proofs.Common.{length, replicate, ◌-◌, ◌≡◌, ◌≤◌}
+use Rattle.std.proofs.Common.{length, replicate, ◌≡◌, ◌≤◌}
 use Rattle.records.specs.Sets.{set_by}
 use Rattle.set_index.specs.Points.{listed}
 use Rattle.set_index.specs.Members.{Members}
@@ -10,6 +10,3 @@ abbrev pub invariant-loop-t : goal.invariant-loop-t
 invariant-loop-t l =
     (l.t ≤ l.threads) × (l.threads ≤ 4) × (length (listed l.points) ≤ 8) × (length l.table ≡ length l.initial.table)
     × (l.initial.table ≡ replicate lists_length no_statement → Members (set_by l.set l.layout) l.members → Distinct (listed l.points) → Made (set_by l.set l.layout) (listed l.points) l.t l.table)
-
-abbrev pub decreases-loop-t : goal.decreases-loop-t
-decreases-loop-t l = l.threads - l.t

@@ -33,7 +33,7 @@ loop-i-preserved c =
       l.invariant.2,
       last.0 ∙ (next.0 ∙ (first.0 ∙ l.invariant.3)),
       λ (S : Set) (h : StandsFrom S a.set.now a.t start.result end.result) q f.
-          let n = ap (λ (s : Statement). s.number) (read.ensures ∙ sym (h l.i (omega arith))) in
+          let n = ap (λ (s : Statement). s.number) ((rw c.from.ensures at read.ensures) ∙ sym (h l.i (omega arith))) in
           filled_next S a.t l.i _ (last.1 S q inside n (next.1 S q inside n (first.1 S q inside n (l.invariant.4 S h q f)))),
     )
 

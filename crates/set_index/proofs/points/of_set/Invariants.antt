@@ -1,5 +1,5 @@
 -- `set_index::points::points` meets its contract. Assumes nothing.
-use Rattle.std.proofs.Common.{take, ◌-◌, ◌≡◌, ◌≤◌}
+use Rattle.std.proofs.Common.{take, ◌≡◌}
 use Rattle.set_index.specs.Points.{listed}
 use Rattle.encoding.specs.Checkpoints.{noted_below}
 use Rattle.records.specs.Sets.{set_by}
@@ -7,7 +7,4 @@ use Rattle.set_index.proofs.points.of_set.Given as goal
 
 abbrev pub invariant-loop-t : goal.invariant-loop-t
 invariant-loop-t l =
-    (l.t ≤ l.threads) × (listed l.points ≡ take 8 (noted_below (set_by l.set l.layout) l.t))
-
-abbrev pub decreases-loop-t : goal.decreases-loop-t
-decreases-loop-t l = l.threads - l.t
+    (listed l.points ≡ take 8 (noted_below (set_by l.set l.layout) l.t))

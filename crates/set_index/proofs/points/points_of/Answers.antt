@@ -27,7 +27,7 @@ loop-i-preserved c =
       l.invariant.1,
       λ (S : Set) (stands : StandsFrom S a.set.now a.t first n) (before : List ℕ) (e : listed a.seen ≡ take 8 before).
           noted_more S a.t before (listed l.points) _ l.i (l.invariant.2 S stands before e)
-          (c.note-points.ensures ∙ ap (λ (s : Statement). take 8 (noted (listed l.points) s)) (c.statement_at.ensures ∙ sym (stands l.i (omega arith)))),
+          (c.note-points.ensures ∙ ap (λ (s : Statement). take 8 (noted (listed l.points) s)) ((rw c.from.ensures at c.statement_at.ensures) ∙ sym (stands l.i (omega arith)))),
     )
 
 pub returns : goal.returns

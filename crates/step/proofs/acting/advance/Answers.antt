@@ -1,5 +1,5 @@
 -- `step::acting::advance` meets its contract. Assumes nothing.
-use Rattle.std.proofs.Common.{Bool, List, ap, ap₂, arith, cond, false, get_or, length, length-take-le, ltb, ltb-true, not, refl, rules, sym, take, true, ℕ, ◌&&◌, ◌+◌, ◌<◌, ◌∙◌, ◌≡◌, ◌≤◌}
+use Rattle.std.proofs.Common.{Bool, List, ap, ap₂, arith, cond, false, get_or, length, length-take-le, ltb, ltb-true, not, refl, rules, sym, take, true, ℕ, ◌&&◌, ◌+◌, ◌<◌, ◌∙◌, ◌≡◌, ◌≤◌, Option}
 use Rattle.base.proofs.Choice.{chosen, passed, and_true, and_false, and_left, and_right, and_right_false}
 use Rattle.records.specs.Sets.{Set, set_by, statement_at, nothing}
 use Rattle.records.specs.declared.Layout.{Layout}
@@ -13,7 +13,7 @@ use Rattle.machine.specs.declared.Choice.TheVariants.{Execute, Flush}
 use Rattle.machine.specs.declared.Outcome.{Outcome}
 use Rattle.machine.specs.declared.Outcome.TheVariants.{Taken, NotPermitted, Lacking}
 use Rattle.machine.specs.declared.Thread.{Thread}
-use Rattle.machine.specs.declared.Written.{Written}
+use Rattle.records.specs.declared.Cell.{Cell}
 use Rattle.step.proofs.Cells.{prefix_memory, prefix_known}
 use Rattle.step.proofs.Settled.{unmoved}
 use Rattle.step.proofs.acting.advance.Goals as goal
@@ -116,8 +116,8 @@ returns-then-e c =
       came = sym (taking ∙ chosen _ _ (sym knows ∙ c.if-e.true));
       stated = stated;
       thread = c.effect_of-e.ensures.1 ∙ given c.args.addresses.now c.args.values.now c.args.filled c.statement_of-i.result statement-by (λ n i mem. thread_by a.choice i a.x mem) l stated;
-      memory-is = c.write-count.ensures.0 ∙ ap {B = ℕ → ℕ} (λ (z : Written). memory_after z memory-of) wrote-is;
-      known_is = c.write-count.ensures.1 ∙ ap {B = ℕ → Bool} (λ (z : Written). known_after z known-of) wrote-is;
+      memory-is = c.write-count.ensures.0 ∙ ap {B = ℕ → ℕ} (λ (z : Option Cell). memory_after z memory-of) wrote-is;
+      known_is = c.write-count.ensures.1 ∙ ap {B = ℕ → Bool} (λ (z : Option Cell). known_after z known-of) wrote-is;
       wrote = wrote-is;
       read = read_is;
       more = c.write-count.ensures.2;

@@ -1,39 +1,23 @@
 -- `step::acting::executing` meets its contract. Assumes nothing.
-use Rattle.std.proofs.Common.{ap, cond, eqb, refl, sym, true, ℕ, ◌&&◌, ◌∙◌, ◌≡◌}
-use Rattle.base.proofs.Choice.{chosen, passed}
+use Rattle.std.proofs.Common.{Bool, ap, ap₂, cond, eqb, refl, true, false, ℕ, ◌&&◌, ◌∙◌, ◌≡◌}
+use Rattle.std.specs.Bool.{then_some}
 use Rattle.records.specs.Instructions.{CAS}
-use Rattle.records.specs.declared.Statement.{Statement}
 use Rattle.machine.specs.Held.{memory_in}
-use Rattle.machine.specs.Machine.{acted, executed, cas_matches, wrote, no_write, address}
-use Rattle.machine.specs.declared.Thread.{Thread}
+use Rattle.machine.specs.Machine.{acted, executed, cas_matches, wrote, no_write}
 use Rattle.step.proofs.Settled.{set_with, state_with}
 use Rattle.step.proofs.acting.executing.Goals as goal
 
-pub returns-then-matches : goal.returns-then-matches
-unfolding acted cas_matches
-returns-then-matches c =
-    let memory-of : ℕ → ℕ = let a = c.args in memory_in a.addresses.now a.values.now in
-    let statement-of : Statement = c.args.i in
-    let thread-of : Thread = c.args.x in
-    let registers : c.updated-thread.result ≡ executed statement-of memory-of thread-of = let i = statement-of in
-    let x = thread-of in
-    let o = c.operands-o.ensures in
-    c.updated-thread.ensures (set_with i) (state_with x memory-of) refl (refl, o.1, o.2) in
-    let cas : cas_matches statement-of thread-of memory-of ≡ c.matches.result = ap (λ (w : ℕ). eqb statement-of.number CAS && eqb w thread-of.mem) (sym c.operands-o.ensures.2) ∙ sym c.matches.ensures in
-    let wrote-cas : c.matches.result ≡ true → wrote c.operands-o.result.address thread-of.accu ≡ cond (cas_matches statement-of thread-of memory-of) (wrote (address statement-of thread-of memory-of) thread-of.accu) no_write = λ e. ap (λ (a : ℕ). wrote a thread-of.accu) c.operands-o.ensures.1 ∙ sym (chosen _ _ (cas ∙ e)) in
-    let o = c.operands-o in
-    (o.ensures.0, registers, wrote-cas c.if-matches.true, o.ensures.3)
+-- a write that is made where b holds
+made_if : (b : Bool) (a v : ℕ) → then_some b (record { address = a; value = v }) ≡ cond b (wrote a v) no_write
+made_if true a v = refl
+made_if false a v = refl
 
-pub returns-else-matches : goal.returns-else-matches
+pub returns : goal.returns
 unfolding acted cas_matches
-returns-else-matches c =
-    let memory-of : ℕ → ℕ = let a = c.args in memory_in a.addresses.now a.values.now in
-    let statement-of : Statement = c.args.i in
-    let thread-of : Thread = c.args.x in
-    let registers : c.updated-thread.result ≡ executed statement-of memory-of thread-of = let i = statement-of in
-    let x = thread-of in
+returns c =
+    let a = c.args in
+    let memory : ℕ → ℕ = memory_in a.addresses.now a.values.now in
     let o = c.operands-o.ensures in
-    c.updated-thread.ensures (set_with i) (state_with x memory-of) refl (refl, o.1, o.2) in
-    let cas : cas_matches statement-of thread-of memory-of ≡ c.matches.result = ap (λ (w : ℕ). eqb statement-of.number CAS && eqb w thread-of.mem) (sym c.operands-o.ensures.2) ∙ sym c.matches.ensures in
-    let o = c.operands-o in
-    (o.ensures.0, registers, sym (passed _ _ (cas ∙ c.if-matches.false)), o.ensures.3)
+    let registers : c.updated-thread.result ≡ executed a.i memory a.x = c.updated-thread.ensures (set_with a.i) (state_with a.x memory) refl (refl, o.1, o.2) in
+    let cas : c.matches.result ≡ cas_matches a.i a.x memory = c.matches.ensures ∙ ap (λ (w : ℕ). eqb a.i.number CAS && eqb w a.x.mem) o.2 in
+    (o.0, registers, c.then_some-wrote.ensures ∙ made_if c.matches.result c.operands-o.result.address a.x.accu ∙ ap₂ (λ (b : Bool) (n : ℕ). cond b (wrote n a.x.accu) no_write) cas o.1, o.3)

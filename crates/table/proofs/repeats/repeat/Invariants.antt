@@ -14,6 +14,3 @@ abbrev pub invariant-loop-j : goal.invariant-loop-j
 invariant-loop-j l =
     (l.j ≤ l.count) × (l.count ≤ l.stride) × (l.stride ≤ l.at) × (l.at + l.count ≤ 2000000000) × (16 * (l.at + l.count) ≤ length l.initial.out) × (length l.out ≡ length l.initial.out)
     × (l.out ≡ written_at l.initial.out l.at (upto (λ i. record_of l.initial.out l.at l.first l.stride i ∷ []) l.j))
-
-abbrev pub decreases-loop-j : goal.decreases-loop-j
-decreases-loop-j l = l.count - l.j

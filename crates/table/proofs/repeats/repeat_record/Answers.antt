@@ -1,17 +1,18 @@
 -- `table::repeats::repeat_record` meets its contract. Assumes nothing.
-use Rattle.std.proofs.Common.{ap, ◌*◌, ◌∙◌}
+use Rattle.std.proofs.Common.{ap, ℕ, ◌*◌, ◌∙◌}
 use Rattle.base.specs.Bytes.{placed}
-use Rattle.table.specs.Repeats.{moved_by}
-use Rattle.table.proofs.Repeated.{repeated-bytes}
+use Rattle.table.specs.declared.Formula.{Formula}
+use Rattle.table.specs.Formulas.{formula_bytes}
+use Rattle.table.specs.Repeats.{repeated}
+use Rattle.table.proofs.Repeated.{operands_moved, moved-repeated}
 use Rattle.table.proofs.repeats.repeat_record.Goals as goal
 
 pub returns : goal.returns
 returns c =
-    let args = c.args in
-    let head = c.long_at-head in
-    let a = c.moved-a.ensures ∙ ap (moved_by args.first c.distance-by.result) c.long_at.ensures.0 in
-    let b = c.moved-b.ensures ∙ ap (moved_by args.first c.distance-by.result) c.long_at-2.ensures.0 in
-    let third = c.moved-c.ensures ∙ ap (moved_by args.first c.distance-by.result) c.long_at-3.ensures.0 in
-    c.put_longs.ensures
-    ∙ ap (placed args.out.now (16 * args.n))
-    (repeated-bytes args.first args.stride args.out.now args.from head.result c.distance-by.result _ _ _ head.ensures.1 c.distance-by.ensures a b third)
+    let a = c.args in
+    let f = c.record-formula in
+    let x = f.result in
+    c.put.ensures
+    ∙ ap (λ (g : Formula). placed a.out.now (16 * a.n) (formula_bytes g))
+    ((λ z. record { operation = x.operation; sort = x.sort; constant = x.constant; a = c.moved.ensures z; b = c.moved-2.ensures z; c = c.moved-3.ensures z })
+    ∙ (ap (λ (d : ℕ). operands_moved a.first d x) c.distance-by.ensures ∙ (moved-repeated a.first a.stride x ∙ ap (repeated a.first a.stride) f.ensures.read)))

@@ -18,7 +18,7 @@ pub returns-then-is_last : goal.returns-then-is_last
 returns-then-is_last c = let r = c.args.r in
     let n = c.count-n.ensures in
     let test = ap (λ (m : ℕ). r.fits && ltb r.ended 4 && ltb 0 m) (sym n) ∙ c.if-some.true in
-    let last = ap (λ (m : ℕ). is_last (get_or c.args.draft.now (36 * (32 * r.ended + (m - 1))) 0)) (sym n) ∙ sym (c.is_last.ensures ∙ ap is_last c.number.ensures) ∙ c.if-is_last.true in
+    let last = ap (λ (m : ℕ). is_last (get_or c.args.draft.now (36 * (32 * r.ended + (m - 1))) 0)) (sym n) ∙ sym (c.is_last.ensures ∙ ap is_last (c.number.ensures ∙ ap (λ (k : ℕ). get_or c.args.draft.now (36 * k) 0) c.block.ensures)) ∙ c.if-is_last.true in
     let yes₁ = and_left (r.fits && ltb r.ended 4) (ltb 0 (get_or r.counts r.ended 0)) test in
     record {
       fits = and_left r.fits (ltb r.ended 4) yes₁ ∙ sym (and_true test (or_true (ltb (get_or r.counts r.ended 0) 32) last));
@@ -33,7 +33,7 @@ pub returns-then-some : goal.returns-then-some
 returns-then-some c = let r = c.args.r in
     let n = c.count-n.ensures in
     let test = ap (λ (m : ℕ). r.fits && ltb r.ended 4 && ltb 0 m) (sym n) ∙ c.if-some.true in
-    let last = ap (λ (m : ℕ). is_last (get_or c.args.draft.now (36 * (32 * r.ended + (m - 1))) 0)) (sym n) ∙ sym (c.is_last.ensures ∙ ap is_last c.number.ensures) ∙ c.if-is_last.false in
+    let last = ap (λ (m : ℕ). is_last (get_or c.args.draft.now (36 * (32 * r.ended + (m - 1))) 0)) (sym n) ∙ sym (c.is_last.ensures ∙ ap is_last (c.number.ensures ∙ ap (λ (k : ℕ). get_or c.args.draft.now (36 * k) 0) c.block.ensures)) ∙ c.if-is_last.false in
     let yes₁ = and_left (r.fits && ltb r.ended 4) (ltb 0 (get_or r.counts r.ended 0)) test in
     let add = c.add-s.ensures in
     record {

@@ -1,19 +1,27 @@
 -- `text::sections::take_line` meets its contract. Assumes nothing.
-use Rattle.std.proofs.Common.{arith, eq-eqb, ne_eqb, subst, sym, ◌∙◌}
-use Rattle.text.specs.Readings.{States, Maps}
-use Rattle.text.proofs.Turns.{took_dot, took_cell, took_statement}
-use Rattle.text_lines.specs.declared.Cell.{Cell}
+use Rattle.std.proofs.Common.{Ok, ap, arith, eq-eqb, ne_eqb, sym, ◌∙◌}
+use Rattle.std.specs.Prelude.{Option}
+use Rattle.records.specs.declared.Cell.{Cell}
 use Rattle.text_lines.specs.declared.Stated.{Stated}
+use Rattle.text.proofs.Turns.{took_dot, took_cell, took-no-cell, took_statement, took-no-statement}
+use Rattle.text.proofs.sections.take_line.Goals.{then-is_dot, else-is_dot+then-left-eq0+in_ok-cell+in-Some, else-is_dot+then-left-eq0+in_ok-cell+in-None, else-is_dot+else-left-eq0+in_ok-statement+in-Some-2, else-is_dot+else-left-eq0+in_ok-statement+in-None-2}
 use Rattle.text.proofs.sections.take_line.Goals as goal
-
-pub returns-then-is_dot : goal.returns-then-is_dot
-returns-then-is_dot c = let a = c.args in
-    took_dot a.l.now a.left a.r a.draft.now a.keys.now (sym c.is_dot.ensures ∙ c.if-is_dot.true) _ _ c.close-s.ensures
-
-pub returns-then-left-eq0 : goal.returns-then-left-eq0
-returns-then-left-eq0 c = let a = c.args in
-    took_cell a.l.now a.left a.r a.draft.now a.keys.now (sym c.is_dot.ensures ∙ c.if-is_dot.false) (eq-eqb a.left 0 c.if-left-eq0.true) c.take-s.result c.take-s.new.keys (subst (λ (x : Cell). Maps x a.r a.keys.now c.take-s.result c.take-s.new.keys) c.map_line.ensures c.take-s.ensures)
 
 pub returns : goal.returns
 returns c = let a = c.args in
-    took_statement a.l.now a.left a.r a.draft.now a.keys.now (sym c.is_dot.ensures ∙ c.if-is_dot.false) (ne_eqb a.left 0 (omega arith)) c.take-s-2.result c.take-s-2.new.draft (subst (λ (x : Stated). States x a.r a.draft.now c.take-s-2.result c.take-s-2.new.draft) c.statement_line.ensures c.take-s-2.ensures)
+    elim c.if-is_dot.branch [
+      | then-is_dot w ↦ rw (w.taken-is, w.draft-is, w.keys-is)
+          (took_dot a.l.now a.left a.r a.draft.now a.keys.now (sym c.is_dot.ensures ∙ w.if-is_dot.true) _ _ w.close-taken.ensures)
+      | else-is_dot+then-left-eq0+in_ok-cell+in-Some w ↦ rw (w.taken-is, w.draft-is, w.keys-is)
+          (took_cell a.l.now a.left a.r a.draft.now a.keys.now (sym c.is_dot.ensures ∙ w.if-is_dot.false) (eq-eqb a.left 0 w.if-left-eq0.true) w.in-Some.cell
+          (sym w.map_line.ensures ∙ w.in_ok-cell.was ∙ ap (λ (o : Option Cell). Ok o) w.in-Some.is) _ _ w.take.ensures)
+      | else-is_dot+then-left-eq0+in_ok-cell+in-None w ↦ rw (w.taken-is, w.draft-is, w.keys-is)
+          (took-no-cell a.l.now a.left a.r a.draft.now a.keys.now (sym c.is_dot.ensures ∙ w.if-is_dot.false) (eq-eqb a.left 0 w.if-left-eq0.true)
+          (sym w.map_line.ensures ∙ w.in_ok-cell.was ∙ ap (λ (o : Option Cell). Ok o) w.in-None.is))
+      | else-is_dot+else-left-eq0+in_ok-statement+in-Some-2 w ↦ rw (w.taken-is, w.draft-is, w.keys-is)
+          (took_statement a.l.now a.left a.r a.draft.now a.keys.now (sym c.is_dot.ensures ∙ w.if-is_dot.false) (ne_eqb a.left 0 (omega (arith, w.if-left-eq0.false))) w.in-Some-2.statement
+          (sym w.statement_line.ensures ∙ w.in_ok-statement.was ∙ ap (λ (o : Option Stated). Ok o) w.in-Some-2.is) _ _ w.add.ensures)
+      | else-is_dot+else-left-eq0+in_ok-statement+in-None-2 w ↦ rw (w.taken-is, w.draft-is, w.keys-is)
+          (took-no-statement a.l.now a.left a.r a.draft.now a.keys.now (sym c.is_dot.ensures ∙ w.if-is_dot.false) (ne_eqb a.left 0 (omega (arith, w.if-left-eq0.false)))
+          (sym w.statement_line.ensures ∙ w.in_ok-statement.was ∙ ap (λ (o : Option Stated). Ok o) w.in-None-2.is))
+    ]

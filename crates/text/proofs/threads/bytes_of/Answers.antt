@@ -1,5 +1,5 @@
 -- `text::threads::bytes_of` meets its contract. Assumes nothing.
-use Rattle.std.proofs.Common.{[], ap, get_or, rules, sym, ℕ, ◌%◌, ◌*◌, ◌+◌, ◌/◌, ◌∙◌, ◌∷◌}
+use Rattle.std.proofs.Common.{arith, ap, get_or, rules, sym, ℕ, ◌*◌, ◌+◌, ◌∙◌}
 use Rattle.text.specs.Records.{statement_bytes}
 use Rattle.text.proofs.Labels.{drafted-at}
 use Rattle.text.proofs.threads.bytes_of.Goals as goal
@@ -12,5 +12,5 @@ returns c = let a = c.args in
     let x = drafted-at d a.t a.n a.p (search rules) in
     let number = c.number.ensures ∙ ap (λ (i : ℕ). get_or d (36 * i) 0) k ∙ sym (ap (λ y. y.number) x) in
     let mode = c.mode.ensures ∙ ap (λ (i : ℕ). get_or d (36 * i + 1) 0) k ∙ sym (ap (λ y. y.mode) x) in
-    let argument = c.argument-argument.ensures in
-    λ i. a.t ∷ number i ∷ mode i ∷ 0 ∷ argument i % 256 ∷ argument i / 256 ∷ a.p % 256 ∷ a.p / 256 ∷ []
+    let argument = c.argument.ensures in
+    grind (arith, number, mode, argument)

@@ -1,2 +1,0 @@
--- The parts of a case.
-pub mod Parts
