@@ -102,11 +102,10 @@ fn the_turns_of_the_page() {
         assert_eq!(turns.len(), visited.len());
         for (turn, (row, memory)) in turns.iter().zip(&visited).enumerate() {
             assert_eq!(number(&row[0]), turn + 1);
-            assert_eq!(number(&row[1]), table.len() - turn);
-            assert_eq!(number(&row[2]), *memory as usize);
-            assert_eq!(row[3], said(&table, &values, *memory as usize));
+            assert_eq!(number(&row[1]), *memory as usize);
+            assert_eq!(row[2], said(&table, &values, *memory as usize));
         }
-        let last = &turns.last().expect("a turn")[4];
+        let last = &turns.last().expect("a turn")[3];
         assert!(last.ends_with(&format!(" {cell}")), "{last}");
         // the proof's: visited .. READ .. ≡ MEMORY ∷ .. ∷ []
         let list: String = visited.iter().map(|m| format!("{m} ∷ ")).collect();
