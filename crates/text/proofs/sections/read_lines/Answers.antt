@@ -52,7 +52,7 @@ returns-in_err-r c =
     let l = c.loop-l in
     let line = c.in-Some.l.now in
     let ls = lines_left c.next.new.self in
-    let here : At text l.r l.draft l.keys (line ∷ ls) = subst (At text l.r l.draft l.keys) c.in-Some.ensures.steps l.invariant.1 in
+    let here : At text l.r l.draft l.keys (line ∷ ls) = subst (At text l.r l.draft l.keys) c.in-Some.ensures.steps.0 l.invariant.1 in
     let left : c.count_dots-total.result - c.from.result ≡ dots (line ∷ ls) = omega (arith, here.ended, l.invariant.0, c.from.ensures) in
     let refused : (refusal : Refusal) × (c.take_line.result ≡ Err refusal) × (c.in_err-r.field-0.0 ≡ record { refusal = refusal; place = l.r.line + 1 }) = grind arith in
     let from : c.from_residual.result ≡ Err c.in_err-r.field-0.0 = grind arith in
@@ -66,7 +66,7 @@ loop-l-preserved c =
     let l = c.loop-l in
     let line = c.in-Some.l.now in
     let ls = lines_left c.next.new.self in
-    let here : At text l.r l.draft l.keys (line ∷ ls) = subst (At text l.r l.draft l.keys) c.in-Some.ensures.steps l.invariant.1 in
+    let here : At text l.r l.draft l.keys (line ∷ ls) = subst (At text l.r l.draft l.keys) c.in-Some.ensures.steps.0 l.invariant.1 in
     let left : c.count_dots-total.result - c.from.result ≡ dots (line ∷ ls) = omega (arith, here.ended, l.invariant.0, c.from.ensures) in
     let taken : c.take_line.result ≡ Ok c.in_ok-r.r = grind arith in
     let took = subst (λ (a : Result Reading Refusal). TakesLine line (c.count_dots-total.result - c.from.result) l.r l.draft l.keys a c.take_line.new.draft c.take_line.new.keys) taken c.take_line.ensures in (
@@ -78,4 +78,4 @@ loop-l-preserved c =
 pub returns : goal.returns
 returns c =
     let l = c.loop-l in
-    ends c.args.text.now l.r l.draft l.keys (subst (At c.args.text.now l.r l.draft l.keys) c.in-None.ensures.steps.0 l.invariant.1)
+    ends c.args.text.now l.r l.draft l.keys (subst (At c.args.text.now l.r l.draft l.keys) c.in-None.ensures.steps.0.0 l.invariant.1)
