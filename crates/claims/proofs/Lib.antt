@@ -8,6 +8,7 @@ pub mod Lines
 pub mod Lookups
 pub mod Marks
 pub mod Models
+pub mod Refusals
 pub mod Rules
 pub mod Runs
 mod Samples

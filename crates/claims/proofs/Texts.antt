@@ -32,6 +32,7 @@ use Rattle.text.proofs.Sets.{length-set, number-set, mode-set, argument-set, cou
 use Rattle.text.proofs.Statements.{Kept, kept-threads}
 use Rattle.claims.specs.Sections.{line}
 use Rattle.claims.specs.Texts.{Refuses, SizeFollows, LinesFollow, Follows, Room, AcceptedExactly, FirstLine, Refusals, RefusedInOrder, SetSays, MapSays, RecordsSayTheText, WrittenOver, OutputsHoldTheRecords}
+use Rattle.claims.proofs.Refusals.{refused_by_line}
 use Rattle.claims.proofs.Rules.{refusal_is, line-rule, threads-rule, statements-rule, labels-rule, checkpoints-rule, map-rule, by_number_lem, label_at}
 
 -- ---- lines in order
@@ -190,6 +191,7 @@ module _ (text : List ℕ) (set_room map_room : ℕ) where
     row1 = λ f. refuses TextLength _ (too_long f);
     row2 = λ h i l. first-line h i Malformed l;
     row3 = λ h i l. first-line h i Number l;
+    row2or3 = refused_by_line text;
     row4 = λ h l f. refuses ByThreads _ (lined h l ∙ broken (threads_fit T) ByThreads _ (threads-rule T) f);
     row5 = λ h l a f. refuses ByStatements _ (lined h l ∙ kept (threads_fit T) ByThreads _ (threads-rule T) a ∙ broken (statements_fit T) ByStatements _ (statements-rule T) f);
     row6 = λ h l a b f. refuses ByLabel _ (lined h l ∙ kept (threads_fit T) ByThreads _ (threads-rule T) a ∙ kept (statements_fit T) ByStatements _ (statements-rule T) b

@@ -120,6 +120,8 @@ pub record Refusals (text : List ℕ) (T : Threads) (cs : List Cell) (r : Result
   pub row1 : (SizeFollows text → ⊥) → Refuses r 1 0
   pub row2 : SizeFollows text → (i : ℕ) → FirstLine text i Malformed → Refuses r 2 (i + 1)
   pub row3 : SizeFollows text → (i : ℕ) → FirstLine text i Number → Refuses r 3 (i + 1)
+  -- a line is refused with 2 or 3 alone, so rows 2 and 3 speak of every line that breaks the rules
+  pub row2or3 : (i : ℕ) (refusal : Refusal) → refusal_of text i ≡ Some refusal → (refusal ≡ Malformed) ⊎ (refusal ≡ Number)
   pub row4 : SizeFollows text → LinesFollow text → (ThreadsFollow T → ⊥) → Refuses r 4 0
   pub row5 : SizeFollows text → LinesFollow text → ThreadsFollow T → (StatementsFollow T → ⊥) → Refuses r 5 0
   pub row6 : SizeFollows text → LinesFollow text → ThreadsFollow T → StatementsFollow T → (LabelsFollow T → ⊥) → Refuses r 6 0
