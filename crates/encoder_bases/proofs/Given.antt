@@ -6,7 +6,7 @@ use mathlib.Core.List.{List, [], ◌∷◌}
 use native.Mathlib.Omega.{arith}
 use native.Mathlib.Numerals.{add-one}
 use lib.Dec.{eqb}
-use lib.ListN.{take}
+use lib.ListN.{take, get_or-eq_default}
 use borrow.Author.Tests.{ne_eqb}
 use Rattle.base.proofs.Choice.{passed}
 use Rattle.records.specs.Numbers.{number}
@@ -17,7 +17,7 @@ use Rattle.records.specs.declared.Statement.{Statement}
 use Rattle.table.specs.declared.Formula.{Formula}
 use Rattle.table.specs.Formulas.{written_at}
 use Rattle.table.specs.Programs.{Leaf, Unary, Binary, Ternary, ref, leaf, unary, binary, ternary, if3, and2, or2, equal2, read2, not1, top1, binary_number, binary_sort, leaf_formula, unary_formula, ternary_formula, next, root, records}
-use Rattle.encoding.specs.Slots.{Slot, slot, Term, kind_at, loaded, result, test}
+use Rattle.encoding.specs.Slots.{Kind, Slot, slot, Term, kinds, kind_at, kind_count, choice, loaded, result, test}
 use Rattle.encoding.specs.Steps.{base as base_of, result_tree, test_tree}
 use Rattle.encoder_slots.specs.Pieces.{WritesTree}
 use Rattle.encoder_bases.specs.declared.written.WrittenTree.{WrittenTree}
@@ -167,6 +167,16 @@ pub puts_base : {r : WrittenTree} {at : Slot → ℕ} {n : ℕ} {out after : Lis
     Puts r at n (base_of (with_threads S threads) cs k (kind_at m) a b) out after → Puts r at n (base_of S cs k (kind_at kind) a b) out after
 puts_base S cs threads k a b kind m same e p =
     puts_kind S cs k a b kind m e (puts_as (λ z. base_of (with_threads S (same z)) cs k (kind_at m) a b) p)
+
+-- past the last kind
+pub kind_past : (kind : ℕ) → kind_count ≤ kind → kind_at kind ≡ choice
+unfolding kinds
+kind_past kind h = get_or-eq_default kinds choice h
+
+pub puts_past : {r : WrittenTree} {at : Slot → ℕ} {n : ℕ} {out after : List ℕ} (S : Set) (cs : List ℕ) (threads k a b kind : ℕ) → S.threads ≡ threads → kind_count ≤ kind →
+    Puts r at n (base_of (with_threads S threads) cs k choice a b) out after → Puts r at n (base_of S cs k (kind_at kind) a b) out after
+puts_past S cs threads k a b kind same past p =
+    puts_as (ap (λ (x : Kind). base_of S cs k x a b) (kind_past kind past) ∙ (λ z. base_of (with_threads S (same z)) cs k choice a b)) p
 
 -- the test of a statement
 pub puts_test : {r : WrittenTree} {at : Slot → ℕ} {n : ℕ} {out after : List ℕ} (S : Set) (cs : List ℕ) (k t i : ℕ) (s : Statement) → S.statement t i ≡ s →

@@ -6,7 +6,6 @@ ghost use Rattle.records.specs.Sets.{Set};
 ghost use Rattle.encoding.specs.Slots.{kind_at, kind_number, flag};
 ghost use Rattle.encoding.specs.Steps.{base as base_of};
 ghost use Rattle.encoder_slots.specs.Places.{place_of};
-ghost use Rattle.encoder_slots.specs.Kinds.{number_of};
 ghost use Rattle.encoder_bases.specs.SmallTrees.{Puts};
 ghost use Rattle.encoder_slots.specs.Places.{of_statement};
 ghost use Rattle.table.specs.Repeats.{last_index};
@@ -19,7 +18,7 @@ mod written;
 
 use choices::{put_choice, put_none_before, put_permitted_first};
 use encoder_slots::start::{BIT0, BIT1, WORD0};
-use encoder_slots::{Kind, place};
+use encoder_slots::{Kind, NamesKind, place};
 use state::{put_flush_value, put_full, put_may_execute, put_memory, put_shut};
 pub use statements::{
     put_active, put_address, put_argument, put_flag, put_loaded, put_not_test, put_result,
@@ -30,19 +29,23 @@ pub use written::{Load, WrittenTree, load_of};
 use written::{put_binary, put_constant, put_none, put_previous};
 
 // Writes the base of the tree of a kind that is not of statements for a and b, its records from index n on; that of a flag is `put_flag`.
-pub fn put_base(
+pub fn put_base<K: NamesKind>(
     slots: &[u32],
     out: &mut [u8],
     threads: u8,
     step: u8,
-    kind: Kind,
+    kind: K,
     a: u8,
     b: u16,
     n: u32,
 ) -> WrittenTree
-    ensures { ((S : Set) (cs : List ℕ) → S.threads ≡ threads → of_statement (number_of kind) ≡ false → (number_of kind ≡ kind_number flag → ⊥) → n ≤ last_index
-        → Puts result (place_of slots.now) n (base_of S cs step (kind_at (number_of kind)) a b) out.old out.new) × (result.count ≤ tree_room) }
+    ensures { ((S : Set) (cs : List ℕ) → S.threads ≡ threads → of_statement (K.number kind) ≡ false → (K.number kind ≡ kind_number flag → ⊥) → n ≤ last_index
+        → Puts result (place_of slots.now) n (base_of S cs step (kind_at (K.number kind)) a b) out.old out.new) × (result.count ≤ tree_room) }
 {
+    // A number past the last kind counts as Choice does.
+    let Ok(kind) = kind.kind() else {
+        return put_choice(out, threads, step, b, n);
+    };
     match kind {
         Kind::Choice => put_choice(out, threads, step, b, n),
         Kind::Opening => put_none(slots, Kind::BitOne, 0, 0, BIT1),

@@ -2,10 +2,12 @@
 use Prim.Native.Nat.{ℕ, zero, suc, ◌+◌, ◌-◌, ◌*◌, ◌≤◌, ◌<◌}
 use mathlib.Core.Path.{◌≡◌, refl, ap, sym, ◌∙◌, subst}
 use mathlib.Core.List.{List, [], ◌∷◌}
-use Rattle.std.proofs.Common.{None}
 use native.Mathlib.Numerals.{add-one}
 use native.Mathlib.Omega.{arith}
+use native.Mathlib.Decide.{ℕ_discrete}
 use lib.ListN.{length}
+use borrow.Author.Tests.{eq-eqb, ne_eqb}
+use Rattle.base.proofs.Choice.{chosen, passed}
 use Rattle.base.specs.Bytes.{placed}
 use Rattle.table.specs.declared.Formula.{Formula}
 use Rattle.table.specs.Formulas.{formula_bytes, written_at, bit_sort, AND, OR, IF}
@@ -14,9 +16,7 @@ use Rattle.table.proofs.Sequences.{records-rest, records-length}
 use Rattle.table.proofs.Written.{written-++}
 use Rattle.encoding.specs.Slots.{Slot, Term}
 use Rattle.encoding.specs.Steps.{Link as ChainLink, skip, if_then, and_with, or_with, linked, chain}
-use Rattle.encoder_chains.specs.Placed.{LinkNumbers, placed_link, link_numbers, numbers_of, formula_over}
-use Rattle.encoder_chains.specs.declared.Link.{Link}
-use Rattle.encoder_chains.specs.declared.Link.TheVariants.{If, And, Or}
+use Rattle.encoder_chains.specs.Placed.{LinkNumbers, placed_link, record_over}
 use Rattle.encoder_slots.specs.Pieces.{WritesTree}
 
 -- ---- links
@@ -105,14 +105,17 @@ module _ (places : Slot → ℕ) where
       }
 
     -- no link, and a link
-    pub without : (l : ChainLink) → numbers_of None ≡ placed_link places l → WritesTree places (linked l t) out n now m at
-    without l e = link-none (numbers_of None) l e refl
+    pub without : (link : LinkNumbers) (l : ChainLink) → link ≡ placed_link places l → link.operation ≡ 0 → WritesTree places (linked l t) out n now m at
+    without link l e none = link-none link l e none
 
-    pub with_link : (link : Link) (l : ChainLink) → link_numbers link ≡ placed_link places l → (after : List ℕ) →
-        after ≡ placed now (16 * m) (formula_bytes (formula_over link at)) → WritesTree places (linked l t) out n after (m + 1) m
-    with_link (If sort p q) l e after put = link_if (link_numbers (If sort p q)) l e after put refl
-    with_link (And bit) l e after put = link-joined (link_numbers (And bit)) l e after put (λ z. absurd (omega arith)) (λ z. absurd (omega arith))
-    with_link (Or bit) l e after put = link-joined (link_numbers (Or bit)) l e after put (λ z. absurd (omega arith)) (λ z. absurd (omega arith))
+    pub with_link : (link : LinkNumbers) (l : ChainLink) → link ≡ placed_link places l → (link.operation ≡ 0 → ⊥) → (after : List ℕ) →
+        after ≡ placed now (16 * m) (formula_bytes (record_over link at)) → WritesTree places (linked l t) out n after (m + 1) m
+    with_link link l e some after put =
+        let bytes = λ (f : Formula). placed now (16 * m) (formula_bytes f) in
+        elim (ℕ_discrete link.operation IF) [
+          | yes f ↦ link_if link l e after (put ∙ ap bytes (chosen _ _ (eq-eqb _ _ f))) f
+          | no f ↦ link-joined link l e after (put ∙ ap bytes (passed _ _ (ne_eqb _ _ f))) some f
+        ]
 
 -- ---- chains
 

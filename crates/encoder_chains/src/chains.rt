@@ -15,7 +15,7 @@ use crate::parts::{bit_if, flushed, halts, one_permitted};
 use crate::written::{Root, put_link};
 use crate::{Link, put_links};
 use encoder_slots::start::BIT0;
-use encoder_slots::{Kind, SIZE, THREADS, place};
+use encoder_slots::{Kind, NamesKind, SIZE, THREADS, place};
 use records::Layout;
 use set_index::checks::{contains, first, following};
 use set_index::lists;
@@ -85,20 +85,23 @@ fn single_link(slots: &[u32], threads: u8, kind: Kind, i: u8) -> Link
 }
 
 // Writes the links of the chain of a value that there is one of: over the choices (ONE_PERMITTED) or the threads (FLUSH_TO, FLUSH_VALUE, HALTS).
-pub fn single_chain(
+pub fn single_chain<K: NamesKind>(
     slots: &[u32],
     out: &mut [u8],
     threads: u8,
-    kind: Kind,
+    kind: K,
     n: u32,
     base: u64,
 ) -> Root
-    ensures { ((S : Set) (cs members lists : List ℕ) (tree : Term) (start : List ℕ) (m : ℕ) → S.threads ≡ threads → chained (number_of kind) ≡ true → n + chain_room ≤ last_index
+    ensures { ((S : Set) (cs members lists : List ℕ) (tree : Term) (start : List ℕ) (m : ℕ) → S.threads ≡ threads → chained (K.number kind) ≡ true → n + chain_room ≤ last_index
         → Ready S cs members lists slots.now m
         → WritesTree (place_of slots.now) tree start m out.old n base
-        → WritesTree (place_of slots.now) (chain_of (link_of S cs 0 (kind_at (number_of kind)) 0 0) (links_of S cs 0 (kind_at (number_of kind)) 0 0) tree) start m out.new result.next result.at)
+        → WritesTree (place_of slots.now) (chain_of (link_of S cs 0 (kind_at (K.number kind)) 0 0) (links_of S cs 0 (kind_at (K.number kind)) 0 0) tree) start m out.new result.next result.at)
         × (result.next ≤ n + chain_room) }
 {
+    let Ok(kind) = kind.kind() else {
+        return Root { next: n, at: base };
+    };
     // With these known, the compiler drops the tests of places in the loop.
     if slots.len() != SIZE || THREADS < threads {
         return Root { next: n, at: base };

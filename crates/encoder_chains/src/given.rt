@@ -15,7 +15,7 @@ ghost use Rattle.table.specs.Repeats.{last_index};
 use crate::written::Root;
 use crate::{Link, put_links};
 use encoder_slots::start::{BIT0, BIT1, WORD0};
-use encoder_slots::{Kind, SIZE, THREADS, place};
+use encoder_slots::{Kind, NamesKind, SIZE, THREADS, place};
 use set_index::members::{self, Class};
 use table::Sort;
 
@@ -145,11 +145,11 @@ fn giver_links(
 }
 
 // Writes the links that the statements of thread t give to the chain of a kind over a tree.
-pub fn given_chain(
+pub fn given_chain<K: NamesKind>(
     members: &[u8],
     slots: &[u32],
     out: &mut [u8],
-    kind: Kind,
+    kind: K,
     t: u8,
     n: u32,
     base: u64,
@@ -157,9 +157,13 @@ pub fn given_chain(
     ensures { ((S : Set) (cs lists : List ℕ) (tree : Term) (start : List ℕ) (m : ℕ) → t < S.threads → n + chain_room ≤ last_index
         → Ready S cs members.now lists slots.now m
         → WritesTree (place_of slots.now) tree start m out.old n base
-        → WritesTree (place_of slots.now) (chain_of (given_by S (number_of kind) t) (S.count t) tree) start m out.new result.next result.at)
+        → WritesTree (place_of slots.now) (chain_of (given_by S (K.number kind) t) (S.count t) tree) start m out.new result.next result.at)
         × (result.next ≤ n + chain_room) }
 {
+    let Ok(kind) = kind.kind() else {
+        // Of a number past the last kind no statement gives a link.
+        return Root { next: n, at: base };
+    };
     match giver_of(kind) {
         Some(giver) => giver_links(members, slots, out, giver, t, n, base),
         None => Root { next: n, at: base },

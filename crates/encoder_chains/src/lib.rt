@@ -11,10 +11,12 @@ ghost use Rattle.table.specs.Repeats.{last_index};
 pub mod chains;
 pub mod edges;
 mod given;
+mod links;
 mod parts;
 mod written;
 
 pub use given::given_chain;
+pub use links::{NamesLink, NumberedLink};
 use table::{Formula, Operation, Sort};
 pub use written::{Root, put_link};
 

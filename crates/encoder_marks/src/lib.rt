@@ -13,7 +13,7 @@ ghost use Rattle.encoder_marks.specs.Marked.{marked, Fits};
 ghost use Rattle.table.specs.Repeats.{last_index};
 
 use encoder_bases::WrittenTree;
-use encoder_slots::{BLOCK, Kind, SIZE, THREADS};
+use encoder_slots::{BLOCK, Kind, NamesKind, SIZE, THREADS};
 use records::Layout;
 use set_index::lists::LENGTH;
 use table::Formula;
@@ -214,20 +214,23 @@ fn line(
 }
 
 // Writes the marks of each thread, of one of the kinds HELD, RAISED and MARK.
-pub fn marks(
+pub fn marks<K: NamesKind>(
     table: &[u8],
     slots: &mut [u32],
     out: &mut [u8],
     threads: u8,
     count: u16,
     step: u8,
-    kind: Kind,
+    kind: K,
     n: u32,
 ) -> u32
-    ensures { ((S : Set) (cs members : List ℕ) → S.threads ≡ threads → length cs ≡ count → marked (number_of kind) ≡ true → Ready S cs members table.now slots.old n → n + block_room ≤ last_index
-        → Writes (block_of S cs step (kind_at (number_of kind))) out.old slots.old n out.new slots.new result)
+    ensures { ((S : Set) (cs members : List ℕ) → S.threads ≡ threads → length cs ≡ count → marked (K.number kind) ≡ true → Ready S cs members table.now slots.old n → n + block_room ≤ last_index
+        → Writes (block_of S cs step (kind_at (K.number kind))) out.old slots.old n out.new slots.new result)
         × (result ≤ n + block_room) }
 {
+    let Ok(kind) = kind.kind() else {
+        return n;
+    };
     if !fits(table, slots, threads, count, n) {
         return n;
     }

@@ -1,14 +1,14 @@
 -- Laws of the rows in which places are kept: how long they are, where they begin, and that no two values share a number. Assumes nothing.
 use Prim.Native.Nat.{ℕ, zero, suc, ◌+◌, ◌-◌, ◌*◌, ◌≤◌, ◌<◌}
 use mathlib.Core.Path.{◌≡◌, refl, ap, sym, subst}
-use mathlib.Core.Bool.{Bool, true, false, cond}
+use mathlib.Core.Bool.{Bool, true, false, cond, ◌&&◌, ◌||◌}
 use native.Mathlib.Omega.{arith}
 use native.Mathlib.Decide.{ℕ_discrete, dec_lt}
-use lib.Dec.{eqb, leb}
-use borrow.Author.Tests.{eqb-true}
+use lib.Dec.{eqb, leb, ltb}
+use borrow.Author.Tests.{eqb-true, le-ltb}
 use Rattle.base.specs.Below.{every, number}
 use Rattle.base.proofs.Below.{every-at, number-below}
-use Rattle.base.proofs.Choice.{cond_both}
+use Rattle.base.proofs.Choice.{cond_both, and_left, and_right}
 use Rattle.encoder_slots.specs.Places.{wide, width, begin, index_of, size}
 use Rattle.encoding.specs.Slots.{kind_count}
 
@@ -72,6 +72,29 @@ counted-tabled = refl
 
 pub number-counted : (kind : ℕ) → kind < 256 → number kind wide ≡ counted kind
 number-counted kind h = eqb-true (number kind wide) (counted kind) (every-at (λ k. eqb (number k wide) (counted k)) 256 kind counted-tabled h)
+
+-- past the last kind: rows of 9, nine kinds before them of a value for each statement
+past-tabled : every 256 (λ k. ltb k kind_count || (eqb (width k) 9 && eqb (number k wide) 9)) ≡ true
+unfolding every number
+past-tabled = refl
+
+module _ (kind : ℕ) (past : kind_count ≤ kind) (small : kind < 256) where
+  past-both : (eqb (width kind) 9 && eqb (number kind wide) 9) ≡ true
+  past-both =
+      subst (λ (b : Bool). (b || (eqb (width kind) 9 && eqb (number kind wide) 9)) ≡ true) (le-ltb kind kind_count past)
+      (every-at (λ k. ltb k kind_count || (eqb (width k) 9 && eqb (number k wide) 9)) 256 kind past-tabled small)
+
+  pub width-past : width kind ≡ 9
+  width-past = eqb-true (width kind) 9 (and_left _ _ past-both)
+
+  pub begin-past : begin kind ≡ 36 * kind + 828
+  begin-past =
+      let nine = eqb-true (number kind wide) 9 (and_right (eqb (width kind) 9) _ past-both) in
+      let counted = begin-counted kind in
+      omega arith
+
+  pub index-past : (a b : ℕ) → 36 * kind + 828 + (9 * a + b) ≡ index_of kind a b
+  index-past a b = λ z. sym begin-past z + (sym width-past z * a + b)
 
 -- ---- a value's number as the code counts it
 

@@ -3,3 +3,4 @@ pub mod Places
 pub mod Pieces
 pub mod Idle
 pub mod Kinds
+pub mod Numbered

@@ -1,7 +1,7 @@
 // The places of a table's values in an array, and the kinds by number.
 #![tactic(auto)]
 
-ghost use Rattle.std.specs.Prelude.{◌≡◌, ◌<◌, length, true};
+ghost use Rattle.std.specs.Prelude.{◌≡◌, ◌<◌, ◌≤◌, length, true};
 ghost use Rattle.base.specs.Below.{number};
 ghost use Rattle.table.specs.Programs.{put};
 ghost use Rattle.encoding.specs.Slots.{slot, same, kind_at, kind_count};
@@ -12,7 +12,7 @@ ghost use Rattle.records.specs.Sets.{most_threads};
 mod kinds;
 pub mod start;
 
-pub use kinds::Kind;
+pub use kinds::{Kind, NamesKind, NoKind};
 use records::Layout;
 
 // The most records of one value: a tree of four and a link for each statement of a thread.
@@ -110,10 +110,27 @@ fn index_of(kind: Kind, a: u8, b: u16) -> usize
     begin(kind) + (usize::from(width(kind)) * usize::from(a) + usize::from(b))
 }
 
-// The number kept for a kind's value for a and b.
-fn kept(slots: &[u32], kind: Kind, a: u8, b: u16) -> u32
-    ensures { result ≡ kept_at slots.now (number_of kind) a b }
+// The number kept where the rows of a number would stand that names no kind: they would follow those of the last kind.
+fn kept_past(slots: &[u32], number: u8, a: u8, b: u16) -> u32
+    requires { kind_count ≤ number }
+    ensures { result ≡ kept_at slots.now number a b }
 {
+    if THREADS <= a || NARROW <= b {
+        return 0;
+    }
+    let rows = NARROW_ROWS * usize::from(number) + WIDE_MORE * WIDE_KINDS;
+    let i = rows + (usize::from(NARROW) * usize::from(a) + usize::from(b));
+    slots.get(i).copied().unwrap_or(0)
+}
+
+// The number kept for a kind's value for a and b.
+fn kept<K: NamesKind>(slots: &[u32], kind: K, a: u8, b: u16) -> u32
+    ensures { result ≡ kept_at slots.now (K.number kind) a b }
+{
+    let kind = match kind.kind() {
+        Ok(kind) => kind,
+        Err(none) => return kept_past(slots, none.0, a, b),
+    };
     if !fits(kind, a, b) {
         return 0;
     }
@@ -126,8 +143,8 @@ fn kept(slots: &[u32], kind: Kind, a: u8, b: u16) -> u32
 }
 
 // The record of a kind's value for a and b, which lies at `start` unless it was set.
-pub fn place(slots: &[u32], kind: Kind, a: u8, b: u16, start: u64) -> u64
-    ensures { result ≡ place_from slots.now (number_of kind) a b start }
+pub fn place<K: NamesKind>(slots: &[u32], kind: K, a: u8, b: u16, start: u64) -> u64
+    ensures { result ≡ place_from slots.now (K.number kind) a b start }
 {
     let number = kept(slots, kind, a, b);
     if number == 0 {
@@ -136,12 +153,15 @@ pub fn place(slots: &[u32], kind: Kind, a: u8, b: u16, start: u64) -> u64
     u64::from(number) - 1
 }
 
-// Sets the record of a kind's value for a and b, if there is a place for it.
-pub fn set_place(slots: &mut [u32], kind: Kind, a: u8, b: u16, index: u64)
+// Sets the record of a kind's value for a and b, if there is a place for it; a number that names no kind has none.
+pub fn set_place<K: NamesKind>(slots: &mut [u32], kind: K, a: u8, b: u16, index: u64)
     ensures { (length slots.new ≡ length slots.old)
-        × (length slots.old ≡ size → number_of kind < kind_count → a < most_threads → b < width (number_of kind) → index < 4294967295
-        → place_of slots.new ≡ put same (place_of slots.old) (slot (kind_at (number_of kind)) a b) index) }
+        × (length slots.old ≡ size → K.number kind < kind_count → a < most_threads → b < width (K.number kind) → index < 4294967295
+        → place_of slots.new ≡ put same (place_of slots.old) (slot (kind_at (K.number kind)) a b) index) }
 {
+    let Ok(kind) = kind.kind() else {
+        return;
+    };
     if fits(kind, a, b) & (slots.len() == SIZE) {
         slots[index_of(kind, a, b)] = ((index % 4294967296 + 1) % 4294967296) as u32;
     }

@@ -16,7 +16,7 @@ ghost use Rattle.encoder_statements.specs.StatementValues.{Line, Listed};
 ghost use Rattle.table.specs.Repeats.{last_index};
 
 use encoder_bases::WrittenTree;
-use encoder_slots::{Kind, LINE, SIZE, THREADS, start};
+use encoder_slots::{Kind, LINE, NamesKind, SIZE, THREADS, start};
 use records::Layout;
 use set_index::members::Class;
 use table::Formula;
@@ -224,21 +224,24 @@ fn arguments(
 
 // Writes the values of a kind for the statements of thread t, their records from index n on; gives the next index.
 // The limits are tested here once, so that the compiler need not test bounds in the loops.
-pub fn statement_line(
+pub fn statement_line<K: NamesKind>(
     set: &[u8],
     layout: Layout,
     members: &[u8],
     slots: &mut [u32],
     out: &mut [u8],
-    kind: Kind,
+    kind: K,
     t: u8,
     n: u32,
 ) -> u32
-    ensures { ((cs lists : List ℕ) (k : ℕ) → of_statement (number_of kind) ≡ true → t < most_threads → n + line_room ≤ last_index
+    ensures { ((cs lists : List ℕ) (k : ℕ) → of_statement (K.number kind) ≡ true → t < most_threads → n + line_room ≤ last_index
         → Ready (set_by set.now layout) cs members.now lists slots.old n
-        → Writes (line_of (set_by set.now layout) cs k (kind_at (number_of kind)) t) out.old slots.old n out.new slots.new result)
+        → Writes (line_of (set_by set.now layout) cs k (kind_at (K.number kind)) t) out.old slots.old n out.new slots.new result)
         × (result ≤ n + line_room) }
 {
+    let Ok(kind) = kind.kind() else {
+        return n;
+    };
     if THREADS <= t {
         return n;
     }

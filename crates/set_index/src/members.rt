@@ -55,6 +55,32 @@ impl Class {
     }
 }
 
+// What names a class: the class itself, or its number. A number past the last one names none, and its rows lie past the table.
+pub trait NamesClass {
+    ghost number: { Self → ℕ };
+
+    // Where the row of the class and a thread begins.
+    fn begin(self, t: u8) -> usize
+        ensures row { result ≡ row_index (number self) t }
+        ensures small { result < 65536 };
+}
+
+impl NamesClass for Class {
+    ghost number = { class_number };
+
+    fn begin(self, t: u8) -> usize {
+        self.row(t)
+    }
+}
+
+impl NamesClass for u8 {
+    ghost number = { λ n. n };
+
+    fn begin(self, t: u8) -> usize {
+        CLASS * usize::from(self) + ROW * usize::from(t)
+    }
+}
+
 // The length of a row, which is of a class and a thread: how many members, then the members.
 const ROW: usize = 1 + (Layout::STATEMENTS as usize);
 
@@ -70,19 +96,19 @@ const STATEMENTS: u8 = Layout::STATEMENTS as u8;
 const THREADS: u8 = Layout::THREADS as u8;
 
 // How many statements of thread t are of a class.
-pub fn count_of(members: &[u8], class: Class, t: u8) -> u16
-    ensures { ((S : Set) → Members S members.now → class_number class < class_count → t < most_threads → result ≡ length (members_of S (class_number class) t)) × (result ≤ most_statements) }
+pub fn count_of<C: NamesClass>(members: &[u8], class: C, t: u8) -> u16
+    ensures { ((S : Set) → Members S members.now → C.number class < class_count → t < most_threads → result ≡ length (members_of S (C.number class) t)) × (result ≤ most_statements) }
 {
-    let many = base::byte_at(members, class.row(t));
+    let many = base::byte_at(members, class.begin(t));
     u16::from(many).min(Layout::STATEMENTS)
 }
 
 // Which statement is the one of number j among them.
-pub fn member(members: &[u8], class: Class, t: u8, j: u16) -> u16
-    ensures { (S : Set) → Members S members.now → class_number class < class_count → t < most_threads → j < length (members_of S (class_number class) t)
-        → result ≡ get_or (members_of S (class_number class) t) j 0 }
+pub fn member<C: NamesClass>(members: &[u8], class: C, t: u8, j: u16) -> u16
+    ensures { (S : Set) → Members S members.now → C.number class < class_count → t < most_threads → j < length (members_of S (C.number class) t)
+        → result ≡ get_or (members_of S (C.number class) t) j 0 }
 {
-    let row = class.row(t);
+    let row = class.begin(t);
     u16::from(base::byte_at(members, row + 1 + usize::from(j)))
 }
 
