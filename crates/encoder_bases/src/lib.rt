@@ -29,6 +29,7 @@ pub use written::{Load, WrittenTree, load_of};
 use written::{put_binary, put_constant, put_none, put_previous};
 
 // Writes the base of the tree of a kind that is not of statements for a and b, its records from index n on; that of a flag is `put_flag`.
+// A number past the last kind has the base of CHOICE. The kinds that the last arm names have functions of their own, and come here in no call.
 pub fn put_base<K: NamesKind>(
     slots: &[u32],
     out: &mut [u8],
@@ -42,7 +43,6 @@ pub fn put_base<K: NamesKind>(
     ensures { ((S : Set) (cs : List ℕ) → S.threads ≡ threads → of_statement (K.number kind) ≡ false → (K.number kind ≡ kind_number flag → ⊥) → n ≤ last_index
         → Puts result (place_of slots.now) n (base_of S cs step (kind_at (K.number kind)) a b) out.old out.new) × (result.count ≤ tree_room) }
 {
-    // A number past the last kind counts as Choice does.
     let Ok(kind) = kind.kind() else {
         return put_choice(out, threads, step, b, n);
     };
@@ -91,7 +91,6 @@ pub fn put_base<K: NamesKind>(
         Kind::BitOne => put_none(slots, Kind::BitOne, 0, 0, BIT1),
         Kind::WordZero => put_none(slots, Kind::WordZero, 0, 0, WORD0),
         Kind::WordOne => put_constant(out, n, 1),
-        // These have functions of their own, and come here in no call.
         Kind::Active
         | Kind::Address
         | Kind::Loaded
