@@ -1,5 +1,5 @@
 // The twenty instructions by number, with their words and classes.
-ghost use Rattle.std.specs.Prelude.{◌≡◌, MatchOption};
+ghost use Rattle.std.specs.Prelude.{◌≡◌, MatchOption, All, true, false};
 ghost use Rattle.base.specs.Below.{least};
 ghost use Rattle.base.specs.Bytes.{same};
 ghost use Rattle.records.specs.Instructions.{word_of, is_memory, is_jump, is_bare, is_last};
@@ -95,17 +95,43 @@ impl Instruction {
         }
     }
 
-    // The instruction whose word is w.
+    // The instruction whose word is w. Its first letter leaves one to six words to compare it with.
     pub fn named(w: &[u8]) -> Option<Instruction>
         ensures { let n = least 20 (λ n. same w.now (word_of n)) in MatchOption result (n ≡ 20) (λ i. n ≡ number i) }
     {
-        for instruction in Instruction::ALL {
-            if w == instruction.word() {
-                return Some(instruction);
-            }
+        match base::byte_at(w, 0) {
+            b'A' => one_of(w, &[Instruction::Add, Instruction::Addi]),
+            b'C' => one_of(w, &[Instruction::Cas, Instruction::Check]),
+            b'E' => one_of(w, &[Instruction::Exit]),
+            b'F' => one_of(w, &[Instruction::Fence]),
+            b'H' => one_of(w, &[Instruction::Halt]),
+            b'J' => one_of(
+                w,
+                &[
+                    Instruction::Jmp,
+                    Instruction::Jz,
+                    Instruction::Jnz,
+                    Instruction::Js,
+                    Instruction::Jns,
+                    Instruction::Jnzns,
+                ],
+            ),
+            b'L' => one_of(w, &[Instruction::Load]),
+            b'M' => one_of(w, &[Instruction::Mul, Instruction::Muli, Instruction::Mem]),
+            b'S' => one_of(
+                w,
+                &[Instruction::Store, Instruction::Sub, Instruction::Subi],
+            ),
+            _ => None,
         }
-        None
     }
+}
+
+// The first of some instructions whose word is w.
+fn one_of(w: &[u8], some: &[Instruction]) -> Option<Instruction>
+    ensures { MatchOption result (All (λ i. same w.now (word_of (number i)) ≡ false) some.now) (λ i. same w.now (word_of (number i)) ≡ true) }
+{
+    some.iter().copied().find(|i| w == i.word())
 }
 
 impl TryFrom<u8> for Instruction {

@@ -1,3 +1,4 @@
 -- The laws that this crate's proofs cite.
 pub mod Blocks
 mod Parts
+mod Labels

@@ -1,15 +1,18 @@
 -- Laws of runs of bytes. Assumes nothing.
-use Rattle.std.proofs.Common.{◌≡◌, ℕ, suc, ◌+◌, Bool, true, false, cond, not, ◌&&◌, eqb, List, [], ◌∷◌, length, Option, None, Some, refl, sym, ap, arith}
+use Rattle.std.proofs.Common.{◌≡◌, ◌≤◌, ℕ, zero, suc, ◌+◌, Bool, true, false, cond, ◌&&◌, eqb, List, [], ◌∷◌, length, take, drop, refl, arith}
 use Rattle.std.proofs.lemmas.Bool.Decides.{nat_tests}
 use Rattle.std.specs.List.{fold, prefix_len}
-use Rattle.std.specs.Option.{unwrap_or}
-use Rattle.std.proofs.lemmas.List.Sums.{prefix_len_is}
-use Rattle.memchr.specs.Find.{IsFirstByte, is_byte}
 
--- a search for a byte ends a run of others
-pub run_to : (b : ℕ) (s : List ℕ) (r : Option ℕ) → IsFirstByte (is_byte b) s r → unwrap_or r (length s) ≡ prefix_len (λ x. not (eqb x b)) s
-run_to b s None h = sym (prefix_len_is (λ x. not (eqb x b)) s (length s) 0 (omega arith) (λ k l. grind (arith, nat_tests, h k (omega arith) l)) (λ l. absurd (omega arith)))
-run_to b s (Some n) h = sym (prefix_len_is (λ x. not (eqb x b)) s n 0 (omega (arith, h.0.high)) (λ k l. grind (arith, nat_tests, h.0.before k (omega arith) l)) (λ l. ap not h.1))
+-- a run over the first n bytes goes on behind them
+pub run_past : (test : ℕ → Bool) (n : ℕ) (s : List ℕ) → n ≤ length s → prefix_len test (take n s) ≡ n → prefix_len test s ≡ n + prefix_len test (drop n s)
+run_past test zero s h e = omega arith
+run_past test (suc n) [] h e = absurd (omega arith)
+run_past test (suc n) (x ∷ s) h e = go (test x) (run_past test n s (omega arith)) e
+  where
+    go : (t : Bool) → (prefix_len test (take n s) ≡ n → prefix_len test s ≡ n + prefix_len test (drop n s)) →
+        cond t (1 + prefix_len test (take n s)) 0 ≡ suc n → cond t (1 + prefix_len test s) 0 ≡ suc n + prefix_len test (drop n s)
+    go true ih p = let q = ih (omega (arith, p)) in omega (arith, q)
+    go false ih p = absurd (omega (arith, p))
 
 -- all pass exactly where the run is the whole
 passed_all : (test : ℕ → Bool) (s : List ℕ) → fold (λ all b. all && test b) false s ≡ false

@@ -4,7 +4,6 @@ ghost use Rattle.records.specs.declared.refusals.Refusal.TheVariants.{Malformed}
 ghost use Rattle.text_lines.specs.Characters.{allowed_byte, is_blank, is_name_byte, blanks, name_bytes, digits, past_digits, name, past_name, skip as skip_of, only_blanks, ends_with, value as value_of, run};
 ghost use Rattle.text_lines.specs.Lines.{is_allowed, uncommented as uncommented_of};
 
-use memchr::memchr;
 use records::Refusal;
 
 pub fn is_blank(b: u8) -> bool
@@ -49,12 +48,34 @@ fn digits(s: &[u8]) -> usize
     s.iter().take_while(|b| b.is_ascii_digit()).count()
 }
 
-// How many bytes of s stand before the first b; all where it has none.
+// How many bytes other than b s starts with, one by one.
+fn others(b: u8, s: &[u8]) -> usize
+    ensures number { result ≡ run (λ x. not (eqb x b)) s.now }
+    ensures within { result ≤ length s.now }
+{
+    s.iter().take_while(|x| **x != b).count()
+}
+
+// Whether none of eight bytes is b. All are tested, which is one comparison of the machine.
+fn are_others(b: u8, eight: &[u8; 8]) -> bool
+    ensures { result ≡ eqb (run (λ x. not (eqb x b)) eight.now) (length eight.now) }
+{
+    eight.iter().fold(true, |all, x| all & (*x != b))
+}
+
+// How many bytes of s stand before the first b; all where it has none. It goes by eights as far as none of them is b.
 pub fn before(b: u8, s: &[u8]) -> usize
     ensures number { result ≡ run (λ x. not (eqb x b)) s.now }
     ensures within { result ≤ length s.now }
 {
-    memchr(b, s).unwrap_or(s.len())
+    let mut rest = s;
+    while let Some((eight, after)) = rest.split_first_chunk::<8>() {
+        if !are_others(b, eight) {
+            break;
+        }
+        rest = after;
+    }
+    s.len() - rest.len() + others(b, rest)
 }
 
 // s past the blanks at its start.

@@ -10,7 +10,7 @@ use testing::sources::{listed, repository, text};
 type Uses = BTreeMap<String, BTreeSet<String>>;
 
 /// Libraries of the Rattle kit that a crate may name. `std` is always there and in no line of crates.txt.
-const KIT: [&str; 3] = ["bytes", "check", "memchr"];
+const KIT: [&str; 2] = ["bytes", "check"];
 
 /// How a file of specs/ says what it is for; those of `claims` hold statements alone, which are proved.
 const PURPOSES: [&str; 4] = [
